@@ -1,0 +1,45 @@
+-- A branch in the code and in a definition: the laws of `pick`, and the tests of numbers as rewritings, for `search`.
+use Prim.Native.Nat.{ℕ, _<_, _≤_}
+use mathlib.Core.Path.{_≡_, sym, _∙_}
+use mathlib.Core.Bool.{Bool, true, false}
+use lib.Dec.{eqb, ltb, leb}
+use borrow.Author.Tests.{eq-eqb, ne-eqb, lt-ltb, le-ltb, le-leb, lt-leb}
+use Rattle.laws.specs.Choice.{pick}
+
+module _ {A : Type 0} (x y r : A) where
+  on-true : (b : Bool) → b ≡ true → r ≡ x → r ≡ pick b x y
+  unfolding pick
+  on-true b t p = rw t p
+
+  on-false : (b : Bool) → b ≡ false → r ≡ y → r ≡ pick b x y
+  unfolding pick
+  on-false b t p = rw t p
+
+  pub pick-true : (b q : Bool) → q ≡ b → q ≡ true → r ≡ x → r ≡ pick b x y
+  pick-true b q e t = on-true b (sym e ∙ t)
+
+  pub pick-false : (b q : Bool) → q ≡ b → q ≡ false → r ≡ y → r ≡ pick b x y
+  pick-false b q e t = on-false b (sym e ∙ t)
+
+  module _ (m n : ℕ) where
+    pub pick-eq : m ≡ n → r ≡ x → r ≡ pick (eqb m n) x y
+    pick-eq h = on-true (eqb m n) (eq-eqb m n h)
+
+    pub pick-ne : (m ≡ n → ⊥) → r ≡ y → r ≡ pick (eqb m n) x y
+    pick-ne h = on-false (eqb m n) (ne-eqb m n h)
+
+    pub pick-lt : m < n → r ≡ x → r ≡ pick (ltb m n) x y
+    pick-lt h = on-true (ltb m n) (lt-ltb m n h)
+
+    pub pick-ge : n ≤ m → r ≡ y → r ≡ pick (ltb m n) x y
+    pick-ge h = on-false (ltb m n) (le-ltb m n h)
+
+    pub pick-le : m ≤ n → r ≡ x → r ≡ pick (leb m n) x y
+    pick-le h = on-true (leb m n) (le-leb m n h)
+
+    pub pick-gt : n < m → r ≡ y → r ≡ pick (leb m n) x y
+    pick-gt h = on-false (leb m n) (lt-leb m n h)
+
+pub ruleset picks = (pick-true, pick-false, pick-eq, pick-ne, pick-lt, pick-ge)
+
+pub ruleset tests = (eq-eqb, ne-eqb, lt-ltb, le-ltb, le-leb, lt-leb)

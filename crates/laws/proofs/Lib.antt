@@ -1,0 +1,7 @@
+-- Tests and what they say; choices, folds and writes in the shape of a function's needs; masks; ascending lists.
+pub mod Tests
+pub mod Choices
+pub mod Folds
+pub mod Writes
+pub mod Bits
+pub mod Ascending

@@ -1,0 +1,5 @@
+-- General definitions: choices by a test, folds, masks, ascending lists.
+pub mod Choice
+pub mod Fold
+pub mod Mask
+pub mod Ascending

@@ -1,0 +1,1 @@
+// Laws that every crate cites: folds, choices, writes, masks, ascending lists. No code, and no definition of the product.

@@ -1,0 +1,109 @@
+-- Blocks as read and remainders of threads. A remainder is a block as read in which holds have begun, so that `end`s stand at its top level alone.
+-- What is computed of a procedure through its calls does not depend on the depth, once that is above the rank (`depth-solves`).
+use Prim.Native.Nat.{ℕ, zero, suc, _+_, _-_, _<_, _≤_}
+use mathlib.Core.List.{List, [], _∷_}
+use mathlib.Core.Path.{_≡_, refl, ap, sym, _∙_}
+use native.Mathlib.Omega.{arith}
+use native.Mathlib.Decide.{decLt}
+use lib.ListN.{length, getD, set, length-set}
+use lib.Seq.{set-set, set-getD, set-out, getD-set-same}
+use Rattle.semantics.specs.Plan.{Block, done, skip, call, hold, loop, either, end, _⨾_, bodyIn, Written, Sound}
+use Rattle.semantics.specs.Run.{up, down}
+
+pub ⨾-done : (b : Block) → b ⨾ done ≡ b
+unfolding _⨾_
+⨾-done done = refl
+⨾-done (skip r) = ap skip (⨾-done r)
+⨾-done (call p r) = ap (call p) (⨾-done r)
+⨾-done (hold l b r) = ap (hold l b) (⨾-done r)
+⨾-done (loop b r) = ap (loop b) (⨾-done r)
+⨾-done (either a b r) = ap (either a b) (⨾-done r)
+⨾-done (end l r) = ap (end l) (⨾-done r)
+
+pub absent : (ps : List Block) (p : ℕ) → length ps ≤ p → bodyIn ps p ≡ done
+unfolding bodyIn
+absent [] p h = refl
+absent (b ∷ ps) zero h = absurd (omega arith)
+absent (b ∷ ps) (suc p) h = absent ps p (omega arith)
+
+-- to end what was begun leaves the counts as they were
+pub down-up : (l : ℕ) (cs : List ℕ) → down l (up l cs) ≡ cs
+unfolding up down
+down-up l cs = go (decLt l (length cs))
+  where
+    go : Dec (l < length cs) → set (set cs l (getD cs l 0 + 1)) l (getD (set cs l (getD cs l 0 + 1)) l 0 - 1) ≡ cs
+    go (yes h) =
+        let e : getD cs l 0 + 1 - 1 ≡ getD cs l 0 = omega arith in
+        rw (set-set, getD-set-same, e, set-getD)
+    go (no h) = let o : length cs ≤ l = omega arith in rw (set-out cs, set-out cs)
+
+pub length-up : (l : ℕ) (cs : List ℕ) → length (up l cs) ≡ length cs
+unfolding up
+length-up l cs = simp length-set
+
+pub length-down : (l : ℕ) (cs : List ℕ) → length (down l cs) ≡ length cs
+unfolding down
+length-down l cs = simp length-set
+
+-- calls that meet C and so meet D
+pub written-to : (C D : ℕ → Type 0) → ((p : ℕ) → C p → D p) → (b : Block) → Written C b → Written D b
+unfolding Written
+written-to C D h done w = tt
+written-to C D h (skip r) w = written-to C D h r w
+written-to C D h (call p r) w = (h p (w .0), written-to C D h r (w .1))
+written-to C D h (hold l b r) w = (w .0, written-to C D h b (w .1), written-to C D h r (w .2))
+written-to C D h (loop b r) w = (written-to C D h b (w .0), written-to C D h r (w .1))
+written-to C D h (either a b r) w = (written-to C D h a (w .0), written-to C D h b (w .1), written-to C D h r (w .2))
+written-to C D h (end l r) w = absurd w
+
+pub body-below : (ps : List Block) (rank : ℕ → ℕ) → Sound ps rank → (d p : ℕ) → rank p ≤ d → Written (λ q. rank q < d) (bodyIn ps p)
+body-below ps rank s d p h = written-to (λ q. rank q < rank p) (λ q. rank q < d) (λ q k. omega arith) (bodyIn ps p) (s .body p)
+
+-- a remainder: as Written, and the holds that have begun end in it, outside of any other statement
+unfoldable pub Remainder : (ℕ → Type 0) → Block → Type 0
+Remainder C done = Unit {0}
+Remainder C (skip r) = Remainder C r
+Remainder C (call p r) = C p × Remainder C r
+Remainder C (hold l b r) = (l < 32) × Written C b × Remainder C r
+Remainder C (loop b r) = Written C b × Remainder C r
+Remainder C (either a b r) = Written C a × Written C b × Remainder C r
+Remainder C (end l r) = (l < 32) × Remainder C r
+
+module _ (C : ℕ → Type 0) where
+  pub remainder-⨾ : (a b : Block) → Written C a → Remainder C b → Remainder C (a ⨾ b)
+  unfolding Written Remainder _⨾_
+  remainder-⨾ done b w v = v
+  remainder-⨾ (skip r) b w v = remainder-⨾ r b w v
+  remainder-⨾ (call p r) b w v = (w .0, remainder-⨾ r b (w .1) v)
+  remainder-⨾ (hold l x r) b w v = (w .0, w .1, remainder-⨾ r b (w .2) v)
+  remainder-⨾ (loop x r) b w v = (w .0, remainder-⨾ r b (w .1) v)
+  remainder-⨾ (either x y r) b w v = (w .0, w .1, remainder-⨾ r b (w .2) v)
+  remainder-⨾ (end l r) b w v = absurd w
+
+  pub remainder-of-written : (b : Block) → Written C b → Remainder C b
+  unfolding Remainder
+  remainder-of-written b w = rw (⨾-done b) at (remainder-⨾ b done w tt)
+
+-- with no demand on the calls
+abbrev pub Any : ℕ → Type 0
+Any p = Unit {0}
+
+abbrev pub Plain : Block → Type 0
+Plain b = Written Any b
+
+pub plain-body : {ps : List Block} {rank : ℕ → ℕ} → Sound ps rank → (p : ℕ) → Plain (bodyIn ps p)
+plain-body {ps} {rank} s p = written-to (λ q. rank q < rank p) Any (λ q k. tt) (bodyIn ps p) (s .body p)
+
+-- What is computed of a block by F, with calls at most d deep, does not depend on a depth d above the rank: a is a solution of F's equations there.
+module _ {A : Type 0} (ps : List Block) (rank : ℕ → ℕ) (s : Sound ps rank) (F : (ℕ → A) → Block → A)
+    (agree : (C : ℕ → Type 0) (f g : ℕ → A) → ((p : ℕ) → C p → f p ≡ g p) → (b : Block) → Written C b → F f b ≡ F g b)
+    (a : ℕ → ℕ → A) (deeper : (d p : ℕ) → a (suc d) p ≡ F (a d) (bodyIn ps p)) where
+  pub depth-free : (d e p : ℕ) → rank p < d → rank p < e → a d p ≡ a e p
+  depth-free zero e p h k = absurd (omega arith)
+  depth-free (suc d) zero p h k = absurd (omega arith)
+  depth-free (suc d) (suc e) p h k = deeper d p
+      ∙ agree (λ q. rank q < rank p) (a d) (a e) (λ q l. depth-free d e q (omega arith) (omega arith)) (bodyIn ps p) (s .body p)
+      ∙ sym (deeper e p)
+
+  pub depth-solves : (d p : ℕ) → rank p < d → a d p ≡ F (a d) (bodyIn ps p)
+  depth-solves d p h = depth-free d (suc d) p h (omega arith) ∙ deeper d p

@@ -1,0 +1,89 @@
+-- A procedure has fewer pairs than half its size: each hold gives at most one word, has size 2, and has a statement inside.
+use Prim.Native.Nat.{ℕ, zero, suc, _+_, _*_, _<_, _≤_}
+use mathlib.Core.List.{List, [], _∷_}
+use mathlib.Core.Bool.{Bool, true, false, cond}
+use mathlib.Core.Logic.{⊎-elim}
+use native.Mathlib.Omega.{arith}
+use lib.ListN.{length, length-append}
+use Rattle.semantics.specs.Plan.{Block, done, skip, call, hold, loop, either, end, bodyIn, WellFormed, Sound}
+use Rattle.semantics.specs.Run.{up, down, unlocked}
+use Rattle.semantics.specs.Pairs.{wordOf, held, fresh, pairsWith, pairsAt, pairs}
+use Rattle.semantics.specs.Sizes.{sizeWith, sizeAt}
+use Rattle.laws.proofs.Tests.{lt-or-le}
+use Rattle.semantics.proofs.Blocks.{absent}
+use Rattle.laws.specs.Ascending.{ascending}
+use Rattle.laws.proofs.Ascending.{ascending-length}
+
+-- the number of holds, those of called procedures at each call; h p is that of procedure p
+unfoldable pub holdsWith : (ℕ → ℕ) → Block → ℕ
+holdsWith h done = 0
+holdsWith h (skip r) = holdsWith h r
+holdsWith h (call p r) = h p + holdsWith h r
+holdsWith h (hold l b r) = 1 + holdsWith h b + holdsWith h r
+holdsWith h (loop b r) = holdsWith h b + holdsWith h r
+holdsWith h (either a b r) = holdsWith h a + holdsWith h b + holdsWith h r
+holdsWith h (end l r) = holdsWith h r
+
+unfoldable pub holdsAt : ℕ → List Block → ℕ → ℕ
+holdsAt zero ps p = 0
+holdsAt (suc d) ps p = holdsWith (holdsAt d ps) (bodyIn ps p)
+
+one : (x : ℕ) (t : Bool) → length (cond t (x ∷ []) []) ≤ 1
+one x true = omega arith
+one x false = omega arith
+
+-- at most one word for each hold
+pub pairs-few : (f : ℕ → List ℕ → List ℕ) (h : ℕ → ℕ) → ((p : ℕ) (cs : List ℕ) → length (f p cs) ≤ h p) → (cs : List ℕ) (b : Block)
+    → length (pairsWith f cs b) ≤ holdsWith h b
+unfolding pairsWith holdsWith
+pairs-few f h e cs done = omega arith
+pairs-few f h e cs (skip r) = pairs-few f h e cs r
+pairs-few f h e cs (call p r) = simp length-append (omega (arith, e p cs, pairs-few f h e cs r))
+pairs-few f h e cs (hold l b r) =
+    simp length-append (omega (arith, one (wordOf (held cs) l) (fresh cs l), pairs-few f h e (up l cs) b, pairs-few f h e cs r))
+pairs-few f h e cs (loop b r) = simp length-append (omega (arith, pairs-few f h e cs b, pairs-few f h e cs r))
+pairs-few f h e cs (either a b r) = simp length-append (omega (arith, pairs-few f h e cs a, pairs-few f h e cs b, pairs-few f h e cs r))
+pairs-few f h e cs (end l r) = pairs-few f h e (down l cs) r
+
+pub pairs-few-at : (d : ℕ) (ps : List Block) (p : ℕ) (cs : List ℕ) → length (pairsAt d ps p cs) ≤ holdsAt d ps p
+unfolding pairsAt holdsAt
+pairs-few-at zero ps p cs = omega arith
+pairs-few-at (suc d) ps p cs = pairs-few (pairsAt d ps) (holdsAt d ps) (pairs-few-at d ps) cs (bodyIn ps p)
+
+-- 1 for a block that is not empty
+abbrev least : Bool → ℕ
+least empty = cond empty 0 1
+
+least-le : (e : Bool) → least e ≤ 1
+least-le true = omega arith
+least-le false = omega arith
+
+-- twice the holds, and one more unless the block may be empty
+pub holds-size : (h s : ℕ → ℕ) → ((p : ℕ) → 2 * h p ≤ s p) → (e : Bool) (b : Block) → WellFormed e b → 2 * holdsWith h b + least e ≤ sizeWith s b
+unfolding holdsWith sizeWith WellFormed
+holds-size h s k true done w = omega arith
+holds-size h s k false done w = absurd w
+holds-size h s k e (skip r) w = omega (arith, least-le e, holds-size h s k true r w)
+holds-size h s k e (call p r) w = omega (arith, least-le e, k p, holds-size h s k true r w)
+holds-size h s k e (hold l b r) w = omega (arith, least-le e, holds-size h s k false b (w .0), holds-size h s k true r (w .1))
+holds-size h s k e (loop b r) w = omega (arith, least-le e, holds-size h s k false b (w .0), holds-size h s k true r (w .1))
+holds-size h s k e (either a b r) w = omega (arith, least-le e, holds-size h s k false a (w .0), holds-size h s k false b (w .1), holds-size h s k true r (w .2))
+holds-size h s k e (end l r) f = absurd f
+
+module _ (ps : List Block) (rank : ℕ → ℕ) (s : Sound ps rank) where
+  holds-size-at : (d p : ℕ) → 2 * holdsAt d ps p ≤ sizeAt d ps p
+  unfolding holdsAt sizeAt holdsWith sizeWith
+  holds-size-at zero p = omega arith
+  holds-size-at (suc d) p =
+      ⊎-elim (λ (b : p < length ps). omega (arith, holds-size (holdsAt d ps) (sizeAt d ps) (holds-size-at d) false (bodyIn ps p) (s .filled p b)))
+      (λ (b : length ps ≤ p). rw (absent ps p b) (omega arith))
+      (lt-or-le p (length ps))
+
+  pub few : (d p : ℕ) → p < length ps → 0 < d → 2 * length (pairs d ps p) < sizeAt d ps p
+  unfolding holdsAt sizeAt
+  few zero p b z = absurd (omega arith)
+  few (suc d) p b z = omega (arith, pairs-few-at (suc d) ps p unlocked, holds-size (holdsAt d ps) (sizeAt d ps) (holds-size-at d) false (bodyIn ps p) (s .filled p b))
+
+  -- so a procedure of size 1,024 at most has at most 511 different words
+  pub few-distinct : (d p : ℕ) → p < length ps → 0 < d → sizeAt d ps p ≤ 1024 → length (ascending (pairs d ps p)) ≤ 511
+  few-distinct d p b z le = omega (arith, few d p b z, ascending-length (pairs d ps p))

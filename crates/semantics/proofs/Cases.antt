@@ -1,0 +1,340 @@
+-- The starred plans A to I of document 01 as trees, with the answers expected. One test over the table is computed, and what it implies holds of the runs and
+-- of the critical pairs themselves.
+use Prim.Native.Nat.{ℕ, zero, suc, _+_, _≤_, _<_}
+use mathlib.Core.List.{List, [], _∷_, map, List·Memᴰ, List·Memᴰ·not-nil, List·Memᴰ·cases-cons}
+use mathlib.Core.Bool.{Bool, true, false, not, _&&_}
+use mathlib.Core.Logic.{⊎-elim, _↔_}
+use mathlib.Core.Option.{Option, none, some}
+use mathlib.Core.Path.{_≡_, refl, sym, ap₂, _∙_, subst, fun-ext}
+use native.Mathlib.Nat.{add-zero, zero-add, eq-or-lt-of-le}
+use native.Mathlib.Omega.{arith}
+use lib.ListN.{length, getD}
+use lib.Dec.{T, leb, ltb, eqb, leb→le, ltb→lt, eqb→eq, T-not}
+use Rattle.semantics.specs.Plan.{Block, done, skip, call, hold, loop, either, end, _⨾_, bodyIn, Written, WellFormed, Sound}
+use Rattle.semantics.specs.Run.{ThreadState, up, down, move, compatible, withAll, apart, threadAt, stepIn, step, run, start}
+use Rattle.semantics.specs.Stuck.{Largest, DeadlockFree}
+use Rattle.semantics.specs.Pairs.{heldFrom, Critical, pairsWith, pairsAt, pairs}
+use Rattle.laws.proofs.Tests.{same-test, T-and, lt-or-le}
+use Rattle.semantics.proofs.Blocks.{plain-body}
+use Rattle.semantics.proofs.Moments.{run-moment, run-length, start-length, start-moment}
+use Rattle.laws.specs.Ascending.{Ascends, insert, ascending}
+use Rattle.laws.proofs.Ascending.{ascends, ascending-mem, mem-ascending}
+use Rattle.semantics.proofs.Complete.{complete}
+use Rattle.semantics.proofs.Reach.{sound}
+use Rattle.semantics.proofs.Largest.{atHold, round, rounds, rounds-largest, rounds-in}
+use Rattle.laws.specs.Mask.{bit}
+use Rattle.semantics.proofs.Search.{any, any-is, unblocked, searchFrom}
+use Rattle.semantics.proofs.Crossing.{conflicting}
+use Rattle.semantics.proofs.Verdict.{verdict}
+
+-- ---- the table
+
+-- free, or a schedule and the threads that are stuck at its end
+pub data Answer : Type 0 where
+  free : Answer
+  deadlock : List ℕ → List ℕ → Answer
+
+-- `words` lists the pair words of the first procedures, of as many as it has lists
+pub record Case : Type 0 where
+  pub procs : List Block
+  pub threads : List ℕ
+  pub words : List (List ℕ)
+  pub answer : Answer
+
+abbrev pub one-skip : Block
+one-skip = skip done
+
+-- l[b], and l[k] with a skip inside
+abbrev pub only : ℕ → Block → Block
+only l b = hold l b done
+
+abbrev pub nest : ℕ → ℕ → Block
+nest l k = only l (only k one-skip)
+
+-- 0[1] and 1[0]
+abbrev pub caseA : Case
+caseA = record { procs = nest 0 1 ∷ nest 1 0 ∷ []; threads = 0 ∷ 1 ∷ []; words = []; answer = deadlock (0 ∷ 1 ∷ []) (0 ∷ 1 ∷ []) }
+
+-- 2[0[1]] and 2[1[0]]
+abbrev pub caseB : Case
+caseB = record { procs = only 2 (nest 0 1) ∷ only 2 (nest 1 0) ∷ []; threads = 0 ∷ 1 ∷ []; words = (2 ∷ 128 ∷ 161 ∷ []) ∷ (2 ∷ 129 ∷ 192 ∷ []) ∷ []; answer = free }
+
+-- 0[0], by two threads
+abbrev pub caseC : Case
+caseC = record { procs = nest 0 0 ∷ []; threads = 0 ∷ 0 ∷ []; words = (0 ∷ []) ∷ []; answer = free }
+
+-- 1[0], 2[1] and 0[2]
+abbrev pub caseD : Case
+caseD = record { procs = nest 1 0 ∷ nest 2 1 ∷ nest 0 2 ∷ []; threads = 0 ∷ 1 ∷ 2 ∷ []; words = []; answer = deadlock (0 ∷ 1 ∷ 2 ∷ []) (0 ∷ 1 ∷ 2 ∷ []) }
+
+-- the first two of D
+abbrev pub caseE : Case
+caseE = record { procs = nest 1 0 ∷ nest 2 1 ∷ []; threads = 0 ∷ 1 ∷ []; words = []; answer = free }
+
+-- 0[1] then 1[0], by one thread
+abbrev pub caseF : Case
+caseF = record { procs = hold 0 (only 1 one-skip) (nest 1 0) ∷ []; threads = 0 ∷ []; words = []; answer = free }
+
+-- 0[1 2] and 1[0 2[0]]
+abbrev pub caseG : Case
+caseG = record { procs = only 0 (hold 1 one-skip (only 2 one-skip)) ∷ only 1 (hold 0 one-skip (nest 2 0)) ∷ []; threads = 0 ∷ 1 ∷ []; words = []; answer = deadlock (0 ∷ 1 ∷ []) (0 ∷ 1 ∷ []) }
+
+-- an either of 0[1] or skip, and 1[0]
+abbrev pub caseH : Case
+caseH = record { procs = either (nest 0 1) one-skip done ∷ nest 1 0 ∷ []; threads = 0 ∷ 1 ∷ []; words = []; answer = deadlock (8 ∷ 0 ∷ 1 ∷ []) (0 ∷ 1 ∷ []) }
+
+-- a loop over hold 0, by two threads
+abbrev pub caseI : Case
+caseI = record { procs = loop (only 0 one-skip) done ∷ []; threads = 0 ∷ 0 ∷ []; words = []; answer = free }
+
+abbrev pub table : List Case
+table = caseA ∷ caseB ∷ caseC ∷ caseD ∷ caseE ∷ caseF ∷ caseG ∷ caseH ∷ caseI ∷ []
+
+-- ---- the test
+
+-- Written and WellFormed, for procedures that call lower ones
+unfoldable pub written : ℕ → Block → Bool
+written p done = true
+written p (skip r) = written p r
+written p (call q r) = ltb q p && written p r
+written p (hold l b r) = ltb l 32 && (written p b && written p r)
+written p (loop b r) = written p b && written p r
+written p (either a b r) = written p a && (written p b && written p r)
+written p (end l r) = false
+
+unfoldable pub filled : Bool → Block → Bool
+filled empty done = empty
+filled empty (skip r) = filled true r
+filled empty (call p r) = filled true r
+filled empty (hold l b r) = filled false b && filled true r
+filled empty (loop b r) = filled false b && filled true r
+filled empty (either a b r) = filled false a && (filled false b && filled true r)
+filled empty (end l r) = false
+
+unfoldable pub soundFrom : ℕ → List Block → Bool
+soundFrom p [] = true
+soundFrom p (b ∷ bs) = (written p b && filled false b) && soundFrom (suc p) bs
+
+unfoldable pub all : (ℕ → Bool) → List ℕ → Bool
+all f [] = true
+all f (n ∷ ns) = f n && all f ns
+
+unfoldable pub sameList : List ℕ → List ℕ → Bool
+sameList [] [] = true
+sameList [] (y ∷ ys) = false
+sameList (x ∷ xs) [] = false
+sameList (x ∷ xs) (y ∷ ys) = eqb x y && sameList xs ys
+
+unfoldable pub wordsFrom : ℕ → List Block → ℕ → List (List ℕ) → Bool
+wordsFrom d ps p [] = true
+wordsFrom d ps p (ws ∷ wss) = ltb p d && (sameList (ascending (pairs d ps p)) ws && wordsFrom d ps (suc p) wss)
+
+-- the threads of a list, as a set
+abbrev pub among : List ℕ → ℕ → Bool
+among ts t = any (eqb t) ts
+
+abbrev pub agree : Bool → Bool → Bool
+agree true b = b
+agree false b = not b
+
+unfoldable pub sameBelow : ℕ → (ℕ → Bool) → (ℕ → Bool) → Bool
+sameBelow zero S R = true
+sameBelow (suc n) S R = agree (S n) (R n) && sameBelow n S R
+
+-- the stuck threads after a run
+unfoldable pub stuckAre : ℕ → List Block → List ℕ → Option (List ThreadState) → Bool
+stuckAre n ps us none = false
+stuckAre n ps us (some ts) = sameBelow n (rounds n ps ts) (among us) && any (rounds n ps ts) us
+
+unfoldable pub answers : ℕ → List Block → List ℕ → Answer → Bool
+answers d ps ns free = not (conflicting (map (pairs d ps) ns))
+answers d ps ns (deadlock es us) =
+    conflicting (map (pairs d ps) ns) && (all (λ t. ltb t (length ns)) us && stuckAre (length ns) ps us (run ps (start ps ns) es))
+
+unfoldable pub passes : Case → Bool
+passes c =
+    let d = length (c .procs) in
+    soundFrom 0 (c .procs) && (all (λ n. ltb n d) (c .threads) && (leb (length (c .threads)) 8
+    && (wordsFrom d (c .procs) 0 (c .words) && answers d (c .procs) (c .threads) (c .answer))))
+
+unfoldable pub allPass : List Case → Bool
+allPass [] = true
+allPass (c ∷ cs) = passes c && allPass cs
+
+table-passes : T (allPass table)
+unfolding allPass passes answers stuckAre sameBelow wordsFrom sameList all soundFrom written filled any unblocked bit searchFrom rounds round atHold ascending insert pairsWith pairsAt heldFrom run start step stepIn threadAt apart withAll compatible move down up bodyIn _⨾_
+table-passes = tt
+
+-- ---- what it implies
+
+written-of : (p : ℕ) (b : Block) → T (written p b) → Written (λ q. q < p) b
+unfolding written Written
+written-of p done t = tt
+written-of p (skip r) t = written-of p r t
+written-of p (call q r) t = let (x, y) = T-and (ltb q p) (written p r) t in (ltb→lt q p x, written-of p r y)
+written-of p (hold l b r) t =
+    let (x, y) = T-and (ltb l 32) (written p b && written p r) t in
+    let (y₁, y₂) = T-and (written p b) (written p r) y in
+    (ltb→lt l 32 x, written-of p b y₁, written-of p r y₂)
+written-of p (loop b r) t = let (x, y) = T-and (written p b) (written p r) t in (written-of p b x, written-of p r y)
+written-of p (either a b r) t =
+    let (x, y) = T-and (written p a) (written p b && written p r) t in
+    let (y₁, y₂) = T-and (written p b) (written p r) y in
+    (written-of p a x, written-of p b y₁, written-of p r y₂)
+written-of p (end l r) t = t
+
+filled-of : (e : Bool) (b : Block) → T (filled e b) → WellFormed e b
+unfolding filled WellFormed
+filled-of e done t = t
+filled-of e (skip r) t = filled-of true r t
+filled-of e (call p r) t = filled-of true r t
+filled-of e (hold l b r) t = let (x, y) = T-and (filled false b) (filled true r) t in (filled-of false b x, filled-of true r y)
+filled-of e (loop b r) t = let (x, y) = T-and (filled false b) (filled true r) t in (filled-of false b x, filled-of true r y)
+filled-of e (either a b r) t =
+    let (x, y) = T-and (filled false a) (filled false b && filled true r) t in
+    let (y₁, y₂) = T-and (filled false b) (filled true r) y in
+    (filled-of false a x, filled-of false b y₁, filled-of true r y₂)
+filled-of e (end l r) t = t
+
+sound-from : (k : ℕ) (bs : List Block) → T (soundFrom k bs) → (p : ℕ) → Written (λ q. q < k + p) (bodyIn bs p) × (p < length bs → WellFormed false (bodyIn bs p))
+unfolding soundFrom bodyIn Written
+sound-from k [] t p = (tt, λ h. absurd (omega arith))
+sound-from k (b ∷ bs) t zero =
+    let (x, _) = T-and (written k b && filled false b) (soundFrom (suc k) bs) t in
+    let (x₁, x₂) = T-and (written k b) (filled false b) x in
+    (rw add-zero (written-of k b x₁), λ _. filled-of false b x₂)
+sound-from k (b ∷ bs) t (suc p) =
+    let (_, y) = T-and (written k b && filled false b) (soundFrom (suc k) bs) t in
+    let (r, f) = sound-from (suc k) bs y p in
+    let e : suc k + p ≡ k + suc p = omega arith in
+    (subst (λ n. Written (λ q. q < n) (bodyIn bs p)) e r, λ h. f (omega arith))
+
+plan-sound : (ps : List Block) → T (soundFrom 0 ps) → Sound ps (λ p. p)
+plan-sound ps t = record { body = λ p. rw zero-add at ((sound-from 0 ps t p) .0); filled = λ p. (sound-from 0 ps t p) .1 }
+
+all-at : (f : ℕ → Bool) (ns : List ℕ) → T (all f ns) → (t : ℕ) → t < length ns → T (f (getD ns t 0))
+unfolding all
+all-at f [] h t b = absurd (omega arith)
+all-at f (n ∷ ns) h zero b = (T-and (f n) (all f ns) h) .0
+all-at f (n ∷ ns) h (suc t) b = all-at f ns ((T-and (f n) (all f ns) h) .1) t (omega arith)
+
+all-mem : (f : ℕ → Bool) (ns : List ℕ) → T (all f ns) → (n : ℕ) → List·Memᴰ n ns → T (f n)
+unfolding all
+all-mem f [] h n m = absurd (List·Memᴰ·not-nil m)
+all-mem f (x ∷ ns) h n m =
+    let (a, b) = T-and (f x) (all f ns) h in
+    ⊎-elim (λ (e : n ≡ x). subst (λ y. T (f y)) (sym e) a) (λ k. all-mem f ns b n k) (List·Memᴰ·cases-cons m)
+
+same-list : (xs ys : List ℕ) → T (sameList xs ys) → xs ≡ ys
+unfolding sameList
+same-list [] [] t = refl
+same-list (x ∷ xs) (y ∷ ys) t = let (a, b) = T-and (eqb x y) (sameList xs ys) t in ap₂ {C = List ℕ} (λ h r. h ∷ r) (eqb→eq x y a) (same-list xs ys b)
+
+words-from : (d : ℕ) (ps : List Block) (k : ℕ) (wss : List (List ℕ)) → T (wordsFrom d ps k wss) → (p : ℕ) → p < length wss
+    → (k + p < d) × (ascending (pairs d ps (k + p)) ≡ getD wss p [])
+unfolding wordsFrom
+words-from d ps k [] t p b = absurd (omega arith)
+words-from d ps k (ws ∷ wss) t zero b =
+    let (x, y) = T-and (ltb k d) (sameList (ascending (pairs d ps k)) ws && wordsFrom d ps (suc k) wss) t in
+    let (y₁, _) = T-and (sameList (ascending (pairs d ps k)) ws) (wordsFrom d ps (suc k) wss) y in
+    (omega (arith, ltb→lt k d x), rw add-zero (same-list (ascending (pairs d ps k)) ws y₁))
+words-from d ps k (ws ∷ wss) t (suc p) b =
+    let (_, y) = T-and (ltb k d) (sameList (ascending (pairs d ps k)) ws && wordsFrom d ps (suc k) wss) t in
+    let (_, y₂) = T-and (sameList (ascending (pairs d ps k)) ws) (wordsFrom d ps (suc k) wss) y in
+    let e : suc k + p ≡ k + suc p = omega arith in
+    let (l, is) = words-from d ps (suc k) wss y₂ p (omega arith) in
+    (omega arith, subst (λ n. ascending (pairs d ps n) ≡ getD wss p []) e is)
+
+agree-is : (a b : Bool) → T (agree a b) → a ≡ b
+agree-is true true t = refl
+agree-is false false t = refl
+
+same-below : (n : ℕ) (S R : ℕ → Bool) → T (sameBelow n S R) → (t : ℕ) → t < n → S t ≡ R t
+unfolding sameBelow
+same-below zero S R h t b = absurd (omega arith)
+same-below (suc n) S R h t b =
+    let (x, y) = T-and (agree (S n) (R n)) (sameBelow n S R) h in
+    ⊎-elim (λ (e : t ≡ n). rw e (agree-is (S n) (R n) x)) (λ (l : t < n). same-below n S R y t l) (eq-or-lt-of-le (omega arith))
+
+-- what an answer says
+abbrev pub Holds : List Block → List ℕ → Answer → Type 0
+Holds ps ns free = DeadlockFree ps ns
+Holds ps ns (deadlock es us) = (ts : List ThreadState) × (run ps (start ps ns) es ≡ some ts) × Largest ps ts (among us)
+
+pub record Facts (c : Case) : Type 0 where
+  pub words : (p : ℕ) → p < length (c .words) → Ascends (getD (c .words) p []) × ((w : ℕ) → List·Memᴰ w (getD (c .words) p []) ↔ Critical (c .procs) p w)
+  pub answer : Holds (c .procs) (c .threads) (c .answer)
+
+module _ (ps : List Block) (ns : List ℕ) (plan : Sound ps (λ p. p)) where
+  -- the stuck threads of a run that leads to ts are those of the list
+  stuck-are : (es us : List ℕ) → T (all (λ t. ltb t (length ns)) us) → T (stuckAre (length ns) ps us (run ps (start ps ns) es))
+      → (ts : List ThreadState) × (run ps (start ps ns) es ≡ some ts) × Largest ps ts (among us)
+  unfolding stuckAre
+  stuck-are es us small = go (run ps (start ps ns) es) refl
+    where
+      go : (o : Option (List ThreadState)) → run ps (start ps ns) es ≡ o → T (stuckAre (length ns) ps us o) → (ts : List ThreadState) × (run ps (start ps ns) es ≡ some ts) × Largest ps ts (among us)
+      go (some ts) e h =
+          let n = length ns in
+          let (same, one) = T-and (sameBelow n (rounds n ps ts) (among us)) (any (rounds n ps ts) us) h in
+          let m = run-moment ps (plain-body plan) (start ps ns) ts es e (start-moment ps (plain-body plan) ns) in
+          let len : length ts ≡ n = run-length ps (start ps ns) ts es e ∙ start-length ps ns in
+          let is : rounds n ps ts ≡ among us = fun-ext (λ t. ⊎-elim
+          (λ (b : t < n). same-below n (rounds n ps ts) (among us) same t b)
+          (λ (b : n ≤ t). same-test (rounds n ps ts t) (among us t)
+          (λ r. absurd (omega (arith, rounds-in ps (plain-body plan) ts m n t r)))
+          (λ a. let (v, i, q) = any-is (eqb t) us a in absurd (omega (arith, eqb→eq t v q, ltb→lt v n (all-mem (λ t. ltb t n) us small v i)))))
+          (lt-or-le t n)) in
+          let (u, _, r) = any-is (rounds n ps ts) us one in
+          (ts, e, subst (Largest ps ts) is (rounds-largest ps (plain-body plan) ts m n (omega arith) u r))
+
+  module _ (d : ℕ) (few : length ns ≤ 8) (deep : (t : ℕ) → t < length ns → getD ns t 0 < d) where
+    answer-holds : (a : Answer) → T (answers d ps ns a) → Holds ps ns a
+    unfolding answers
+    answer-holds free h = verdict ps (λ p. p) plan ns few d deep .free .0 (T-not (conflicting (map (pairs d ps) ns)) h)
+    answer-holds (deadlock es us) h =
+        let test = stuckAre (length ns) ps us (run ps (start ps ns) es) in
+        let (_, y) = T-and (conflicting (map (pairs d ps) ns)) (all (λ t. ltb t (length ns)) us && test) h in
+        let (small, ends) = T-and (all (λ t. ltb t (length ns)) us) test y in
+        stuck-are es us small ends
+
+-- a case that passes
+pub passes-facts : (c : Case) → T (passes c) → Facts c
+unfolding passes
+passes-facts c h =
+    let ps = c .procs in
+    let ns = c .threads in
+    let d = length ps in
+    let t₄ = answers d ps ns (c .answer) in
+    let t₃ = wordsFrom d ps 0 (c .words) && t₄ in
+    let t₂ = leb (length ns) 8 && t₃ in
+    let t₁ = all (λ n. ltb n d) ns && t₂ in
+    let (h₀, k₁) = T-and (soundFrom 0 ps) t₁ h in
+    let (h₁, k₂) = T-and (all (λ n. ltb n d) ns) t₂ k₁ in
+    let (h₂, k₃) = T-and (leb (length ns) 8) t₃ k₂ in
+    let (h₃, h₄) = T-and (wordsFrom d ps 0 (c .words)) t₄ k₃ in
+    let plan = plan-sound ps h₀ in
+    record {
+      words = λ p b.
+          let (l, is) = words-from d ps 0 (c .words) h₃ p b in
+          let e : ascending (pairs d ps p) ≡ getD (c .words) p [] = rw zero-add at is in
+          let k : p < d = omega arith in
+          rw (← e) (
+            ascends (pairs d ps p),
+            λ w. (
+              λ m. (sound ps (λ p. p) plan d p w k (mem-ascending (pairs d ps p) w m)) .0,
+              λ q. ascending-mem (pairs d ps p) w (complete ps (λ p. p) plan d p w k q),
+            ),
+          );
+      answer = answer-holds ps ns plan d (leb→le (length ns) 8 h₂) (λ t b. ltb→lt (getD ns t 0) d (all-at (λ n. ltb n d) ns h₁ t b)) (c .answer) h₄;
+    }
+
+pub cases-facts : (cs : List Case) → T (allPass cs) → (c : Case) → List·Memᴰ c cs → Facts c
+unfolding allPass
+cases-facts [] h c m = absurd (List·Memᴰ·not-nil m)
+cases-facts (x ∷ cs) h c m =
+    let (a, b) = T-and (passes x) (allPass cs) h in
+    ⊎-elim (λ (e : c ≡ x). subst Facts (sym e) (passes-facts x a)) (λ n. cases-facts cs b c n) (List·Memᴰ·cases-cons m)
+
+-- so every case of the table is as expected
+pub table-facts : (c : Case) → List·Memᴰ c table → Facts c
+table-facts = cases-facts table table-passes

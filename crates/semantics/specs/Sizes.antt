@@ -1,0 +1,34 @@
+-- Sizes. 01, "The plan text": "The size of a statement is 1 for skip, 1 plus the callee's size for call, 2 plus the block for hold and loop, 1 plus both blocks for
+-- either. A block's size is the sum of its statements, a procedure's that of its block."
+use Prim.Native.Nat.{ℕ, _+_}
+use mathlib.Core.List.{List, [], _∷_}
+use lib.ListN.{length}
+use Rattle.semantics.specs.Plan.{Block, done, skip, call, hold, loop, either, end, bodyIn, LockPlan}
+
+-- the size of a block, where s p is that of procedure p. `end`, in a remainder, is the second half of a hold
+unfoldable pub sizeWith : (ℕ → ℕ) → Block → ℕ
+sizeWith s done = 0
+sizeWith s (skip r) = 1 + sizeWith s r
+sizeWith s (call p r) = 1 + s p + sizeWith s r
+sizeWith s (hold l b r) = 2 + sizeWith s b + sizeWith s r
+sizeWith s (loop b r) = 2 + sizeWith s b + sizeWith s r
+sizeWith s (either a b r) = 1 + sizeWith s a + sizeWith s b + sizeWith s r
+sizeWith s (end l r) = 1 + sizeWith s r
+
+-- the size of procedure p, where calls go less than d deep
+unfoldable pub sizeAt : ℕ → List Block → ℕ → ℕ
+sizeAt ℕ.zero ps p = 0
+sizeAt (ℕ.suc d) ps p = sizeWith (sizeAt d ps) (bodyIn ps p)
+
+-- the size of procedure p: calls that never come back to a procedure go less deep than there are procedures
+unfoldable pub sizeOf : List Block → ℕ → ℕ
+sizeOf ps p = sizeAt (length ps) ps p
+
+-- the sum of the sizes of the procedures ns
+unfoldable pub sizes : ℕ → List Block → List ℕ → ℕ
+sizes d ps [] = 0
+sizes d ps (n ∷ ns) = sizeAt d ps n + sizes d ps ns
+
+-- "the sum of its threads' sizes", over all threads of the plan
+unfoldable pub threadSizes : LockPlan → ℕ
+threadSizes plan = sizes (length (plan .procs)) (plan .procs) (plan .threads)

@@ -1,0 +1,1 @@
+// The semantics of lock plans: definitions and theorems alone, no code.
