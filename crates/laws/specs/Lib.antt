@@ -1,5 +1,6 @@
--- General definitions: choices by a test, folds, masks, ascending lists.
+-- General definitions: choices by a test, folds, bytes, masks, ascending lists.
 pub mod Choice
 pub mod Fold
+pub mod Bytes
 pub mod Mask
 pub mod Ascending

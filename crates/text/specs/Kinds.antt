@@ -1,0 +1,95 @@
+-- The kind of a line as a decision over its first letters and its digits. That it finds exactly the lines that are written forms is the theorem `kind-written`.
+-- 01, "The plan text": "A line's kind follows from its bytes alone; its place is judged afterwards."
+use Prim.Native.Nat.{ℕ, _+_, _-_, _*_}
+use mathlib.Core.List.{List, [], _∷_}
+use lib.Dec.{eqb, ltb}
+use lib.ListN.{length, getD, take, drop}
+use Rattle.laws.specs.Choice.{if, pick}
+use Rattle.laws.specs.Bytes.{bytes, equal}
+use Rattle.text.specs.declared.Form.{Form}
+use Rattle.text.specs.declared.Form.the-variants.{Plan, Proc, Thread, Close, Skip, Call, Hold, Loop, Either, One, Two}
+use Rattle.text.specs.declared.Kind.{Kind}
+use Rattle.text.specs.declared.Kind.the-variants.{Known, Unknown}
+use Rattle.text.specs.declared.Number.{Number}
+use Rattle.text.specs.declared.Number.the-variants.{Is, Not}
+
+-- a digit, and one that may lead a number of several
+unfoldable pub digitOf : ℕ → Number
+digitOf b = if (ltb b 48) Not (if (ltb 57 b) Not (Is (b - 48)))
+
+unfoldable pub leadingOf : ℕ → Number
+leadingOf b = if (ltb b 49) Not (if (ltb 57 b) Not (Is (b - 48)))
+
+-- a number of at most two digits with one digit more behind it
+unfoldable pub appendDigit : Number → Number → Number
+appendDigit Not b = Not
+appendDigit (Is x) Not = Not
+appendDigit (Is x) (Is y) = if (ltb 99 x) Not (if (ltb 9 y) Not (Is (x * 10 + y)))
+
+-- "one to three digits without a leading zero, or `0`"
+unfoldable pub numberOf : List ℕ → Number
+numberOf l =
+    pick (eqb (length l) 1) (digitOf (getD l 0 0))
+    (pick (eqb (length l) 2) (appendDigit (leadingOf (getD l 0 0)) (digitOf (getD l 1 0)))
+    (pick (eqb (length l) 3) (appendDigit (appendDigit (leadingOf (getD l 0 0)) (digitOf (getD l 1 0))) (digitOf (getD l 2 0)))
+    Not))
+
+-- the number after a word
+unfoldable pub afterWord : List ℕ → List ℕ → Number
+afterWord l word =
+    pick (ltb (length l) (length word)) Not
+    (pick (equal (take (length word - 0) l) word) (numberOf (take (length l - length word) (drop (length word) l))) Not)
+
+-- the number between a word and a closing bracket
+unfoldable pub betweenWord : List ℕ → List ℕ → Number
+betweenWord l word =
+    pick (ltb (length l) 1) Not
+    (pick (eqb (getD l (length l - 1) 0) 41) (afterWord (take (length l - 1 - 0) l) word) Not)
+
+-- a form that is a word alone
+unfoldable pub wordKind : List ℕ → List ℕ → Form → Kind
+wordKind l word f = pick (equal l word) (Known f) Unknown
+
+-- a form with a number
+unfoldable pub numbered : (ℕ → Form) → Number → Kind
+numbered f (Is n) = Known (f n)
+numbered f Not = Unknown
+
+unfoldable pub holdKind : List ℕ → Kind
+holdKind l = numbered Hold (afterWord l (bytes "(hold "))
+
+unfoldable pub callKind : List ℕ → Kind
+callKind l = numbered Call (betweenWord l (bytes "(call "))
+
+unfoldable pub threadKind : List ℕ → Kind
+threadKind l = numbered Thread (betweenWord l (bytes "(thread "))
+
+-- by the third letter, l or r
+unfoldable pub planKind : List ℕ → Kind
+planKind l =
+    pick (ltb (length l) 3) Unknown
+    (pick (eqb (getD l 2 0) 108) (wordKind l (bytes "(plan") Plan)
+    (pick (eqb (getD l 2 0) 114) (wordKind l (bytes "(proc") Proc)
+    Unknown))
+
+-- by the third letter, w or h
+unfoldable pub twoKind : List ℕ → Kind
+twoKind l =
+    pick (ltb (length l) 3) Unknown
+    (pick (eqb (getD l 2 0) 119) (wordKind l (bytes "(two") Two)
+    (pick (eqb (getD l 2 0) 104) (threadKind l)
+    Unknown))
+
+-- by the second letter: s, c, h, l, e, o, t, p
+unfoldable pub kindOf : List ℕ → Kind
+kindOf l =
+    pick (ltb (length l) 2) (wordKind l (bytes ")") Close)
+    (pick (eqb (getD l 1 0) 115) (wordKind l (bytes "(skip)") Skip)
+    (pick (eqb (getD l 1 0) 99) (callKind l)
+    (pick (eqb (getD l 1 0) 104) (holdKind l)
+    (pick (eqb (getD l 1 0) 108) (wordKind l (bytes "(loop") Loop)
+    (pick (eqb (getD l 1 0) 101) (wordKind l (bytes "(either") Either)
+    (pick (eqb (getD l 1 0) 111) (wordKind l (bytes "(one") One)
+    (pick (eqb (getD l 1 0) 116) (twoKind l)
+    (pick (eqb (getD l 1 0) 112) (planKind l)
+    Unknown))))))))

@@ -1,0 +1,79 @@
+-- The lines of a text and what reading one gives. 01, "The plan text" and rule 3.
+use Prim.Native.Nat.{ℕ, suc, _+_}
+use mathlib.Core.List.{List, [], _∷_}
+use mathlib.Core.Option.{Option, none, some}
+use lib.Dec.{eqb, ltb}
+use lib.ListN.{length, take, drop}
+use Rattle.laws.specs.Choice.{if}
+use Rattle.text.specs.declared.Form.{Form}
+use Rattle.text.specs.declared.Kind.{Kind}
+use Rattle.text.specs.declared.Kind.the-variants.{Known, Unknown}
+use Rattle.text.specs.declared.Line.{Line}
+use Rattle.text.specs.declared.Line.the-variants.{Read, Refused}
+use Rattle.text.specs.Kinds.{kindOf}
+
+-- "each line ended by byte 10": how many bytes stand before the first byte 10, or all
+unfoldable pub lineLength : List ℕ → ℕ
+lineLength [] = 0
+lineLength (b ∷ bs) = if (eqb b 10) 0 (suc (lineLength bs))
+
+-- "Reading a line gives either a form with its number or the refusal, never both." The cases of the answer, with 01's numbers: the form and the place of the next
+-- line; rule 3, "some line is none of the forms", and the line's number
+unfoldable pub lineAnswer : Kind → ℕ → ℕ → Line
+lineAnswer (Known f) next line = Read f next
+lineAnswer Unknown next line = Refused 3 line
+
+-- the line that starts at the place `at`; a line that is not ended is refused
+unfoldable pub lineAt : List ℕ → ℕ → ℕ → Line
+lineAt text at line =
+    let n = lineLength (drop at text) in
+    if (ltb (at + n) (length text)) (lineAnswer (kindOf (take n (drop at text))) (at + n + 1) line) (Refused 3 line)
+
+-- A text cut at each byte 10: its ended lines, and what stands after the last of them.
+pub record Split : Type 0 where
+  pub ended : List (List ℕ)
+  pub tail : List ℕ
+
+-- one byte in front of a split text
+abbrev pub pushByte : ℕ → List (List ℕ) → List ℕ → Split
+pushByte b [] t = record { ended = []; tail = b ∷ t }
+pushByte b (l ∷ ls) t = record { ended = (b ∷ l) ∷ ls; tail = t }
+
+unfoldable pub split : List ℕ → Split
+split [] = record { ended = []; tail = [] }
+split (b ∷ bs) =
+    if (eqb b 10) (record { ended = [] ∷ split bs .ended; tail = split bs .tail })
+    (pushByte b (split bs .ended) (split bs .tail))
+
+-- the form of a line that is one, in front of others
+abbrev pub consForm : Kind → List Form → List Form
+consForm (Known f) fs = f ∷ fs
+consForm Unknown fs = fs
+
+-- the forms of lines, those that are none left out
+unfoldable pub formsIn : List (List ℕ) → List Form
+formsIn [] = []
+formsIn (l ∷ ls) = consForm (kindOf l) (formsIn ls)
+
+-- the forms of a text
+unfoldable pub formsOf : List ℕ → List Form
+formsOf text = formsIn (split text .ended)
+
+-- "the last is not ended": a line of at least one byte without its byte 10
+abbrev pub unended : ℕ → List ℕ → Option ℕ
+unended line [] = none
+unended line (b ∷ bs) = some line
+
+-- the line where this one is no form, else what the lines after it say
+abbrev pub unknownOr : ℕ → Kind → Option ℕ → Option ℕ
+unknownOr line (Known f) later = later
+unknownOr line Unknown later = some line
+
+-- rule 3, "Some line is none of the forms above, or the last is not ended (first such line)", for lines from a number on
+unfoldable pub unreadable : ℕ → List (List ℕ) → List ℕ → Option ℕ
+unreadable line [] tail = unended line tail
+unreadable line (l ∷ ls) tail = unknownOr line (kindOf l) (unreadable (suc line) ls tail)
+
+-- rule 3 of a whole text, "lines from 1"
+unfoldable pub unreadableLine : List ℕ → Option ℕ
+unreadableLine text = unreadable 1 (split text .ended) (split text .tail)
