@@ -1,0 +1,6 @@
+-- The grammar of plans; where a form may stand; the limits; the rules in checking order; a form as a word of a table.
+pub mod Grammar
+pub mod Structure
+pub mod Limits
+pub mod Rules
+pub mod Table

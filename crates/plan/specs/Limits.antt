@@ -1,0 +1,99 @@
+-- Rules 5 to 8: tests of each form in turn, with the counts of what has been read. 01, "Rules, in checking order".
+use Prim.Native.Nat.{ℕ, suc, _+_, _-_, _≤_}
+use mathlib.Core.Bool.{Bool, true, false}
+use mathlib.Core.List.{List, [], _∷_}
+use mathlib.Core.Option.{Option, none, some}
+use lib.Dec.{eqb, ltb, leb}
+use Rattle.laws.specs.Choice.{pick}
+use Rattle.text.specs.declared.Form.{Form}
+use Rattle.text.specs.declared.Form.the-variants.{Plan, Proc, Thread, Close, Skip, Call, Hold, Loop, Either, One, Two}
+use Rattle.plan.specs.declared.Counts.{Counts}
+
+-- the counts of procedures, statements and threads, and of "brackets of hold, loop, either, one and two open together in a procedure"
+abbrev pub counts : ℕ → ℕ → ℕ → ℕ → Counts
+counts p s t o = record { procs = p; statements = s; threads = t; open = o }
+
+abbrev pub noCounts : Counts
+noCounts = counts 0 0 0 0
+
+-- one form more. A closing line with no such bracket open closes the procedure or the plan
+unfoldable pub counted : Counts → Form → Counts
+counted c Plan = c
+counted c Proc = counts (c .procs + 1) (c .statements) (c .threads) (c .open)
+counted c (Thread n) = counts (c .procs) (c .statements) (c .threads + 1) (c .open)
+counted c Close = counts (c .procs) (c .statements) (c .threads) (c .open - 1)
+counted c Skip = counts (c .procs) (c .statements + 1) (c .threads) (c .open)
+counted c (Call n) = counts (c .procs) (c .statements + 1) (c .threads) (c .open)
+counted c (Hold l) = counts (c .procs) (c .statements + 1) (c .threads) (c .open + 1)
+counted c Loop = counts (c .procs) (c .statements + 1) (c .threads) (c .open + 1)
+counted c Either = counts (c .procs) (c .statements + 1) (c .threads) (c .open + 1)
+counted c One = counts (c .procs) (c .statements) (c .threads) (c .open + 1)
+counted c Two = counts (c .procs) (c .statements) (c .threads) (c .open + 1)
+
+-- 5: "more than 64 procedures, 1,024 statements, 6 threads, or 16 brackets"
+unfoldable pub overLimit : Counts → Bool
+overLimit c = pick (ltb 64 (c .procs)) true (pick (ltb 1024 (c .statements)) true (pick (ltb 6 (c .threads)) true (ltb 16 (c .open))))
+
+-- 6: "A hold names a lock above 31"
+unfoldable pub lockAbove : Form → Bool
+lockAbove Plan = false
+lockAbove Proc = false
+lockAbove (Thread n) = false
+lockAbove Close = false
+lockAbove Skip = false
+lockAbove (Call n) = false
+lockAbove (Hold l) = ltb 31 l
+lockAbove Loop = false
+lockAbove Either = false
+lockAbove One = false
+lockAbove Two = false
+
+-- 7: "A call names a procedure whose number is not smaller than the caller's own": the caller is the last procedure begun, so its number is one less than their count
+unfoldable pub callAbove : Counts → Form → Bool
+callAbove c Plan = false
+callAbove c Proc = false
+callAbove c (Thread n) = false
+callAbove c Close = false
+callAbove c Skip = false
+callAbove c (Call n) = leb (c .procs) (n + 1)
+callAbove c (Hold l) = false
+callAbove c Loop = false
+callAbove c Either = false
+callAbove c One = false
+callAbove c Two = false
+
+-- 8: "A thread names a procedure that is not there": thread lines stand behind all procedures
+unfoldable pub threadAbove : Counts → Form → Bool
+threadAbove c Plan = false
+threadAbove c Proc = false
+threadAbove c (Thread n) = leb (c .procs) n
+threadAbove c Close = false
+threadAbove c Skip = false
+threadAbove c (Call n) = false
+threadAbove c (Hold l) = false
+threadAbove c Loop = false
+threadAbove c Either = false
+threadAbove c One = false
+threadAbove c Two = false
+
+-- whether a form breaks a rule, where c counts what has been read, the form too
+unfoldable pub breaks : ℕ → Counts → Form → Bool
+breaks rule c f =
+    pick (eqb rule 5) (overLimit c)
+    (pick (eqb rule 6) (lockAbove f)
+    (pick (eqb rule 7) (callAbove c f)
+    (threadAbove c f)))
+
+-- the line, or none
+abbrev pub lineIf : Bool → ℕ → Option ℕ → Option ℕ
+lineIf true line later = some line
+lineIf false line later = later
+
+-- the first line that breaks a rule, of the forms from a line on: "first line past a limit", "first such line"
+unfoldable pub breaking : ℕ → Counts → ℕ → List Form → Option ℕ
+breaking rule c line [] = none
+breaking rule c line (f ∷ fs) = lineIf (breaks rule (counted c f) f) line (breaking rule (counted c f) (suc line) fs)
+
+-- rule 5, 6, 7 or 8 over the whole text
+unfoldable pub breakingLine : ℕ → List Form → Option ℕ
+breakingLine rule fs = breaking rule noCounts 1 fs

@@ -1,0 +1,111 @@
+-- The rules in checking order, as three refusals: the plan's, the verdict's, the pair list's. 01, "Rules, in checking order": "A refusal returns its number and a
+-- line (0 where none is named) .. Each rule is tested over the whole text before the next."
+use Prim.Native.Nat.{ℕ, zero, suc, _-_}
+use mathlib.Core.Bool.{Bool}
+use mathlib.Core.List.{List, [], _∷_}
+use mathlib.Core.Option.{Option, none, some}
+use lib.Dec.{ltb, leb, eqb}
+use lib.ListN.{length}
+use Rattle.laws.specs.Choice.{if, orElse}
+use Rattle.text.specs.declared.Form.{Form}
+use Rattle.text.specs.declared.Form.the-variants.{Plan, Proc, Thread, Close, Skip, Call, Hold, Loop, Either, One, Two}
+use Rattle.text.specs.Lines.{formsOf, unreadableLine}
+use Rattle.semantics.specs.Plan.{LockPlan}
+use Rattle.semantics.specs.Sizes.{sizeOf}
+use Rattle.semantics.specs.Pairs.{pairList}
+use Rattle.plan.specs.Grammar.{planIn}
+use Rattle.plan.specs.Structure.{misplacedLine}
+use Rattle.plan.specs.Limits.{breakingLine}
+use Rattle.plan.specs.declared.Reading.{Reading}
+use Rattle.plan.specs.declared.Reading.the-variants.{Accepted, Refused}
+
+-- the number of the rule broken, and the line
+pub record Refusal : Type 0 where
+  pub rule : ℕ
+  pub line : ℕ
+
+abbrev pub refusal : ℕ → ℕ → Refusal
+refusal r l = record { rule = r; line = l }
+
+-- a rule that names a line
+abbrev pub refusedAt : ℕ → Option ℕ → Option Refusal
+refusedAt rule none = none
+refusedAt rule (some line) = some (refusal rule line)
+
+-- a rule that names no line
+abbrev pub refusedIf : ℕ → Bool → Option Refusal
+refusedIf rule b = if b (some (refusal rule 0)) none
+
+-- 2: "The text has more than 32,768 bytes (line 0)."
+unfoldable pub tooLong : List ℕ → Option Refusal
+tooLong text = refusedIf 2 (ltb 32768 (length text))
+
+-- rules 4 to 8, of the forms of a text
+unfoldable pub formsRefusal : List Form → Option Refusal
+formsRefusal fs =
+    orElse (refusedAt 4 (misplacedLine fs))
+    (orElse (refusedAt 5 (breakingLine 5 fs))
+    (orElse (refusedAt 6 (breakingLine 6 fs))
+    (orElse (refusedAt 7 (breakingLine 7 fs))
+    (refusedAt 8 (breakingLine 8 fs)))))
+
+-- rules 2 to 8: what the reader settles
+unfoldable pub readerRefusal : List ℕ → Option Refusal
+readerRefusal text = orElse (tooLong text) (orElse (refusedAt 3 (unreadableLine text)) (formsRefusal (formsOf text)))
+
+-- the plan of a text that no rule refuses
+unfoldable pub planOf : List ℕ → LockPlan
+planOf text = planIn (formsOf text)
+
+-- "Procedures are numbered from 0 in text order": the line of procedure p's `(proc`, of the forms from a line on
+unfoldable pub procLineFrom : ℕ → ℕ → List Form → ℕ
+procLineFrom line p [] = 0
+procLineFrom line p (f ∷ fs) = elim f [
+  Plan ↦ procLineFrom (suc line) p fs
+  | Proc ↦ if (eqb p 0) line (procLineFrom (suc line) (p - 1) fs)
+  | Thread n ↦ procLineFrom (suc line) p fs
+  | Close ↦ procLineFrom (suc line) p fs
+  | Skip ↦ procLineFrom (suc line) p fs
+  | Call n ↦ procLineFrom (suc line) p fs
+  | Hold l ↦ procLineFrom (suc line) p fs
+  | Loop ↦ procLineFrom (suc line) p fs
+  | Either ↦ procLineFrom (suc line) p fs
+  | One ↦ procLineFrom (suc line) p fs
+  | Two ↦ procLineFrom (suc line) p fs ]
+
+unfoldable pub procLine : List ℕ → ℕ → ℕ
+procLine text p = procLineFrom 1 p (formsOf text)
+
+-- the lowest of n numbers from p on that passes a test
+unfoldable pub lowestFrom : (ℕ → Bool) → ℕ → ℕ → Option ℕ
+lowestFrom test p zero = none
+lowestFrom test p (suc n) = if (test p) (some p) (lowestFrom test (suc p) n)
+
+-- "`(proc` line of the lowest such", of the procedures that pass a test
+unfoldable pub procRefusal : ℕ → List ℕ → (ℕ → Bool) → Option Refusal
+procRefusal rule text test = elim (lowestFrom test 0 (length (planOf text .procs))) [ none ↦ none | some p ↦ some (refusal rule (procLine text p)) ]
+
+-- 9: "Some procedure's size exceeds 1,024"
+unfoldable pub tooLarge : List ℕ → Option Refusal
+tooLarge text = procRefusal 9 text (λ p. ltb 1024 (sizeOf (planOf text .procs) p))
+
+-- 10: "Some procedure has more than 128 critical pairs"
+unfoldable pub tooManyPairs : List ℕ → Option Refusal
+tooManyPairs text = procRefusal 10 text (λ p. ltb 128 (length (pairList (planOf text .procs) p)))
+
+-- the plan's rules, 2 to 10
+unfoldable pub planRefusal : List ℕ → Option Refusal
+planRefusal text = orElse (readerRefusal text) (orElse (tooLarge text) (tooManyPairs text))
+
+-- the verdict's: 1, "The lent buffer is shorter than 6,144 entries for a schedule", then the plan's
+unfoldable pub verdictRefusal : List ℕ → ℕ → Option Refusal
+verdictRefusal text lent = orElse (refusedIf 1 (ltb lent 6144)) (planRefusal text)
+
+-- the pair list's: 1, ".. or 128 words for pairs", then the plan's, then 11, "The pairs of a procedure that is not there are requested (line 0)."
+unfoldable pub pairsRefusal : List ℕ → ℕ → ℕ → Option Refusal
+pairsRefusal text p lent = orElse (refusedIf 1 (ltb lent 128)) (orElse (planRefusal text) (refusedIf 11 (leb (length (planOf text .procs)) p)))
+
+-- The cases of the reader's answer, with 01's numbers: no rule is broken, and how many forms there are; or the number of the first rule broken and its line.
+unfoldable pub readingOf : Option Refusal → ℕ → Reading
+readingOf none n = Accepted n
+readingOf (some r) n = Refused (r .rule) (r .line)

@@ -1,0 +1,123 @@
+-- Rule 4: where a form may stand. A machine reads the forms with a mode, which says what may stand next, and a stack of the brackets that are open within the
+-- procedure. That it accepts exactly the forms of plans, and refuses at the first line with which no plan begins, are the theorems `structure-plan` and
+-- `structure-first`. 01, "The plan text" and rule 4.
+use Prim.Native.Nat.{ℕ, suc}
+use mathlib.Core.List.{List, [], _∷_}
+use mathlib.Core.Option.{Option, none, some}
+use lib.Dec.{eqb}
+use Rattle.laws.specs.Choice.{if, pick}
+use Rattle.text.specs.declared.Form.{Form}
+use Rattle.text.specs.declared.Form.the-variants.{Plan, Proc, Thread, Close, Skip, Call, Hold, Loop, Either, One, Two}
+use Rattle.plan.specs.declared.Advance.{Advance}
+use Rattle.plan.specs.declared.Advance.the-variants.{Stay, Push, Pop, Misplaced}
+
+-- the modes: what may stand next
+abbrev pub atStart : ℕ         -- the plan
+atStart = 0
+
+abbrev pub firstProc : ℕ       -- a procedure
+firstProc = 1
+
+abbrev pub nextProc : ℕ        -- a procedure or a thread
+nextProc = 2
+
+abbrev pub nextThread : ℕ      -- a thread or the plan's end
+nextThread = 3
+
+abbrev pub complete : ℕ        -- nothing
+complete = 4
+
+abbrev pub firstStatement : ℕ  -- a statement
+firstStatement = 5
+
+abbrev pub nextStatement : ℕ   -- a statement or the block's end
+nextStatement = 6
+
+abbrev pub needsOne : ℕ        -- `(one`
+needsOne = 7
+
+abbrev pub needsTwo : ℕ        -- `(two`
+needsTwo = 8
+
+abbrev pub endsEither : ℕ      -- the either's end
+endsEither = 9
+
+-- the brackets: a hold or a loop, `(one`, `(two`, or none within the procedure
+abbrev pub ofStatement : ℕ
+ofStatement = 0
+
+abbrev pub ofOne : ℕ
+ofOne = 1
+
+abbrev pub ofTwo : ℕ
+ofTwo = 2
+
+abbrev pub noBracket : ℕ
+noBracket = 3
+
+-- the innermost open bracket
+abbrev pub innermost : List ℕ → ℕ
+innermost [] = noBracket
+innermost (k ∷ ks) = k
+
+-- a form that may stand in two modes alone
+abbrev pub among : ℕ → ℕ → ℕ → Advance → Advance
+among m n mode a = pick (eqb mode m) a (pick (eqb mode n) a Misplaced)
+
+abbrev pub only : ℕ → ℕ → Advance → Advance
+only m mode a = pick (eqb mode m) a Misplaced
+
+-- a statement stands where a block begins or goes on
+abbrev pub inBlock : ℕ → Advance → Advance
+inBlock mode a = among firstStatement nextStatement mode a
+
+-- the end of a block, by the bracket that it closes
+unfoldable pub closeBlock : ℕ → Advance
+closeBlock top =
+    pick (eqb top ofStatement) (Pop nextStatement)
+    (pick (eqb top ofOne) (Pop needsTwo)
+    (pick (eqb top ofTwo) (Pop endsEither)
+    (Stay nextProc)))
+
+-- `)`
+unfoldable pub onClose : ℕ → ℕ → Advance
+onClose mode top =
+    pick (eqb mode nextStatement) (closeBlock top)
+    (pick (eqb mode endsEither) (Stay nextStatement)
+    (pick (eqb mode nextThread) (Stay complete)
+    Misplaced))
+
+-- what a form does in a mode with the innermost open bracket
+unfoldable pub advanceOf : ℕ → ℕ → Form → Advance
+advanceOf mode top Plan = only atStart mode (Stay firstProc)
+advanceOf mode top Proc = among firstProc nextProc mode (Stay firstStatement)
+advanceOf mode top (Thread n) = among nextProc nextThread mode (Stay nextThread)
+advanceOf mode top Close = onClose mode top
+advanceOf mode top Skip = inBlock mode (Stay nextStatement)
+advanceOf mode top (Call n) = inBlock mode (Stay nextStatement)
+advanceOf mode top (Hold l) = inBlock mode (Push ofStatement)
+advanceOf mode top Loop = inBlock mode (Push ofStatement)
+advanceOf mode top Either = inBlock mode (Stay needsOne)
+advanceOf mode top One = only needsOne mode (Push ofOne)
+advanceOf mode top Two = only needsTwo mode (Push ofTwo)
+
+abbrev pub tail : List ℕ → List ℕ
+tail [] = []
+tail (k ∷ ks) = ks
+
+-- the machine after a step, or the line of a form without a place
+abbrev pub goOn : Advance → List ℕ → ℕ → (ℕ → List ℕ → Option ℕ) → Option ℕ
+goOn (Stay mode) stack line k = k mode stack
+goOn (Push bracket) stack line k = k firstStatement (bracket ∷ stack)
+goOn (Pop mode) stack line k = k mode (tail stack)
+goOn Misplaced stack line k = some line
+
+-- "A line stands where the text's structure has no place for it (first such line), or the text ends too early (one more than the last line)": in a mode, with a
+-- stack of open brackets, for the forms from a line on
+unfoldable pub misplaced : ℕ → List ℕ → ℕ → List Form → Option ℕ
+misplaced mode stack line [] = if (eqb mode complete) none (some line)
+misplaced mode stack line (f ∷ fs) = goOn (advanceOf mode (innermost stack) f) stack line (λ mode′ stack′. misplaced mode′ stack′ (suc line) fs)
+
+-- rule 4
+unfoldable pub misplacedLine : List Form → Option ℕ
+misplacedLine fs = misplaced atStart [] 1 fs

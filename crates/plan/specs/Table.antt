@@ -1,0 +1,43 @@
+-- A form as a word of a table: its kind plus 16 times its number.
+use Prim.Native.Nat.{ℕ, _+_, _*_, _/_, _%_}
+use mathlib.Core.List.{List, map}
+use lib.Dec.{eqb}
+use Rattle.laws.specs.Choice.{if}
+use Rattle.text.specs.declared.Form.{Form}
+use Rattle.text.specs.declared.Form.the-variants.{Plan, Proc, Thread, Close, Skip, Call, Hold, Loop, Either, One, Two}
+
+unfoldable pub codeOf : Form → ℕ
+codeOf Plan = 0
+codeOf Proc = 1
+codeOf (Thread n) = 2 + 16 * n
+codeOf Close = 3
+codeOf Skip = 4
+codeOf (Call n) = 5 + 16 * n
+codeOf (Hold l) = 6 + 16 * l
+codeOf Loop = 7
+codeOf Either = 8
+codeOf One = 9
+codeOf Two = 10
+
+-- the number in a word
+abbrev pub numberAt : ℕ → ℕ
+numberAt w = w / 16 % 65536
+
+-- the form of a word; a word of no form reads as `)`
+unfoldable pub formAt : ℕ → Form
+formAt w =
+    if (eqb (w % 16) 0) Plan
+    (if (eqb (w % 16) 1) Proc
+    (if (eqb (w % 16) 2) (Thread (numberAt w))
+    (if (eqb (w % 16) 4) Skip
+    (if (eqb (w % 16) 5) (Call (numberAt w))
+    (if (eqb (w % 16) 6) (Hold (numberAt w))
+    (if (eqb (w % 16) 7) Loop
+    (if (eqb (w % 16) 8) Either
+    (if (eqb (w % 16) 9) One
+    (if (eqb (w % 16) 10) Two
+    Close)))))))))
+
+-- the forms that a table holds
+abbrev pub tableForms : List ℕ → List Form
+tableForms ws = map formAt ws
