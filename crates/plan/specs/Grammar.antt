@@ -40,7 +40,7 @@ pub record Grammatical (plan : LockPlan) : Type 0 where
 
 -- What the forms behind a place denote: the blocks that are open there, innermost first, each from the place on; the procedures and threads that begin behind it.
 pub record Behind : Type 0 where
-  pub open : List Block
+  pub blocks : List Block
   pub procs : List Block
   pub threads : List ℕ
 
@@ -64,29 +64,29 @@ atFour f (a ∷ b ∷ e ∷ []) = []
 atFour f (a ∷ b ∷ e ∷ r ∷ bs) = f a b r ∷ bs
 
 abbrev pub withOpen : List Block → Behind → Behind
-withOpen bs x = record { open = bs; procs = x .procs; threads = x .threads }
+withOpen bs x = record { blocks = bs; procs = x .procs; threads = x .threads }
 
 -- a procedure that begins here
 abbrev pub beginProc : List Block → Behind → Behind
 beginProc [] x = x
-beginProc (b ∷ bs) x = record { open = bs; procs = b ∷ x .procs; threads = x .threads }
+beginProc (b ∷ bs) x = record { blocks = bs; procs = b ∷ x .procs; threads = x .threads }
 
 -- one form in front
 unfoldable pub inFront : Form → Behind → Behind
 inFront Plan x = x
-inFront Proc x = beginProc (x .open) x
-inFront (Thread n) x = record { open = x .open; procs = x .procs; threads = n ∷ x .threads }
-inFront Close x = withOpen (done ∷ x .open) x
-inFront Skip x = withOpen (atTop skip (x .open)) x
-inFront (Call n) x = withOpen (atTop (call n) (x .open)) x
-inFront (Hold l) x = withOpen (atTwo (hold l) (x .open)) x
-inFront Loop x = withOpen (atTwo loop (x .open)) x
-inFront Either x = withOpen (atFour either (x .open)) x
+inFront Proc x = beginProc (x .blocks) x
+inFront (Thread n) x = record { blocks = x .blocks; procs = x .procs; threads = n ∷ x .threads }
+inFront Close x = withOpen (done ∷ x .blocks) x
+inFront Skip x = withOpen (atTop skip (x .blocks)) x
+inFront (Call n) x = withOpen (atTop (call n) (x .blocks)) x
+inFront (Hold l) x = withOpen (atTwo (hold l) (x .blocks)) x
+inFront Loop x = withOpen (atTwo loop (x .blocks)) x
+inFront Either x = withOpen (atFour either (x .blocks)) x
 inFront One x = x
 inFront Two x = x
 
 unfoldable pub behind : List Form → Behind
-behind [] = record { open = []; procs = []; threads = [] }
+behind [] = record { blocks = []; procs = []; threads = [] }
 behind (f ∷ fs) = inFront f (behind fs)
 
 -- the tree that forms denote: p where they are the forms of p (theorem `plan-of-forms`)

@@ -11,7 +11,7 @@ use Rattle.plan.specs.declared.Counts.{Counts}
 
 -- the counts of procedures, statements and threads, and of "brackets of hold, loop, either, one and two open together in a procedure"
 abbrev pub counts : ℕ → ℕ → ℕ → ℕ → Counts
-counts p s t o = record { procs = p; statements = s; threads = t; open = o }
+counts p s t o = record { procs = p; statements = s; threads = t; depth = o }
 
 abbrev pub noCounts : Counts
 noCounts = counts 0 0 0 0
@@ -19,20 +19,20 @@ noCounts = counts 0 0 0 0
 -- one form more. A closing line with no such bracket open closes the procedure or the plan
 unfoldable pub counted : Counts → Form → Counts
 counted c Plan = c
-counted c Proc = counts (c .procs + 1) (c .statements) (c .threads) (c .open)
-counted c (Thread n) = counts (c .procs) (c .statements) (c .threads + 1) (c .open)
-counted c Close = counts (c .procs) (c .statements) (c .threads) (c .open - 1)
-counted c Skip = counts (c .procs) (c .statements + 1) (c .threads) (c .open)
-counted c (Call n) = counts (c .procs) (c .statements + 1) (c .threads) (c .open)
-counted c (Hold l) = counts (c .procs) (c .statements + 1) (c .threads) (c .open + 1)
-counted c Loop = counts (c .procs) (c .statements + 1) (c .threads) (c .open + 1)
-counted c Either = counts (c .procs) (c .statements + 1) (c .threads) (c .open + 1)
-counted c One = counts (c .procs) (c .statements) (c .threads) (c .open + 1)
-counted c Two = counts (c .procs) (c .statements) (c .threads) (c .open + 1)
+counted c Proc = counts (c .procs + 1) (c .statements) (c .threads) (c .depth)
+counted c (Thread n) = counts (c .procs) (c .statements) (c .threads + 1) (c .depth)
+counted c Close = counts (c .procs) (c .statements) (c .threads) (c .depth - 1)
+counted c Skip = counts (c .procs) (c .statements + 1) (c .threads) (c .depth)
+counted c (Call n) = counts (c .procs) (c .statements + 1) (c .threads) (c .depth)
+counted c (Hold l) = counts (c .procs) (c .statements + 1) (c .threads) (c .depth + 1)
+counted c Loop = counts (c .procs) (c .statements + 1) (c .threads) (c .depth + 1)
+counted c Either = counts (c .procs) (c .statements + 1) (c .threads) (c .depth + 1)
+counted c One = counts (c .procs) (c .statements) (c .threads) (c .depth + 1)
+counted c Two = counts (c .procs) (c .statements) (c .threads) (c .depth + 1)
 
 -- 5: "more than 64 procedures, 1,024 statements, 6 threads, or 16 brackets"
 unfoldable pub overLimit : Counts → Bool
-overLimit c = pick (ltb 64 (c .procs)) true (pick (ltb 1024 (c .statements)) true (pick (ltb 6 (c .threads)) true (ltb 16 (c .open))))
+overLimit c = pick (ltb 64 (c .procs)) true (pick (ltb 1024 (c .statements)) true (pick (ltb 6 (c .threads)) true (ltb 16 (c .depth))))
 
 -- 6: "A hold names a lock above 31"
 unfoldable pub lockAbove : Form → Bool

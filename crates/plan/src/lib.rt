@@ -16,7 +16,7 @@ pub struct Counts {
     pub procs: usize,
     pub statements: usize,
     pub threads: usize,
-    pub open: usize,
+    pub depth: usize,
 }
 
 // What reading a plan gives: how many forms it has, or the refusal.
