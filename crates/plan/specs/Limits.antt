@@ -7,6 +7,7 @@ use lib.Dec.{eqb, ltb, leb}
 use Rattle.laws.specs.Choice.{pick}
 use Rattle.text.specs.declared.Form.{Form}
 use Rattle.text.specs.declared.Form.the-variants.{Plan, Proc, Thread, Close, Skip, Call, Hold, Loop, Either, One, Two}
+use Rattle.text.specs.Forms.{numberIn}
 use Rattle.plan.specs.declared.Counts.{Counts}
 
 -- the counts of procedures, statements and threads, and of "brackets of hold, loop, either, one and two open together in a procedure"
@@ -15,6 +16,13 @@ counts p s t o = record { procs = p; statements = s; threads = t; depth = o }
 
 abbrev pub noCounts : Counts
 noCounts = counts 0 0 0 0
+
+-- no count is above n
+pub record Small (c : Counts) (n : ℕ) : Type 0 where
+  pub procs : c .procs ≤ n
+  pub statements : c .statements ≤ n
+  pub threads : c .threads ≤ n
+  pub depth : c .depth ≤ n
 
 -- one form more. A closing line with no such bracket open closes the procedure or the plan
 unfoldable pub counted : Counts → Form → Counts
@@ -34,55 +42,28 @@ counted c Two = counts (c .procs) (c .statements) (c .threads) (c .depth + 1)
 unfoldable pub overLimit : Counts → Bool
 overLimit c = pick (ltb 64 (c .procs)) true (pick (ltb 1024 (c .statements)) true (pick (ltb 6 (c .threads)) true (ltb 16 (c .depth))))
 
--- 6: "A hold names a lock above 31"
-unfoldable pub lockAbove : Form → Bool
-lockAbove Plan = false
-lockAbove Proc = false
-lockAbove (Thread n) = false
-lockAbove Close = false
-lockAbove Skip = false
-lockAbove (Call n) = false
-lockAbove (Hold l) = ltb 31 l
-lockAbove Loop = false
-lockAbove Either = false
-lockAbove One = false
-lockAbove Two = false
+-- the rule that tests a form's number: 6 a hold's lock, 7 a call's procedure, 8 a thread's; 0 where none does
+unfoldable pub testedBy : Form → ℕ
+testedBy Plan = 0
+testedBy Proc = 0
+testedBy (Thread n) = 8
+testedBy Close = 0
+testedBy Skip = 0
+testedBy (Call n) = 7
+testedBy (Hold l) = 6
+testedBy Loop = 0
+testedBy Either = 0
+testedBy One = 0
+testedBy Two = 0
 
--- 7: "A call names a procedure whose number is not smaller than the caller's own": the caller is the last procedure begun, so its number is one less than their count
-unfoldable pub callAbove : Counts → Form → Bool
-callAbove c Plan = false
-callAbove c Proc = false
-callAbove c (Thread n) = false
-callAbove c Close = false
-callAbove c Skip = false
-callAbove c (Call n) = leb (c .procs) (n + 1)
-callAbove c (Hold l) = false
-callAbove c Loop = false
-callAbove c Either = false
-callAbove c One = false
-callAbove c Two = false
-
--- 8: "A thread names a procedure that is not there": thread lines stand behind all procedures
-unfoldable pub threadAbove : Counts → Form → Bool
-threadAbove c Plan = false
-threadAbove c Proc = false
-threadAbove c (Thread n) = leb (c .procs) n
-threadAbove c Close = false
-threadAbove c Skip = false
-threadAbove c (Call n) = false
-threadAbove c (Hold l) = false
-threadAbove c Loop = false
-threadAbove c Either = false
-threadAbove c One = false
-threadAbove c Two = false
+-- the least number that breaks the rule. 6: "A hold names a lock above 31". 7: "A call names a procedure whose number is not smaller than the caller's own"; the
+-- caller is the last procedure begun. 8: "A thread names a procedure that is not there"; thread lines stand behind all procedures
+unfoldable pub leastBad : ℕ → Counts → ℕ
+leastBad rule c = pick (eqb rule 6) 32 (pick (eqb rule 7) (c .procs - 1) (c .procs))
 
 -- whether a form breaks a rule, where c counts what has been read, the form too
 unfoldable pub breaks : ℕ → Counts → Form → Bool
-breaks rule c f =
-    pick (eqb rule 5) (overLimit c)
-    (pick (eqb rule 6) (lockAbove f)
-    (pick (eqb rule 7) (callAbove c f)
-    (threadAbove c f)))
+breaks rule c f = pick (eqb rule 5) (overLimit c) (pick (eqb (testedBy f) rule) (leb (leastBad rule c) (numberIn f)) false)
 
 -- the line, or none
 abbrev pub lineIf : Bool → ℕ → Option ℕ → Option ℕ

@@ -61,7 +61,7 @@ planOf text = planIn (formsOf text)
 unfoldable pub procLineFrom : ℕ → ℕ → List Form → ℕ
 procLineFrom line p [] = 0
 procLineFrom line p (f ∷ fs) = elim f [
-  Plan ↦ procLineFrom (suc line) p fs
+  | Plan ↦ procLineFrom (suc line) p fs
   | Proc ↦ if (eqb p 0) line (procLineFrom (suc line) (p - 1) fs)
   | Thread n ↦ procLineFrom (suc line) p fs
   | Close ↦ procLineFrom (suc line) p fs
@@ -71,7 +71,8 @@ procLineFrom line p (f ∷ fs) = elim f [
   | Loop ↦ procLineFrom (suc line) p fs
   | Either ↦ procLineFrom (suc line) p fs
   | One ↦ procLineFrom (suc line) p fs
-  | Two ↦ procLineFrom (suc line) p fs ]
+  | Two ↦ procLineFrom (suc line) p fs
+]
 
 unfoldable pub procLine : List ℕ → ℕ → ℕ
 procLine text p = procLineFrom 1 p (formsOf text)

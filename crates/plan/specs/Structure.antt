@@ -1,10 +1,11 @@
 -- Rule 4: where a form may stand. A machine reads the forms with a mode, which says what may stand next, and a stack of the brackets that are open within the
 -- procedure. That it accepts exactly the forms of plans, and refuses at the first line with which no plan begins, are the theorems `structure-plan` and
 -- `structure-first`. 01, "The plan text" and rule 4.
-use Prim.Native.Nat.{ℕ, suc}
+use Prim.Native.Nat.{ℕ, zero, suc}
 use mathlib.Core.List.{List, [], _∷_}
 use mathlib.Core.Option.{Option, none, some}
 use lib.Dec.{eqb}
+use lib.ListN.{getD}
 use Rattle.laws.specs.Choice.{if, pick}
 use Rattle.text.specs.declared.Form.{Form}
 use Rattle.text.specs.declared.Form.the-variants.{Plan, Proc, Thread, Close, Skip, Call, Hold, Loop, Either, One, Two}
@@ -12,34 +13,34 @@ use Rattle.plan.specs.declared.Advance.{Advance}
 use Rattle.plan.specs.declared.Advance.the-variants.{Stay, Push, Pop, Misplaced}
 
 -- the modes: what may stand next
-abbrev pub atStart : ℕ         -- the plan
+abbrev pub atStart : ℕ  -- the plan
 atStart = 0
 
-abbrev pub firstProc : ℕ       -- a procedure
+abbrev pub firstProc : ℕ  -- a procedure
 firstProc = 1
 
-abbrev pub nextProc : ℕ        -- a procedure or a thread
+abbrev pub nextProc : ℕ  -- a procedure or a thread
 nextProc = 2
 
-abbrev pub nextThread : ℕ      -- a thread or the plan's end
+abbrev pub nextThread : ℕ  -- a thread or the plan's end
 nextThread = 3
 
-abbrev pub complete : ℕ        -- nothing
+abbrev pub complete : ℕ  -- nothing
 complete = 4
 
 abbrev pub firstStatement : ℕ  -- a statement
 firstStatement = 5
 
-abbrev pub nextStatement : ℕ   -- a statement or the block's end
+abbrev pub nextStatement : ℕ  -- a statement or the block's end
 nextStatement = 6
 
-abbrev pub needsOne : ℕ        -- `(one`
+abbrev pub needsOne : ℕ  -- `(one`
 needsOne = 7
 
-abbrev pub needsTwo : ℕ        -- `(two`
+abbrev pub needsTwo : ℕ  -- `(two`
 needsTwo = 8
 
-abbrev pub endsEither : ℕ      -- the either's end
+abbrev pub endsEither : ℕ  -- the either's end
 endsEither = 9
 
 -- the brackets: a hold or a loop, `(one`, `(two`, or none within the procedure
@@ -55,16 +56,21 @@ ofTwo = 2
 abbrev pub noBracket : ℕ
 noBracket = 3
 
+-- a stack that is kept in a buffer, from its top at a depth down
+unfoldable pub stackOf : List ℕ → ℕ → List ℕ
+stackOf buffer zero = []
+stackOf buffer (suc d) = getD buffer d 0 ∷ stackOf buffer d
+
 -- the innermost open bracket
 abbrev pub innermost : List ℕ → ℕ
 innermost [] = noBracket
 innermost (k ∷ ks) = k
 
 -- a form that may stand in two modes alone
-abbrev pub among : ℕ → ℕ → ℕ → Advance → Advance
+unfoldable pub among : ℕ → ℕ → ℕ → Advance → Advance
 among m n mode a = pick (eqb mode m) a (pick (eqb mode n) a Misplaced)
 
-abbrev pub only : ℕ → ℕ → Advance → Advance
+unfoldable pub only : ℕ → ℕ → Advance → Advance
 only m mode a = pick (eqb mode m) a Misplaced
 
 -- a statement stands where a block begins or goes on

@@ -1,9 +1,15 @@
-// The plan text as a table of forms, and rules 2 and 4 to 8 as passes over it.
+// The plan text as a table of forms, and the rules 2 to 8: each is a pass over the table.
 ghost use mathlib.Core.Path.{_≡_};
-
+ghost use Prim.Native.Nat.{_+_, _-_, _≤_, _<_};
+ghost use lib.ListN.{length};
+ghost use Rattle.text.specs.Forms.{numberIn};
+ghost use Rattle.plan.specs.Table.{codeOf, formAt, tableForms};
+ghost use Rattle.plan.specs.Structure.{only, among, closeBlock, onClose, advanceOf, misplacedLine, stackOf, innermost};
+ghost use Rattle.plan.specs.Limits.{Small, counted, overLimit, testedBy, leastBad, breaks, breakingLine};
+ghost use Rattle.plan.specs.Rules.{refusedAt, formsRefusal, readingOf};
 use text::Form;
 
-// What a form does to the machine of rule 4.
+// What a form does to the machine of rule 4: it goes on in a mode, opens a bracket, closes one and goes on in a mode, or has no place.
 pub enum Advance {
     Stay(u8),
     Push(u8),
@@ -11,7 +17,7 @@ pub enum Advance {
     Misplaced,
 }
 
-// What has been read of a text.
+// What has been read of a text: procedures, statements, threads, and the brackets open within the procedure.
 pub struct Counts {
     pub procs: usize,
     pub statements: usize,
@@ -23,4 +29,347 @@ pub struct Counts {
 pub enum Reading {
     Accepted(usize),
     Refused { rule: u8, line: usize },
+}
+
+// The word of a form: its kind plus 16 times its number.
+fn code_of(form: Form) -> u64
+    ensures { λ r. ⌜ r ≡ codeOf form ⌝ }
+{
+    match form {
+        Form::Plan => 0,
+        Form::Proc => 1,
+        Form::Thread(n) => 2 + 16 * (n as u64),
+        Form::Close => 3,
+        Form::Skip => 4,
+        Form::Call(n) => 5 + 16 * (n as u64),
+        Form::Hold(n) => 6 + 16 * (n as u64),
+        Form::Loop => 7,
+        Form::Either => 8,
+        Form::One => 9,
+        Form::Two => 10,
+    }
+}
+
+// The form of a word.
+pub fn form_at(word: u64) -> Form
+    ensures { λ r. ⌜ r ≡ formAt word ⌝ }
+{
+    let kind = word % 16;
+    let n = (word / 16 % 65536) as u16;
+    match kind {
+        0 => Form::Plan,
+        1 => Form::Proc,
+        2 => Form::Thread(n),
+        4 => Form::Skip,
+        5 => Form::Call(n),
+        6 => Form::Hold(n),
+        7 => Form::Loop,
+        8 => Form::Either,
+        9 => Form::One,
+        10 => Form::Two,
+        _ => Form::Close,
+    }
+}
+
+// A step that is taken in one mode alone.
+fn in_mode(mode: u8, m: u8, step: Advance) -> Advance
+    ensures { λ r. ⌜ r ≡ only m mode step ⌝ }
+{
+    if mode == m { step } else { Advance::Misplaced }
+}
+
+// A step that is taken in two modes.
+fn in_modes(mode: u8, m: u8, n: u8, step: Advance) -> Advance
+    ensures { λ r. ⌜ r ≡ among m n mode step ⌝ }
+{
+    if mode == m {
+        return step;
+    }
+    if mode == n {
+        return step;
+    }
+    Advance::Misplaced
+}
+
+// The end of a block, by the innermost open bracket.
+fn close_block(top: u8) -> Advance
+    ensures { λ r. ⌜ r ≡ closeBlock top ⌝ }
+{
+    match top {
+        0 => Advance::Pop(6),
+        1 => Advance::Pop(8),
+        2 => Advance::Pop(9),
+        _ => Advance::Stay(2),
+    }
+}
+
+// `)`
+fn on_close(mode: u8, top: u8) -> Advance
+    ensures { λ r. ⌜ r ≡ onClose mode top ⌝ }
+{
+    match mode {
+        6 => close_block(top),
+        9 => Advance::Stay(6),
+        3 => Advance::Stay(4),
+        _ => Advance::Misplaced,
+    }
+}
+
+// What a form does in a mode with the innermost open bracket.
+fn step_of(mode: u8, top: u8, form: Form) -> Advance
+    ensures { λ r. ⌜ r ≡ advanceOf mode top form ⌝ }
+{
+    match form {
+        Form::Plan => in_mode(mode, 0, Advance::Stay(1)),
+        Form::Proc => in_modes(mode, 1, 2, Advance::Stay(5)),
+        Form::Thread(_) => in_modes(mode, 2, 3, Advance::Stay(3)),
+        Form::Close => on_close(mode, top),
+        Form::Skip => in_modes(mode, 5, 6, Advance::Stay(6)),
+        Form::Call(_) => in_modes(mode, 5, 6, Advance::Stay(6)),
+        Form::Hold(_) => in_modes(mode, 5, 6, Advance::Push(0)),
+        Form::Loop => in_modes(mode, 5, 6, Advance::Push(0)),
+        Form::Either => in_modes(mode, 5, 6, Advance::Stay(7)),
+        Form::One => in_mode(mode, 7, Advance::Push(1)),
+        Form::Two => in_mode(mode, 8, Advance::Push(2)),
+    }
+}
+
+// The innermost open bracket of a stack of `depth`.
+fn top_of(stack: &[u8], depth: usize) -> u8
+    requires { ⌜ depth ≤ length (now stack) ⌝ }
+    ensures { λ r. ⌜ r ≡ innermost (stackOf (now (stack .entry)) depth) ⌝ }
+{
+    if depth == 0 {
+        return 3;
+    }
+    stack[depth - 1]
+}
+
+// One less, unless it is 0.
+fn lower(n: usize) -> usize
+    ensures { λ r. ⌜ r ≡ n - 1 ⌝ }
+{
+    if n == 0 { 0 } else { n - 1 }
+}
+
+// Rule 4 over a table: the stack is lent, as long as the table.
+fn check_structure(table: &[u64], stack: &mut [u8]) -> Reading
+    requires { ⌜ length (now table) ≤ length (now stack) ⌝ }
+    ensures { λ r. ⌜ r ≡ readingOf (refusedAt 4 (misplacedLine (tableForms (now (table .entry))))) (length (now (table .entry))) ⌝ }
+{
+    let mut mode: u8 = 0;
+    let mut depth: usize = 0;
+    let mut i: usize = 0;
+    while i < table.len() {
+        let form = form_at(table[i]);
+        let step = step_of(mode, top_of(stack, depth), form);
+        i += 1;
+        match step {
+            Advance::Stay(m) => {
+                mode = m;
+            }
+            Advance::Push(bracket) => {
+                stack[depth] = bracket;
+                depth += 1;
+                mode = 5;
+            }
+            Advance::Pop(m) => {
+                depth = lower(depth);
+                mode = m;
+            }
+            Advance::Misplaced => {
+                return Reading::Refused { rule: 4, line: i };
+            }
+        }
+    }
+    if mode == 4 {
+        return Reading::Accepted(i);
+    }
+    Reading::Refused {
+        rule: 4,
+        line: i + 1,
+    }
+}
+
+// One form more.
+fn count(c: Counts, form: Form) -> Counts
+    requires { ⌜ Small c 65536 ⌝ }
+    ensures { λ r. ⌜ r ≡ counted c form ⌝ }
+{
+    let mut next = c;
+    match form {
+        Form::Plan => {
+            return next;
+        }
+        Form::Proc => {
+            next.procs = c.procs + 1;
+            return next;
+        }
+        Form::Thread(_) => {
+            next.threads = c.threads + 1;
+            return next;
+        }
+        Form::Close => {
+            next.depth = lower(c.depth);
+            return next;
+        }
+        Form::Skip => {
+            next.statements = c.statements + 1;
+            return next;
+        }
+        Form::Call(_) => {
+            next.statements = c.statements + 1;
+            return next;
+        }
+        Form::Hold(_) => {
+            next.statements = c.statements + 1;
+            next.depth = c.depth + 1;
+            return next;
+        }
+        Form::Loop => {
+            next.statements = c.statements + 1;
+            next.depth = c.depth + 1;
+            return next;
+        }
+        Form::Either => {
+            next.statements = c.statements + 1;
+            next.depth = c.depth + 1;
+            return next;
+        }
+        Form::One => {
+            next.depth = c.depth + 1;
+            return next;
+        }
+        Form::Two => {
+            next.depth = c.depth + 1;
+            return next;
+        }
+    }
+}
+
+// Rule 5: a count past its limit.
+fn over_limit(c: Counts) -> bool
+    ensures { λ r. ⌜ r ≡ overLimit c ⌝ }
+{
+    if 64 < c.procs {
+        return true;
+    }
+    if 1024 < c.statements {
+        return true;
+    }
+    if 6 < c.threads {
+        return true;
+    }
+    16 < c.depth
+}
+
+// The rule that tests a form's number, or 0.
+fn tested_by(form: Form) -> u8
+    ensures { λ r. ⌜ r ≡ testedBy form ⌝ }
+{
+    match form {
+        Form::Plan => 0,
+        Form::Proc => 0,
+        Form::Thread(_) => 8,
+        Form::Close => 0,
+        Form::Skip => 0,
+        Form::Call(_) => 7,
+        Form::Hold(_) => 6,
+        Form::Loop => 0,
+        Form::Either => 0,
+        Form::One => 0,
+        Form::Two => 0,
+    }
+}
+
+// A form's number, or 0.
+fn number_in(form: Form) -> usize
+    ensures { λ r. ⌜ r ≡ numberIn form ⌝ }
+{
+    match form {
+        Form::Plan => 0,
+        Form::Proc => 0,
+        Form::Thread(n) => n as usize,
+        Form::Close => 0,
+        Form::Skip => 0,
+        Form::Call(n) => n as usize,
+        Form::Hold(n) => n as usize,
+        Form::Loop => 0,
+        Form::Either => 0,
+        Form::One => 0,
+        Form::Two => 0,
+    }
+}
+
+// The least number that breaks rule 6, 7 or 8.
+fn least_bad(rule: u8, c: Counts) -> usize
+    ensures { λ r. ⌜ r ≡ leastBad rule c ⌝ }
+{
+    if rule == 6 {
+        return 32;
+    }
+    if rule == 7 {
+        return lower(c.procs);
+    }
+    c.procs
+}
+
+// Whether a form breaks a rule of 5 to 8, with the counts up to it.
+fn breaks_rule(rule: u8, c: Counts, form: Form) -> bool
+    ensures { λ r. ⌜ r ≡ breaks rule c form ⌝ }
+{
+    if rule == 5 {
+        return over_limit(c);
+    }
+    if tested_by(form) == rule {
+        return least_bad(rule, c) <= number_in(form);
+    }
+    false
+}
+
+// A rule of 5 to 8 over a table.
+fn check_rule(table: &[u64], rule: u8) -> Reading
+    requires { ⌜ length (now table) < 65536 ⌝ }
+    ensures { λ r. ⌜ r ≡ readingOf (refusedAt rule (breakingLine rule (tableForms (now (table .entry))))) (length (now (table .entry))) ⌝ }
+{
+    let mut c = Counts {
+        procs: 0,
+        statements: 0,
+        threads: 0,
+        depth: 0,
+    };
+    let mut i: usize = 0;
+    while i < table.len() {
+        let form = form_at(table[i]);
+        i += 1;
+        c = count(c, form);
+        if breaks_rule(rule, c, form) {
+            return Reading::Refused { rule, line: i };
+        }
+    }
+    Reading::Accepted(i)
+}
+
+// Rules 4 to 8 over a table, each over the whole of it before the next.
+fn check_forms(table: &[u64], stack: &mut [u8]) -> Reading
+    requires { ⌜ (length (now table) < 65536) × (length (now table) ≤ length (now stack)) ⌝ }
+    ensures { λ r. ⌜ r ≡ readingOf (formsRefusal (tableForms (now (table .entry)))) (length (now (table .entry))) ⌝ }
+{
+    let structure = check_structure(table, stack);
+    let Reading::Accepted(_) = structure else {
+        return structure;
+    };
+    let limits = check_rule(table, 5);
+    let Reading::Accepted(_) = limits else {
+        return limits;
+    };
+    let locks = check_rule(table, 6);
+    let Reading::Accepted(_) = locks else {
+        return locks;
+    };
+    let calls = check_rule(table, 7);
+    let Reading::Accepted(_) = calls else {
+        return calls;
+    };
+    check_rule(table, 8)
 }
