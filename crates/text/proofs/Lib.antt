@@ -1,0 +1,2 @@
+-- The definitions in the shape of the functions' needs.
+pub mod Laws
