@@ -1,10 +1,16 @@
 -- A branch in the code and in a definition: the laws of `pick`, and the tests of numbers as rewritings, for `search`.
 use Prim.Native.Nat.{ℕ, _<_, _≤_}
-use mathlib.Core.Path.{_≡_, sym, subst, _∙_}
+use mathlib.Core.Path.{_≡_, refl, sym, subst, _∙_}
 use mathlib.Core.Bool.{Bool, true, false, not}
 use lib.Dec.{T, eqb, ltb, leb, T-not, eqb-refl}
 use borrow.Author.Tests.{eq-eqb, ne-eqb, lt-ltb, le-ltb, le-leb, lt-leb}
 use Rattle.laws.specs.Choice.{pick}
+
+-- what holds of both ways of a choice
+pub pick-elim : {A : Type 0} (P : A → Type 0) (b : Bool) (x y : A) → (b ≡ true → P x) → (b ≡ false → P y) → P (pick b x y)
+unfolding pick
+pick-elim P true x y f g = f refl
+pick-elim P false x y f g = g refl
 
 module _ {A : Type 0} (x y r : A) where
   on-true : (b : Bool) → b ≡ true → r ≡ x → r ≡ pick b x y

@@ -1,2 +1,3 @@
 -- The definitions in the shape of the functions' needs.
 pub mod Laws
+pub mod Written
