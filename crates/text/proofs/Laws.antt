@@ -16,8 +16,13 @@ use Rattle.text.specs.declared.Number.{Number}
 use Rattle.text.specs.declared.Number.the-variants.{Is, Not}
 use Rattle.text.specs.declared.Line.{Line}
 use Rattle.text.specs.declared.Line.the-variants.{Read, Refused}
-use Rattle.text.specs.Kinds.{appendDigit, numbered, kindOf}
+use Rattle.text.specs.Kinds.{digitOf, leadingOf, appendDigit, numbered, kindOf}
 use Rattle.text.specs.Lines.{lineLength, lineAnswer, lineAt}
+
+-- a digit other than 0
+pub leading-digit : (b : ℕ) (r : Number) → 49 ≤ b → r ≡ digitOf b → r ≡ leadingOf b
+unfolding leadingOf digitOf
+leading-digit b r h e = e ∙ rw (le-ltb b 48 (omega arith), le-ltb b 49 h)
 
 -- a number and one digit more
 module _ (a b r : Number) where

@@ -11,10 +11,10 @@ enum-told : tie.Need-enum-told
 enum-told c = search needs
 
 returns : tie.Need-returns
-returns c = search (answer-known, answer-unknown, needs)
+returns c = search (answer-known, needs)
 
 returns-2 : tie.Need-returns-2
-returns-2 c = search (answer-known, answer-unknown, needs)
+returns-2 c = search (answer-unknown, needs)
 
 pub answer-spec : {M : Type 1} → statement M
 answer-spec = tie.close (tie.spec enum-known-kind enum-told returns returns-2)

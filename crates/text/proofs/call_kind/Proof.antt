@@ -19,11 +19,11 @@ enum-told c = search needs
 
 returns : tie.Need-returns
 unfolding callKind
-returns c = search (numbered-is, numbered-not, needs)
+returns c = search (numbered-is, needs)
 
 returns-2 : tie.Need-returns-2
 unfolding callKind
-returns-2 c = search (numbered-is, numbered-not, needs)
+returns-2 c = search (numbered-not, needs)
 
 pub call-kind-spec : {M : Type 1} → statement M
 call-kind-spec =

@@ -19,11 +19,11 @@ enum-told c = search needs
 
 returns : tie.Need-returns
 unfolding holdKind
-returns c = search (numbered-is, numbered-not, needs)
+returns c = search (numbered-is, needs)
 
 returns-2 : tie.Need-returns-2
 unfolding holdKind
-returns-2 c = search (numbered-is, numbered-not, needs)
+returns-2 c = search (numbered-not, needs)
 
 pub hold-kind-spec : {M : Type 1} → statement M
 hold-kind-spec =

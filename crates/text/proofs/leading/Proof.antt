@@ -1,19 +1,16 @@
--- The arm of the range is the two tests of `leadingOf`.
+-- In the range it is `leading-digit`; below it and above it, the tests of `leadingOf`.
 use Rattle.laws.proofs.Choices.{tests}
 use Rattle.text.specs.Kinds.{leadingOf}
+use Rattle.text.proofs.Laws.{leading-digit}
 use borrow.Author.Needs.{needs}
 use Rattle.text.proofs.leading.Statement.{statement}
 use Rattle.text.proofs.leading.Tie as tie
 
-sub-t4 : tie.Need-sub-t4
-sub-t4 c = search needs
-
-cast-t5 : tie.Need-cast-t5
-cast-t5 c = search needs
+digit-requires : tie.Need-digit-requires
+digit-requires c κs = search needs
 
 returns : tie.Need-returns
-unfolding leadingOf
-returns c = search (tests, needs)
+returns c = search (leading-digit, needs)
 
 returns-2 : tie.Need-returns-2
 unfolding leadingOf
@@ -24,4 +21,4 @@ unfolding leadingOf
 returns-3 c = search (tests, needs)
 
 pub leading-spec : {M : Type 1} → statement M
-leading-spec = tie.close (tie.spec sub-t4 cast-t5 returns returns-2 returns-3)
+leading-spec = tie.close (tie.spec digit-requires returns returns-2 returns-3)

@@ -5,13 +5,13 @@ use Rattle.text.proofs.read_line.Statement.{statement}
 use Rattle.text.proofs.read_line.Tie as tie
 
 returns : tie.Need-returns
-returns c = search (line-past, line-unended, line-ended, needs)
+returns c = search (line-past, needs)
 
 line-end-requires : tie.Need-line-end-requires
 line-end-requires c κs = search needs
 
 returns-2 : tie.Need-returns-2
-returns-2 c = search (line-past, line-unended, line-ended, needs)
+returns-2 c = search (line-unended, needs)
 
 sub-kind-of : tie.Need-sub-kind-of
 sub-kind-of c = search needs
@@ -32,7 +32,7 @@ answer-requires : tie.Need-answer-requires
 answer-requires c κs = search needs
 
 returns-3 : tie.Need-returns-3
-returns-3 c = search (line-past, line-unended, line-ended, needs)
+returns-3 c = search (line-ended, needs)
 
 pub read-line-spec : {M : Type 1} → statement M
 read-line-spec =

@@ -14,7 +14,7 @@ digit-requires c κs = search needs
 
 returns : tie.Need-returns
 unfolding numberOf
-returns c = search (picks, append-of, needs) depth 12
+returns c = search (picks, needs)
 
 shared-slice-read-leading : tie.Need-shared-slice-read-leading
 shared-slice-read-leading c = search needs
@@ -65,7 +65,7 @@ returns-3 c = search (picks, append-of, needs) depth 12
 
 returns-4 : tie.Need-returns-4
 unfolding numberOf
-returns-4 c = search (picks, append-of, needs) depth 12
+returns-4 c = search (picks, needs)
 
 pub read-number-spec : {M : Type 1} → statement M
 read-number-spec =
