@@ -1,5 +1,6 @@
--- Tests and what they say; choices, folds and writes in the shape of a function's needs; masks; ascending lists.
+-- Tests and what they say; choices, folds and writes in the shape of a function's needs; equal lists; masks; ascending lists.
 pub mod Tests
+pub mod Bytes
 pub mod Choices
 pub mod Folds
 pub mod Writes

@@ -2,3 +2,4 @@
 pub mod Forms
 pub mod Kinds
 pub mod Lines
+pub mod Examples

@@ -1,6 +1,7 @@
 -- The lines of a text and what reading one gives. 01, "The plan text" and rule 3.
-use Prim.Native.Nat.{ℕ, suc, _+_}
-use mathlib.Core.List.{List, [], _∷_}
+use Prim.Native.Nat.{ℕ, suc, _+_, _<_}
+use mathlib.Core.Path.{_≡_}
+use mathlib.Core.List.{List, [], _∷_, _++_, List·Memᴰ}
 use mathlib.Core.Option.{Option, none, some}
 use lib.Dec.{eqb, ltb}
 use lib.ListN.{length, take, drop}
@@ -10,6 +11,7 @@ use Rattle.text.specs.declared.Kind.{Kind}
 use Rattle.text.specs.declared.Kind.the-variants.{Known, Unknown}
 use Rattle.text.specs.declared.Line.{Line}
 use Rattle.text.specs.declared.Line.the-variants.{Read, Refused}
+use Rattle.text.specs.Forms.{write, numberIn}
 use Rattle.text.specs.Kinds.{kindOf}
 
 -- "each line ended by byte 10": how many bytes stand before the first byte 10, or all
@@ -77,3 +79,13 @@ unreadable line (l ∷ ls) tail = unknownOr line (kindOf l) (unreadable (suc lin
 -- rule 3 of a whole text, "lines from 1"
 unfoldable pub unreadableLine : List ℕ → Option ℕ
 unreadableLine text = unreadable 1 (split text .ended) (split text .tail)
+
+-- the text of forms: each form's bytes, followed by byte 10
+unfoldable pub textOf : List Form → List ℕ
+textOf [] = []
+textOf (f ∷ fs) = write f ++ 10 ∷ textOf fs
+
+-- a text is read as these forms exactly when it is their text (theorem `text-written`)
+pub record IsText (text : List ℕ) (fs : List Form) : Type 0 where
+  pub small : (f : Form) → List·Memᴰ f fs → numberIn f < 1000
+  pub written : text ≡ textOf fs

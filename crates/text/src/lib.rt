@@ -62,7 +62,7 @@ fn leading(b: u8) -> Number
     ensures { λ r. ⌜ r ≡ leadingOf b ⌝ }
 {
     match b {
-        b'1'..=b'9' => Number::Is((b - b'0') as u16),
+        b'1'..=b'9' => digit(b),
         _ => Number::Not,
     }
 }

@@ -1,0 +1,51 @@
+-- The arms of the match on the third byte are the choices of `planKind`.
+use Rattle.laws.proofs.Choices.{arms}
+use Rattle.text.specs.Kinds.{planKind}
+use borrow.Author.Needs.{needs}
+use Rattle.text.proofs.plan_kind.Statement.{statement}
+use Rattle.text.proofs.plan_kind.Tie as tie
+
+returns : tie.Need-returns
+unfolding planKind
+returns c = search (arms, needs) depth 12
+
+shared-slice-read-b : tie.Need-shared-slice-read-b
+shared-slice-read-b c = search needs
+
+slice-aggregate-word-kind : tie.Need-slice-aggregate-word-kind
+slice-aggregate-word-kind c = search needs
+
+word-kind-requires : tie.Need-word-kind-requires
+word-kind-requires c κs = search needs
+
+slice-aggregate-word-kind-2 : tie.Need-slice-aggregate-word-kind-2
+slice-aggregate-word-kind-2 c = search needs
+
+word-kind-requires-2 : tie.Need-word-kind-requires-2
+word-kind-requires-2 c κs = search needs
+
+returns-2 : tie.Need-returns-2
+unfolding planKind
+returns-2 c = search (arms, needs) depth 12
+
+returns-3 : tie.Need-returns-3
+unfolding planKind
+returns-3 c = search (arms, needs) depth 12
+
+returns-4 : tie.Need-returns-4
+unfolding planKind
+returns-4 c = search (arms, needs) depth 12
+
+pub plan-kind-spec : {M : Type 1} → statement M
+plan-kind-spec =
+    tie.close
+    (tie.spec
+    returns
+    shared-slice-read-b
+    slice-aggregate-word-kind
+    word-kind-requires
+    slice-aggregate-word-kind-2
+    word-kind-requires-2
+    returns-2
+    returns-3
+    returns-4)
