@@ -4,17 +4,22 @@ use Prim.Native.Nat.{ℕ, zero, suc, _-_}
 use mathlib.Core.Bool.{Bool}
 use mathlib.Core.List.{List, [], _∷_}
 use mathlib.Core.Option.{Option, none, some}
+use mathlib.Core.Path.{_≡_}
 use lib.Dec.{ltb, leb, eqb}
-use lib.ListN.{length}
+use lib.ListN.{length, take}
 use Rattle.laws.specs.Choice.{if, orElse}
 use Rattle.text.specs.declared.Form.{Form}
 use Rattle.text.specs.declared.Form.the-variants.{Plan, Proc, Thread, Close, Skip, Call, Hold, Loop, Either, One, Two}
+use Rattle.text.specs.declared.Line.{Line}
+use Rattle.text.specs.declared.Line.the-variants as Line
+use Rattle.text.specs.declared.Line.the-variants.{Read}
 use Rattle.text.specs.Lines.{formsOf, unreadableLine}
 use Rattle.semantics.specs.Plan.{LockPlan}
 use Rattle.semantics.specs.Sizes.{sizeOf}
 use Rattle.semantics.specs.Pairs.{pairList}
 use Rattle.plan.specs.Grammar.{planIn}
 use Rattle.plan.specs.Structure.{misplacedLine}
+use Rattle.plan.specs.Table.{tableForms}
 use Rattle.plan.specs.Limits.{breakingLine}
 use Rattle.plan.specs.declared.Reading.{Reading}
 use Rattle.plan.specs.declared.Reading.the-variants.{Accepted, Refused}
@@ -110,3 +115,14 @@ pairsRefusal text p lent = orElse (refusedIf 1 (ltb lent 128)) (orElse (planRefu
 unfoldable pub readingOf : Option Refusal → ℕ → Reading
 readingOf none n = Accepted n
 readingOf (some r) n = Refused (r .rule) (r .line)
+
+-- a refusal that was handed on from a line
+abbrev pub handedOn : Line → Reading
+handedOn (Read f next) = Accepted 0
+handedOn (Line.Refused r l) = Refused r l
+
+-- The promise of a call that reads a text into a table, where `refused` says whether and how the text is refused: the answer, and where it is accepted the table
+-- begins with the text's forms.
+pub record Tabled (refused : Option Refusal) (text : List ℕ) (r : Reading) (table : List ℕ) : Type 0 where
+  pub answer : r ≡ readingOf refused (length (formsOf text))
+  pub forms : refused ≡ none → tableForms (take (length (formsOf text)) table) ≡ formsOf text

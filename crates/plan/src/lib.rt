@@ -3,11 +3,13 @@ ghost use mathlib.Core.Path.{_≡_};
 ghost use Prim.Native.Nat.{_+_, _-_, _≤_, _<_};
 ghost use lib.ListN.{length};
 ghost use Rattle.text.specs.Forms.{numberIn};
+ghost use Rattle.text.specs.Lines.{formsOf, unreadableLine};
 ghost use Rattle.plan.specs.Table.{codeOf, formAt, tableForms};
 ghost use Rattle.plan.specs.Structure.{only, among, closeBlock, onClose, advanceOf, misplacedLine, stackOf, innermost};
 ghost use Rattle.plan.specs.Limits.{Small, counted, overLimit, testedBy, leastBad, breaks, breakingLine};
-ghost use Rattle.plan.specs.Rules.{refusedAt, formsRefusal, readingOf};
+ghost use Rattle.plan.specs.Rules.{refusedAt, formsRefusal, readerRefusal, readingOf, handedOn, Tabled};
 use text::Form;
+use text::Line;
 
 // What a form does to the machine of rule 4: it goes on in a mode, opens a bracket, closes one and goes on in a mode, or has no place.
 pub enum Advance {
@@ -372,4 +374,57 @@ fn check_forms(table: &[u64], stack: &mut [u8]) -> Reading
         return calls;
     };
     check_rule(table, 8)
+}
+
+// The refusal of a line, in the reader's answer.
+fn handed_on(line: Line) -> Reading
+    ensures { λ r. ⌜ r ≡ handedOn line ⌝ }
+{
+    match line {
+        Line::Read { form: _, next: _ } => Reading::Accepted(0),
+        Line::Refused { rule, line } => Reading::Refused { rule, line },
+    }
+}
+
+// The text's forms into a table, line after line (rule 3). A form's line has two bytes at least, so a table of half the bytes has room.
+fn fill(text: &[u8], table: &mut [u64]) -> Reading
+    requires { ⌜ (length (now text) ≤ 32768) × (16384 ≤ length (now table)) ⌝ }
+    ensures { λ r. ⌜ Tabled (refusedAt 3 (unreadableLine (now (text .entry)))) (now (text .entry)) r (now (table .exit)) ⌝ }
+{
+    let mut at: usize = 0;
+    let mut n: usize = 0;
+    while at < text.len() {
+        let line = text::read_line(text, at, n + 1);
+        let Line::Read { form, next } = line else {
+            return handed_on(line);
+        };
+        table[n] = code_of(form);
+        n += 1;
+        at = next;
+    }
+    Reading::Accepted(n)
+}
+
+// A plan text into a lent table of forms, by the rules 2 to 8 in checking order. The table and the stack are 16,384 long.
+pub fn read_plan(text: &[u8], table: &mut [u64], stack: &mut [u8]) -> Reading
+    requires { ⌜ (16384 ≤ length (now table)) × (16384 ≤ length (now stack)) ⌝ }
+    ensures { λ r. ⌜ Tabled (readerRefusal (now (text .entry))) (now (text .entry)) r (now (table .exit)) ⌝ }
+{
+    if 32768 < text.len() {
+        return Reading::Refused { rule: 2, line: 0 };
+    }
+    let filled = fill(text, table);
+    let Reading::Accepted(n) = filled else {
+        return filled;
+    };
+    check_forms(&table[0..n], stack)
+}
+
+// Whether a text keeps the rules 2 to 8: how many forms it has, or the number of the first rule broken and its line.
+pub fn check_plan(text: &[u8]) -> Reading
+    ensures { λ r. ⌜ r ≡ readingOf (readerRefusal (now (text .entry))) (length (formsOf (now (text .entry)))) ⌝ }
+{
+    let mut table = [0u64; 16384];
+    let mut stack = [0u8; 16384];
+    read_plan(text, &mut table, &mut stack)
 }

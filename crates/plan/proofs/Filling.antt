@@ -1,0 +1,132 @@
+-- The table while it is filled: its first n words are the forms of the lines read so far, and with the forms of the lines that are left they are the text's.
+use Prim.Native.Nat.{ℕ, suc, _+_, _-_, _*_, _<_, _≤_}
+use native.Mathlib.Numerals.{add-one}
+use native.Mathlib.Omega.{arith}
+use mathlib.Core.Path.{_≡_, refl, sym, ap, ap₂, _∙_}
+use mathlib.Core.List.{List, [], _∷_, _++_, map, append-nil}
+use mathlib.Core.Option.{Option, none, some, Option·none-ne-some}
+use borrow.Author.Tests.{lt-ltb, le-ltb}
+use lib.ListN.{length, take, set, length-map, length-take}
+use lib.Seq.{length-take-le, take-suc-set, append-snoc}
+use Rattle.text.specs.declared.Form.{Form}
+use Rattle.text.specs.declared.Line.{Line}
+use Rattle.text.specs.declared.Line.the-variants.{Read}
+use Rattle.text.specs.declared.Line.the-variants as line
+use Rattle.text.specs.Lines.{lineAt, formsOf, unreadableLine}
+use Rattle.laws.specs.Choice.{orElse}
+use Rattle.text.proofs.Splits.{few-forms}
+use Rattle.text.proofs.Reading.{formsFrom, unreadableFrom, start-forms, start-unreadable, next-forms, next-unreadable, next-later, next-within, next-small, refused-rule, refused-line, ended-forms, ended-readable}
+use Rattle.plan.specs.declared.Reading.{Reading}
+use Rattle.plan.specs.declared.Reading.the-variants.{Accepted, Refused}
+use Rattle.plan.specs.Table.{codeOf, formAt, tableForms}
+use Rattle.plan.specs.Rules.{Refusal, refusedAt, tooLong, formsRefusal, readerRefusal, readingOf, handedOn, Tabled}
+use Rattle.plan.proofs.Codes.{form-of-code}
+use Rattle.plan.proofs.Laws.{first-refuses}
+
+-- lines up to the place `at` are in the table, n of them, of two bytes at least
+pub record Filling (text table : List ℕ) (at n : ℕ) : Type 0 where
+  pub pace : n * 2 ≤ at
+  pub within : at ≤ length text
+  pub read : tableForms (take n table) ++ formsFrom text at ≡ formsOf text
+  pub readable : unreadableFrom text at (n + 1) ≡ unreadableLine text
+
+pub filling-none : (text table : List ℕ) → Filling text table 0 0
+filling-none text table = record { pace = omega arith; within = omega arith; read = start-forms text; readable = start-unreadable text }
+
+map-append : (f : ℕ → Form) (xs ys : List ℕ) → map f (xs ++ ys) ≡ map f xs ++ map f ys
+map-append f [] ys = refl
+map-append f (x ∷ xs) ys = ap (λ l. f x ∷ l) (map-append f xs ys)
+
+module _ (text table : List ℕ) (at n : ℕ) (q : Line) (s : Filling text table at n) (e : q ≡ lineAt text at (n + 1)) where
+  pub filling-more : (f : Form) (next w : ℕ) (table₀ : List ℕ) → q ≡ Read f next → w ≡ codeOf f → length text ≤ 32768 → 16384 ≤ length table₀ → length table ≡ length table₀
+      → at < length text → Filling text (set table n w) next (n + 1)
+  filling-more f next w table₀ g k a b c h =
+      let room : n < length table = omega arith in
+      let form : formAt w ≡ f = ap formAt k ∙ form-of-code f (omega (arith, next-small text at (n + 1) q e f next g)) in
+      let one : tableForms (take (n + 1) (set table n w)) ≡ tableForms (take n table) ++ (f ∷ []) =
+      rw (add-one, take-suc-set table n w room, map-append formAt (take n table) (w ∷ []), form) in
+      record {
+        pace = omega (arith, next-later text at (n + 1) q e f next g);
+        within = next-within text at (n + 1) q e f next g;
+        read = ap (λ l. l ++ formsFrom text next) one ∙ append-snoc (tableForms (take n table)) f (formsFrom text next)
+            ∙ ap (λ l. tableForms (take n table) ++ l) (next-forms text at (n + 1) q e f next g (formsFrom text at) refl) ∙ s .read;
+        readable = next-unreadable text at (n + 1) q e f next g (unreadableLine text) (s .readable);
+      }
+
+  pub filling-refused : (r l : ℕ) (x : Reading) → at < length text → q ≡ line.Refused r l → x ≡ handedOn q → Tabled (refusedAt 3 (unreadableLine text)) text x table
+  unfolding readingOf
+  filling-refused r l x h g k =
+      let u : some l ≡ unreadableLine text = refused-line text at (n + 1) q e r l h g (unreadableLine text) (s .readable) in
+      record {
+        answer = k ∙ ap handedOn g ∙ ap (λ i. Refused i l) (refused-rule text at (n + 1) q e r l h g)
+            ∙ ap (λ o. readingOf (refusedAt 3 o) (length (formsOf text))) u;
+        forms = λ none-refused. absurd (Option·none-ne-some _ (sym (rw (← u) at none-refused)));
+      }
+
+pub filling-done : (text table table₀ : List ℕ) (at n : ℕ) → Filling text table at n → length text ≤ at → length text ≤ 32768 → 16384 ≤ length table₀ → length table ≡ length table₀
+    → Tabled (refusedAt 3 (unreadableLine text)) text (Accepted n) table
+unfolding readingOf
+filling-done text table table₀ at n s h a b c =
+    let e : none ≡ unreadableLine text = ended-readable text at (n + 1) h (unreadableLine text) (s .readable) in
+    let f : tableForms (take n table) ≡ formsOf text =
+    sym (append-nil (tableForms (take n table))) ∙ ap (λ l. tableForms (take n table) ++ l) (ended-forms text at (n + 1) h (formsFrom text at) refl) ∙ s .read in
+    let k : length (formsOf text) ≡ n = ap length (sym f) ∙ length-map (take n table) formAt ∙ length-take-le n table (omega arith) in
+    record { answer = rw (← e, k); forms = λ _. rw k f }
+
+-- an answer that accepts
+accepted-none : (a : Option Refusal) (m n : ℕ) → readingOf a m ≡ Accepted n → a ≡ none
+unfolding readingOf
+accepted-none none m n e = refl
+accepted-none (some r) m n e = let z : _≡_ {A = ℕ} 0 1 = cc in absurd (omega arith)
+
+accepted-count : (a : Option Refusal) (m n : ℕ) → readingOf a m ≡ Accepted n → n ≡ m
+unfolding readingOf
+accepted-count none m n e = cc
+accepted-count (some r) m n e = let z : _≡_ {A = ℕ} 0 1 = cc in absurd (omega arith)
+
+-- ---- the rules 2, 3, and then those over the table
+
+pub plan-long : (text table : List ℕ) → 32768 < length text → Tabled (readerRefusal text) text (Refused 2 0) table
+unfolding readerRefusal tooLong readingOf
+plan-long text table h = rw (lt-ltb 32768 (length text) h) (record { answer = refl; forms = λ e. absurd (Option·none-ne-some _ (sym e)) })
+
+-- of a text that is not too long the first rule is 3
+from-rule-3 : (text : List ℕ) → length text ≤ 32768 → readerRefusal text ≡ orElse (refusedAt 3 (unreadableLine text)) (formsRefusal (formsOf text))
+unfolding readerRefusal tooLong
+from-rule-3 text h = rw (le-ltb 32768 (length text) h)
+
+none-first : (a b : Option Refusal) → orElse a b ≡ none → a ≡ none
+none-first none b e = refl
+none-first (some r) b e = e
+
+module _ (text table : List ℕ) (q : Reading) (t : Tabled (refusedAt 3 (unreadableLine text)) text q table) (h : length text ≤ 32768) where
+  pub plan-unreadable : (x y : ℕ) → q ≡ Refused x y → Tabled (readerRefusal text) text q table
+  plan-unreadable x y g = record {
+    answer = rw (from-rule-3 text h) (first-refuses (refusedAt 3 (unreadableLine text)) (formsRefusal (formsOf text)) q (length (formsOf text)) x y (t .answer) g);
+    forms = λ e. t .forms (none-first (refusedAt 3 (unreadableLine text)) (formsRefusal (formsOf text)) (sym (from-rule-3 text h) ∙ e));
+  }
+
+  module _ (n : ℕ) (g : q ≡ Accepted n) where
+    pub plan-count : n ≡ length (formsOf text)
+    plan-count = accepted-count (refusedAt 3 (unreadableLine text)) (length (formsOf text)) n (sym (t .answer) ∙ g)
+
+    pub plan-room : (table₀ : List ℕ) → 16384 ≤ length table₀ → length table ≡ length table₀ → n ≤ length table
+    plan-room table₀ a b = omega (arith, plan-count, few-forms text)
+
+    part-length : length (take (n - 0) table) ≤ 16384
+    part-length = rw (length-take) (omega (arith, plan-count, few-forms text))
+
+    pub part-small : length (take (n - 0) table) < 65536
+    part-small = omega (arith, part-length)
+
+    pub part-fits : (stack : List ℕ) → 16384 ≤ length stack → length (take (n - 0) table) ≤ length stack
+    part-fits stack a = omega (arith, part-length)
+
+    pub plan-readable : (r : Reading) → r ≡ readingOf (formsRefusal (tableForms (take (n - 0) table))) (length (take (n - 0) table))
+        → Tabled (readerRefusal text) text r table
+    plan-readable r e =
+        let z : n - 0 ≡ length (formsOf text) = omega (arith, plan-count) in
+        let none-refused : refusedAt 3 (unreadableLine text) ≡ none = accepted-none (refusedAt 3 (unreadableLine text)) (length (formsOf text)) n (sym (t .answer) ∙ g) in
+        let fs : tableForms (take (n - 0) table) ≡ formsOf text = rw z (t .forms none-refused) in
+        let len : length (take (n - 0) table) ≡ length (formsOf text) = sym (length-map (take (n - 0) table) formAt) ∙ ap length fs in
+        record { answer = rw (from-rule-3 text h, none-refused) (e ∙ rw (fs, len)); forms = λ _. t .forms none-refused }

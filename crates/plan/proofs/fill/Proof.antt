@@ -1,0 +1,85 @@
+use borrow.Author.Needs.{needs}
+use Prim.Native.Nat.{_-_, _≤_}
+use mathlib.Core.Path.{_≡_}
+use lib.ListN.{length}
+use Rattle.text.proofs.Reading.{next-less}
+use Rattle.plan.proofs.Filling.{Filling, filling-none, filling-more, filling-refused, filling-done}
+use Rattle.plan.proofs.fill.Statement.{statement}
+use Rattle.plan.proofs.fill.Tie as tie
+
+abbrev Inv-loop : tie.InvT-loop
+Inv-loop text table₀ at₀ n₀ table at n = (length text ≤ 32768) × (16384 ≤ length table₀) × (length table ≡ length table₀) × Filling text table at n
+
+abbrev μ-loop : tie.MeasureT-loop
+μ-loop text table₀ at₀ n₀ table at n = length text - at
+
+loop-holds : tie.Need-loop-holds Inv-loop μ-loop
+loop-holds c = search (filling-none, needs)
+
+add-read-line : tie.Need-add-read-line Inv-loop μ-loop
+add-read-line c = search needs
+
+read-line-requires : tie.Need-read-line-requires Inv-loop μ-loop
+read-line-requires c κs = search needs
+
+enum-known-line : tie.Need-enum-known-line Inv-loop μ-loop
+enum-known-line c = search needs
+
+enum-told : tie.Need-enum-told Inv-loop μ-loop
+enum-told c = search needs
+
+handed-on-requires : tie.Need-handed-on-requires Inv-loop μ-loop
+handed-on-requires c κs = search needs
+
+same-length : tie.Need-same-length Inv-loop μ-loop
+same-length c = search needs
+
+returns : tie.Need-returns Inv-loop μ-loop
+returns c = search (filling-refused, needs)
+
+code-of-requires : tie.Need-code-of-requires Inv-loop μ-loop
+code-of-requires c κs = search needs
+
+mul-table : tie.Need-mul-table Inv-loop μ-loop
+mul-table c = search needs
+
+slice-write-table : tie.Need-slice-write-table Inv-loop μ-loop
+slice-write-table c = search needs
+
+add-n : tie.Need-add-n Inv-loop μ-loop
+add-n c = search needs
+
+loop-less : tie.Need-loop-less Inv-loop μ-loop
+loop-less c = search (next-less, needs)
+
+loop-again : tie.Need-loop-again Inv-loop μ-loop
+loop-again c = search (filling-more, needs)
+
+same-length-2 : tie.Need-same-length-2 Inv-loop μ-loop
+same-length-2 c = search needs
+
+returns-2 : tie.Need-returns-2 Inv-loop μ-loop
+returns-2 c = search (filling-done, needs)
+
+pub fill-spec : {M : Type 1} → statement M
+fill-spec =
+    tie.close
+    (tie.spec
+    Inv-loop
+    μ-loop
+    loop-holds
+    add-read-line
+    read-line-requires
+    enum-known-line
+    enum-told
+    handed-on-requires
+    same-length
+    returns
+    code-of-requires
+    mul-table
+    slice-write-table
+    add-n
+    loop-less
+    loop-again
+    same-length-2
+    returns-2)
