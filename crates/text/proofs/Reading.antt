@@ -149,6 +149,10 @@ module _ (text : List ℕ) (at line : ℕ) (q : Line) (e : q ≡ lineAt text at 
     pub next-within : next ≤ length text
     next-within = read-form text at line f next (sym e ∙ g) .within
 
+    -- a count of the lines that were read stays at most half the place
+    pub next-count : (n : ℕ) → n * 2 ≤ at → (n + 1) * 2 ≤ next
+    next-count n h = omega (arith, next-later)
+
     -- what is left of the text falls
     pub next-less : length text - next < length text - at
     next-less = let r = read-form text at line f next (sym e ∙ g) in omega arith
