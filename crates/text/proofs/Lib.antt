@@ -1,4 +1,4 @@
--- The definitions in the shape of the functions' needs.
+-- The definitions in the shape of the functions' needs; forms and the lines in which they are written; texts and their lines; a text read line after line.
 pub mod Laws
 pub mod Written
 pub mod Splits

@@ -17,9 +17,9 @@ use Rattle.text.specs.declared.Kind.{Kind}
 use Rattle.text.specs.declared.Kind.the-variants.{Known, Unknown}
 use Rattle.text.specs.declared.Line.{Line}
 use Rattle.text.specs.declared.Line.the-variants.{Read, Refused}
-use Rattle.text.specs.Forms.{write, numberIn, IsForm}
+use Rattle.text.specs.Forms.{numberIn}
 use Rattle.text.specs.Kinds.{kindOf}
-use Rattle.text.specs.Lines.{lineLength, lineAnswer, lineAt, Split, split, consForm, formsIn, formsOf, unended, unknownOr, unreadable, unreadableLine}
+use Rattle.text.specs.Lines.{lineLength, lineAnswer, lineAt, Split, split, consForm, formsIn, formsOf, unknownOr, unreadable}
 use Rattle.text.proofs.Written.{kind-written, write-some}
 use Rattle.text.proofs.Splits.{split-line, split-tail, few-forms}
 
@@ -120,15 +120,6 @@ module _ (text : List ℕ) (at line : ℕ) where
 
 -- The same in the shape of a loop's needs: q is what `read_line` answered.
 
--- where the loop begins
-pub start-forms : (text : List ℕ) → formsFrom text 0 ≡ formsOf text
-unfolding formsOf
-start-forms text = refl
-
-pub start-unreadable : (text : List ℕ) → unreadableFrom text 0 1 ≡ unreadableLine text
-unfolding unreadableLine
-start-unreadable text = refl
-
 -- the forms from a place on, at most one for two bytes
 pub few-from : (text : List ℕ) (at : ℕ) → at ≤ length text → at + length (formsFrom text at) * 2 ≤ length text
 unfolding formsOf
@@ -148,6 +139,10 @@ module _ (text : List ℕ) (at line : ℕ) (q : Line) (e : q ≡ lineAt text at 
 
     pub next-within : next ≤ length text
     next-within = read-form text at line f next (sym e ∙ g) .within
+
+    -- a count of the lines that were read stays at most half the place
+    pub next-count : (n : ℕ) → n * 2 ≤ at → (n + 1) * 2 ≤ next
+    next-count n h = omega (arith, next-later)
 
     -- what is left of the text falls
     pub next-less : length text - next < length text - at

@@ -1,12 +1,12 @@
 -- A text cut at each byte 10: joining the parts gives the text again, and cutting a joined text gives the parts. A text without an unreadable line is the text of
 -- its forms, and the text of forms is read as those forms.
-use Prim.Native.Nat.{ℕ, suc, _+_, _*_, _<_, _≤_}
+use Prim.Native.Nat.{ℕ, suc, _*_, _<_, _≤_}
 use native.Mathlib.Omega.{arith}
 use mathlib.Core.Path.{_≡_, refl, sym, ap, subst, _∙_}
-use mathlib.Core.Logic.{_↔_, _⊎_, ⊎-elim}
+use mathlib.Core.Logic.{_↔_, ⊎-elim}
 use mathlib.Core.Bool.{Bool, true, false}
 use mathlib.Core.List.{List, [], _∷_, _++_, List·Memᴰ, List·Memᴰ·head, List·Memᴰ·tail, List·Memᴰ·not-nil, List·Memᴰ·cases-cons}
-use mathlib.Core.Option.{Option, none, some}
+use mathlib.Core.Option.{none}
 use lib.ListN.{length, take, drop, length-append}
 use lib.Dec.{eqb}
 use borrow.Author.Tests.{eqb-true, ne-eqb}
@@ -14,9 +14,9 @@ use Rattle.laws.specs.Choice.{if}
 use Rattle.text.specs.declared.Form.{Form}
 use Rattle.text.specs.declared.Kind.{Kind}
 use Rattle.text.specs.declared.Kind.the-variants.{Known, Unknown}
-use Rattle.text.specs.Forms.{write, numberIn, IsForm}
+use Rattle.text.specs.Forms.{write, numberIn}
 use Rattle.text.specs.Kinds.{kindOf}
-use Rattle.text.specs.Lines.{lineLength, Split, pushByte, split, consForm, formsIn, formsOf, unended, unknownOr, unreadable, unreadableLine, textOf, IsText}
+use Rattle.text.specs.Lines.{lineLength, Split, pushByte, split, consForm, formsIn, formsOf, unknownOr, unreadable, unreadableLine, textOf, IsText}
 use Rattle.text.proofs.Written.{kind-written, write-some, write-unbroken}
 
 -- the first line and the rest

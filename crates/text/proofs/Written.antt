@@ -4,13 +4,13 @@ use Prim.Native.Nat.{ℕ, suc, _+_, _-_, _*_, _/_, _%_, _<_, _≤_}
 use native.Mathlib.Omega.{arith}
 use native.Mathlib.Nat.{sub-zero}
 use mathlib.Core.Path.{_≡_, refl, sym, ap, subst, _∙_}
-use mathlib.Core.Logic.{_↔_, _⊎_, inl, inr, ⊎-elim}
+use mathlib.Core.Logic.{_↔_, ⊎-elim}
 use mathlib.Core.Bool.{Bool, true, false, not, _&&_}
 use mathlib.Core.List.{List, [], _∷_, _++_, List·Memᴰ, List·Memᴰ·not-nil, List·Memᴰ·cases-cons, List·Memᴰ·append-cases}
 use lib.ListN.{length, getD, take, drop, length-append, length-drop, take-append-drop, drop-of-length-le}
 use lib.Seq.{take-all, take-length, take-append-seam, drop-append-seam, getD-append-seam, split-at}
 use lib.Dec.{T, eqb, ltb, T-not}
-use borrow.Author.Tests.{eq-eqb, ne-eqb, lt-ltb, le-ltb, eqb-true, ltb-true, ltb-false}
+use borrow.Author.Tests.{ne-eqb, lt-ltb, le-ltb, eqb-true, ltb-false}
 use Rattle.laws.specs.Choice.{if, pick}
 use Rattle.laws.specs.Bytes.{bytes, equal}
 use Rattle.laws.proofs.Bytes.{equal-refl, equal-is}
@@ -168,8 +168,7 @@ number-decimal n h = ⊎-elim one (λ (g : 10 ≤ n). ⊎-elim (two g) three (lt
         let e : (n / 100 * 10 + n / 10 % 10) * 10 + n % 10 ≡ n = omega arith in
         subst (λ m. numberOf (decimal m) ≡ Is m) e (number-three (n / 100) (n / 10 % 10) (n % 10) (omega arith) (omega arith) (omega arith) (omega arith))
 
--- no number, and no form
-
+-- no number is none
 no-number : {P : Type 0} (n : ℕ) → Not ≡ Is n → P
 no-number n e = let z : _≡_ {A = ℕ} 0 1 = cc in absurd (omega arith)
 

@@ -1,7 +1,7 @@
 -- The kind of a line as a decision over its first letters and its digits. That it finds exactly the lines that are written forms is the theorem `kind-written`.
 -- 01, "The plan text": "A line's kind follows from its bytes alone; its place is judged afterwards."
 use Prim.Native.Nat.{ℕ, _+_, _-_, _*_}
-use mathlib.Core.List.{List, [], _∷_}
+use mathlib.Core.List.{List}
 use lib.Dec.{eqb, ltb}
 use lib.ListN.{length, getD, take, drop}
 use Rattle.laws.specs.Choice.{if, pick}

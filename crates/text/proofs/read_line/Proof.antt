@@ -1,6 +1,8 @@
 -- The three ways out are the cases of `lineAt`: past the text, a line that is not ended, and a line with its kind.
 use Rattle.text.proofs.Laws.{line-past, line-unended, line-ended}
 use borrow.Author.Needs.{needs}
+use native.Mathlib.Omega.{arith}
+use mathlib.Core.Path.{refl}
 use Rattle.text.proofs.read_line.Statement.{statement}
 use Rattle.text.proofs.read_line.Tie as tie
 
@@ -11,7 +13,7 @@ line-end-requires : tie.Need-line-end-requires
 line-end-requires c κs = search needs
 
 returns-2 : tie.Need-returns-2
-returns-2 c = search (line-unended, needs)
+returns-2 c = let end = c .before .line-end in line-unended _ _ _ _ (end .result) (end .ensures) (omega arith) refl
 
 sub-kind-of : tie.Need-sub-kind-of
 sub-kind-of c = search needs
