@@ -1,0 +1,4 @@
+-- The tree of a plan and its forms.
+pub mod Trees
+-- The machine of rule 4.
+pub mod States
