@@ -2,3 +2,5 @@
 pub mod Trees
 -- The machine of rule 4.
 pub mod States
+pub mod Accepts
+pub mod Denotes
