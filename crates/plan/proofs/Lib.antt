@@ -4,3 +4,4 @@ pub mod Trees
 pub mod States
 pub mod Accepts
 pub mod Denotes
+pub mod FirstMisplaced
