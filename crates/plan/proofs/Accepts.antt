@@ -13,9 +13,46 @@ use Rattle.semantics.specs.Plan.{Block, done, skip, call, hold, loop, either, e
 use Rattle.plan.specs.Grammar.{blockForms, procForms, threadForms, forms, Grammatical}
 use Rattle.plan.specs.Structure.{misplaced, misplacedLine}
 use Rattle.plan.proofs.Trees.{later-blocks}
-use Rattle.plan.proofs.States.{Bracket, statement, one, two, State, initial, first-proc, next-proc, next-thread, finished, in-block, needs-one, needs-two,
-    ends-either, modeOf, brackets, stackOf, misplacedFrom, Step, begins-plan, first, next, first-thread, more-threads, ends-plan, skips, calls, holds, loops, chooses,
-    begins-one, begins-two, ends-proc, ends-statement, ends-one, ends-two, ends-choice, after-step}
+use Rattle.plan.proofs.States.{
+  Bracket,
+  statement,
+  one,
+  two,
+  State,
+  initial,
+  first-proc,
+  next-proc,
+  next-thread,
+  finished,
+  in-block,
+  needs-one,
+  needs-two,
+  ends-either,
+  modeOf,
+  brackets,
+  stackOf,
+  misplacedFrom,
+  Step,
+  begins-plan,
+  first,
+  next,
+  first-thread,
+  more-threads,
+  ends-plan,
+  skips,
+  calls,
+  holds,
+  loops,
+  chooses,
+  begins-one,
+  begins-two,
+  ends-proc,
+  ends-statement,
+  ends-one,
+  ends-two,
+  ends-choice,
+  after-step,
+}
 
 -- no form is misplaced and the text does not end too early, whatever the number of the first line
 abbrev pub Accepts : State → List Form → Type 0
@@ -60,7 +97,7 @@ accepts-plan [] ns h k w = absurd (omega arith)
 accepts-plan (b ∷ bs) [] h k w = absurd (omega arith)
 accepts-plan (b ∷ bs) (n ∷ ns) h k w =
     accepts-step first _ (accepts-block b false (w 0 (omega arith)) [] _ (accepts-step ends-proc _
-      (accepts-procs bs _ (later-blocks b bs w) (accepts-step first-thread _ (accepts-threads ns)))))
+    (accepts-procs bs _ (later-blocks b bs w) (accepts-step first-thread _ (accepts-threads ns)))))
 
 pub forms-accepted : (plan : LockPlan) → Grammatical plan → misplacedLine (forms plan) ≡ none
 unfolding forms misplacedLine modeOf stackOf

@@ -14,9 +14,46 @@ use Rattle.semantics.specs.Plan.{Block, done, skip, call, hold, loop, either, e
 use Rattle.plan.specs.Grammar.{blockForms, procForms, threadForms, forms, Grammatical, planIn}
 use Rattle.plan.specs.Structure.{misplaced, misplacedLine}
 use Rattle.plan.proofs.Trees.{plan-of-forms}
-use Rattle.plan.proofs.States.{Bracket, statement, one, two, State, initial, first-proc, next-proc, next-thread, finished, in-block, needs-one, needs-two,
-    ends-either, modeOf, stackOf, misplacedFrom, Step, begins-plan, first, next, first-thread, more-threads, ends-plan, skips, calls, holds, loops, chooses,
-    begins-one, begins-two, ends-proc, ends-statement, ends-one, ends-two, ends-choice, after-step, step-or-refused}
+use Rattle.plan.proofs.States.{
+  Bracket,
+  statement,
+  one,
+  two,
+  State,
+  initial,
+  first-proc,
+  next-proc,
+  next-thread,
+  finished,
+  in-block,
+  needs-one,
+  needs-two,
+  ends-either,
+  modeOf,
+  stackOf,
+  misplacedFrom,
+  Step,
+  begins-plan,
+  first,
+  next,
+  first-thread,
+  more-threads,
+  ends-plan,
+  skips,
+  calls,
+  holds,
+  loops,
+  chooses,
+  begins-one,
+  begins-two,
+  ends-proc,
+  ends-statement,
+  ends-one,
+  ends-two,
+  ends-choice,
+  after-step,
+  step-or-refused,
+}
 use Rattle.plan.proofs.Accepts.{forms-accepted}
 
 -- f, and then what K says
@@ -83,11 +120,11 @@ module _ (K : List Form → Type 0) (fs : List Form) where
     hold-front l w =
         let r = w .goes-on in
         record {
-          block = hold l (w .block) (r .block)
-          ; well = (w .well, r .well)
-          ; later = r .later
-          ; split = ap (λ x. Hold l ∷ x) (w .split ∙ ap (λ x. blockForms (w .block) (Close ∷ x)) (r .split))
-          ; goes-on = r .goes-on
+          block = hold l (w .block) (r .block);
+          well = (w .well, r .well);
+          later = r .later;
+          split = ap (λ x. Hold l ∷ x) (w .split ∙ ap (λ x. blockForms (w .block) (Close ∷ x)) (r .split));
+          goes-on = r .goes-on;
         }
 
     loop-front : Within false (Within true K) fs → Within empty K (Loop ∷ fs)
@@ -95,11 +132,11 @@ module _ (K : List Form → Type 0) (fs : List Form) where
     loop-front w =
         let r = w .goes-on in
         record {
-          block = loop (w .block) (r .block)
-          ; well = (w .well, r .well)
-          ; later = r .later
-          ; split = ap (λ x. Loop ∷ x) (w .split ∙ ap (λ x. blockForms (w .block) (Close ∷ x)) (r .split))
-          ; goes-on = r .goes-on
+          block = loop (w .block) (r .block);
+          well = (w .well, r .well);
+          later = r .later;
+          split = ap (λ x. Loop ∷ x) (w .split ∙ ap (λ x. blockForms (w .block) (Close ∷ x)) (r .split));
+          goes-on = r .goes-on;
         }
 
     either-front : Follows One (Within false (Follows Two (Within false (Follows Close (Within true K))))) fs → Within empty K (Either ∷ fs)
@@ -109,12 +146,12 @@ module _ (K : List Form → Type 0) (fs : List Form) where
         let b = a .goes-on .goes-on in
         let r = b .goes-on .goes-on in
         record {
-          block = either (a .block) (b .block) (r .block)
-          ; well = (a .well, b .well, r .well)
-          ; later = r .later
-          ; split = ap (λ x. Either ∷ x) (w .split ∙ ap (λ x. One ∷ x) (a .split ∙ ap (λ x. blockForms (a .block) (Close ∷ x)) (a .goes-on .split
-            ∙ ap (λ x. Two ∷ x) (b .split ∙ ap (λ x. blockForms (b .block) (Close ∷ x)) (b .goes-on .split ∙ ap (λ x. Close ∷ x) (r .split))))))
-          ; goes-on = r .goes-on
+          block = either (a .block) (b .block) (r .block);
+          well = (a .well, b .well, r .well);
+          later = r .later;
+          split = ap (λ x. Either ∷ x) (w .split ∙ ap (λ x. One ∷ x) (a .split ∙ ap (λ x. blockForms (a .block) (Close ∷ x)) (a .goes-on .split
+              ∙ ap (λ x. Two ∷ x) (b .split ∙ ap (λ x. blockForms (b .block) (Close ∷ x)) (b .goes-on .split ∙ ap (λ x. Close ∷ x) (r .split))))));
+          goes-on = r .goes-on;
         }
 
 proc-front : (least : ℕ) → least ≤ 1 → (fs : List Form) → Within false (Procs 0) fs → Procs least (Proc ∷ fs)
@@ -122,12 +159,12 @@ unfolding procForms bodyIn
 proc-front least h fs w =
     let k = w .goes-on in
     record {
-      procs = w .block ∷ k .procs
-      ; threads = k .threads
-      ; enough = omega arith
-      ; some-thread = k .some-thread
-      ; blocks = each (w .block) (k .procs) (w .well) (k .blocks)
-      ; split = ap (λ x. Proc ∷ x) (w .split ∙ ap (λ x. blockForms (w .block) (Close ∷ x)) (k .split))
+      procs = w .block ∷ k .procs;
+      threads = k .threads;
+      enough = omega arith;
+      some-thread = k .some-thread;
+      blocks = each (w .block) (k .procs) (w .well) (k .blocks);
+      split = ap (λ x. Proc ∷ x) (w .split ∙ ap (λ x. blockForms (w .block) (Close ∷ x)) (k .split));
     }
   where
     each : (b : Block) (bs : List Block) → WellFormed false b → ((p : ℕ) → p < length bs → WellFormed false (bodyIn bs p))
@@ -141,12 +178,12 @@ rest-step begins-plan fs r = follows (Procs 1) fs Plan r
 rest-step first fs r = proc-front 1 (omega arith) fs r
 rest-step next fs r = proc-front 0 (omega arith) fs r
 rest-step (first-thread {n}) fs r = record {
-  procs = []
-  ; threads = n ∷ r .0
-  ; enough = omega arith
-  ; some-thread = omega arith
-  ; blocks = λ p h. absurd (omega arith)
-  ; split = ap (λ x. Thread n ∷ x) (r .1)
+  procs = [];
+  threads = n ∷ r .0;
+  enough = omega arith;
+  some-thread = omega arith;
+  blocks = λ p h. absurd (omega arith);
+  split = ap (λ x. Thread n ∷ x) (r .1);
 }
 rest-step (more-threads {n}) fs r = (n ∷ r .0, ap (λ x. Thread n ∷ x) (r .1))
 rest-step ends-plan fs r = ([], ap (λ x. Close ∷ x) r)
@@ -196,9 +233,9 @@ accepted-plan fs h =
     let r : Follows Plan (Procs 1) fs = accepted-rest fs initial 1 h in
     let k = r .goes-on in
     record {
-      plan = record { procs = k .procs; threads = k .threads }
-      ; grammatical = record { some-procedure = k .enough; some-thread = k .some-thread; blocks = k .blocks }
-      ; written = r .split ∙ ap (λ x. Plan ∷ x) (k .split)
+      plan = record { procs = k .procs; threads = k .threads };
+      grammatical = record { some-procedure = k .enough; some-thread = k .some-thread; blocks = k .blocks };
+      written = r .split ∙ ap (λ x. Plan ∷ x) (k .split);
     }
 
 pub plan-accepted : (fs : List Form) → IsPlan fs → misplacedLine fs ≡ none
@@ -215,6 +252,7 @@ accepted-denotes fs h =
 
 -- Rule 4, "the text's structure": no line is misplaced in the text of a plan that the grammar has, and in no other
 pub structure-plan : (fs : List Form) (plan : LockPlan) → ((misplacedLine fs ≡ none) × (planIn fs ≡ plan)) ↔ (Grammatical plan × (fs ≡ forms plan))
-structure-plan fs plan =
-    (λ h. rw (h .1) at (accepted-denotes fs (h .0))
-    , λ h. let x : IsPlan fs = record { plan = plan; grammatical = h .0; written = h .1 } in (plan-accepted fs x, planIn-written fs x))
+structure-plan fs plan = (
+  λ h. rw (h .1) at (accepted-denotes fs (h .0)),
+  λ h. let x : IsPlan fs = record { plan = plan; grammatical = h .0; written = h .1 } in (plan-accepted fs x, planIn-written fs x),
+)

@@ -14,9 +14,46 @@ use Rattle.laws.specs.Choice.{if}
 use Rattle.laws.proofs.Tests.{lt-or-le}
 use Rattle.text.specs.declared.Form.{Form}
 use Rattle.plan.specs.Structure.{complete, misplaced, misplacedLine}
-use Rattle.plan.proofs.States.{Bracket, statement, one, two, State, initial, first-proc, next-proc, next-thread, finished, in-block, needs-one, needs-two,
-    ends-either, modeOf, stackOf, misplacedFrom, Step, begins-plan, first, next, first-thread, more-threads, ends-plan, skips, calls, holds, loops, chooses,
-    begins-one, begins-two, ends-proc, ends-statement, ends-one, ends-two, ends-choice, after-step, step-or-refused}
+use Rattle.plan.proofs.States.{
+  Bracket,
+  statement,
+  one,
+  two,
+  State,
+  initial,
+  first-proc,
+  next-proc,
+  next-thread,
+  finished,
+  in-block,
+  needs-one,
+  needs-two,
+  ends-either,
+  modeOf,
+  stackOf,
+  misplacedFrom,
+  Step,
+  begins-plan,
+  first,
+  next,
+  first-thread,
+  more-threads,
+  ends-plan,
+  skips,
+  calls,
+  holds,
+  loops,
+  chooses,
+  begins-one,
+  begins-two,
+  ends-proc,
+  ends-statement,
+  ends-one,
+  ends-two,
+  ends-choice,
+  after-step,
+  step-or-refused,
+}
 use Rattle.plan.proofs.Accepts.{Accepts, accepts-step}
 use Rattle.plan.proofs.Denotes.{IsPlan, accepted-plan, plan-accepted}
 
@@ -88,12 +125,12 @@ refuses-here fs s line n e h =
 
 refuses-later : {s t : State} {f : Form} → Step s f t → (fs : List Form) (line n : ℕ) → Refuses t (suc line) fs n → Refuses s line (f ∷ fs) n
 refuses-later x fs line n r = record {
-  place = suc (r .place)
-  ; at = omega (arith, r .at)
-  ; within = omega (arith, r .within)
-  ; rest = r .rest
-  ; completed = after-step x line (take (r .place) fs ++ r .rest) ∙ r .completed
-  ; refused = λ h gs. after-step x line (take (suc (r .place)) fs ++ gs) ∙ r .refused (omega arith) gs
+  place = suc (r .place);
+  at = omega (arith, r .at);
+  within = omega (arith, r .within);
+  rest = r .rest;
+  completed = after-step x line (take (r .place) fs ++ r .rest) ∙ r .completed;
+  refused = λ h gs. after-step x line (take (suc (r .place)) fs ++ gs) ∙ r .refused (omega arith) gs;
 }
 
 ended : (line n : ℕ) (b : Bool) → if b none (some line) ≡ some n → line ≡ n
@@ -106,8 +143,8 @@ refuses [] s line n h = refuses-here [] s line n (ended line n (eqb (modeOf s) c
 refuses (f ∷ fs) s line n h =
     ⊎-elim (λ (x : (t : State) × Step s f t). refuses-later (x .1) fs line n (refuses fs (x .0) (suc line) n (sym (after-step (x .1) line fs) ∙ h)))
     (λ (no-place : (line : ℕ) (fs : List Form) → misplacedFrom s line (f ∷ fs) ≡ some line).
-      let e : line ≡ n = Option·some-injective line n (sym (no-place line fs) ∙ h) in
-      refuses-here (f ∷ fs) s line n e (λ k gs. no-place line gs ∙ ap {B = Option ℕ} some e))
+    let e : line ≡ n = Option·some-injective line n (sym (no-place line fs) ∙ h) in
+    refuses-here (f ∷ fs) s line n e (λ k gs. no-place line gs ∙ ap {B = Option ℕ} some e))
     (step-or-refused s f)
 
 -- what begins a plan does so up to each line
@@ -128,10 +165,10 @@ module _ (fs : List Form) (n : ℕ) (r : Refuses initial 1 fs n) where
       let here : n ≡ suc (r .place) = omega (arith, r .at) in
       let before-it : n - 1 ≡ r .place = omega arith in
       record {
-        from-one = omega arith
-        ; present = omega arith
-        ; before = rw before-it begun-there
-        ; with-it = λ b. never-accepted (take (suc (r .place)) fs ++ b .0) n (r .refused k (b .0)) (subst (λ i. IsPlan (take i fs ++ b .0)) here (b .1))
+        from-one = omega arith;
+        present = omega arith;
+        before = rw before-it begun-there;
+        with-it = λ b. never-accepted (take (suc (r .place)) fs ++ b .0) n (r .refused k (b .0)) (subst (λ i. IsPlan (take i fs ++ b .0)) here (b .1));
       }
 
   ends-early : misplacedLine fs ≡ some n → length fs ≤ r .place → EndsEarly fs n

@@ -5,3 +5,8 @@ pub mod States
 pub mod Accepts
 pub mod Denotes
 pub mod FirstMisplaced
+-- Rules 5 to 8.
+pub mod Kept
+pub mod Sound
+-- A form as a word of a table.
+pub mod Codes
