@@ -69,53 +69,63 @@ module _ (n t : ℕ) where
   recount : (s s′ o o′ : ℕ) (fs : List Form) → s ≡ s′ → o ≡ o′ → Kept (counts n s t o) fs → Kept (counts n s′ t o′) fs
   recount s s′ o o′ fs p q k = rw (← p, ← q) k
 
-  kept-block : (b : Block) (empty : Bool) → WellFormed empty b → (s o : ℕ) (fs : List Form) → o ≤ 16 → Kept (counts n s t o) (blockForms b fs) → KeptBlock s o b fs
-  unfolding Kept blockForms WellFormed Written statements nesting counted lockAbove callAbove
-  kept-block done empty w s o fs h k = record { written = tt; nested = omega arith; later = recount s (s + 0) o o fs (omega arith) refl k }
-  kept-block (skip r) empty w s o fs h k =
-      let x = kept-block r true w (s + 1) o fs h (k .1) in
+  abbrev Reads : Block → Type 0
+  Reads b = (s o : ℕ) (fs : List Form) → o ≤ 16 → Kept (counts n s t o) (blockForms b fs) → KeptBlock s o b fs
+
+  -- behind the form of a skip or a call
+  kept-simple : (r : Block) → Reads r → (s o : ℕ) (fs : List Form) → o ≤ 16 → Kept (counts n (s + 1) t o) (blockForms r fs) → KeptBlock s o (skip r) fs
+  unfolding Written statements nesting
+  kept-simple r read s o fs h k =
+      let x = read (s + 1) o fs h k in
       record { written = x .written; nested = x .nested; later = recount (s + 1 + statements r) (s + (1 + statements r)) o o fs (omega arith) refl (x .later) }
-  kept-block (call p r) empty w s o fs h k =
-      let x = kept-block r true w (s + 1) o fs h (k .1) in
-      record {
-        written = (leb-false n (p + 1) (k .0 .callee), x .written);
-        nested = x .nested;
-        later = recount (s + 1 + statements r) (s + (1 + statements r)) o o fs (omega arith) refl (x .later);
-      }
-  kept-block (hold l b r) empty w s o fs h k =
-      let deeper = within-limits (counts n (s + 1) t (o + 1)) (k .0 .limits) .depth in
+
+  -- behind the form of a loop or a hold
+  kept-bracket : (b r : Block) → Reads b → Reads r → (s o : ℕ) (fs : List Form) → o + 1 ≤ 16
+      → Kept (counts n (s + 1) t (o + 1)) (blockForms b (Close ∷ blockForms r fs)) → KeptBlock s o (loop b r) fs
+  unfolding Kept Written statements nesting counted
+  kept-bracket b r read-b read-r s o fs h k =
       let s₁ = s + 1 + statements b in
-      let x = kept-block b false (w .0) (s + 1) (o + 1) (Close ∷ blockForms r fs) deeper (k .1) in
-      let y = kept-block r true (w .1) s₁ o fs h (recount s₁ s₁ (o + 1 - 1) o (blockForms r fs) refl (omega arith) (x .later .1)) in
-      record {
-        written = (omega (arith, ltb-false 31 l (k .0 .lock)), x .written, y .written);
-        nested = omega (arith, x .nested, y .nested);
-        later = recount (s₁ + statements r) (s + (1 + statements b + statements r)) o o fs (omega arith) refl (y .later);
-      }
-  kept-block (loop b r) empty w s o fs h k =
-      let deeper = within-limits (counts n (s + 1) t (o + 1)) (k .0 .limits) .depth in
-      let s₁ = s + 1 + statements b in
-      let x = kept-block b false (w .0) (s + 1) (o + 1) (Close ∷ blockForms r fs) deeper (k .1) in
-      let y = kept-block r true (w .1) s₁ o fs h (recount s₁ s₁ (o + 1 - 1) o (blockForms r fs) refl (omega arith) (x .later .1)) in
+      let x = read-b (s + 1) (o + 1) (Close ∷ blockForms r fs) h k in
+      let y = read-r s₁ o fs (omega arith) (recount s₁ s₁ (o + 1 - 1) o (blockForms r fs) refl (omega arith) (x .later .1)) in
       record {
         written = (x .written, y .written);
         nested = omega (arith, x .nested, y .nested);
         later = recount (s₁ + statements r) (s + (1 + statements b + statements r)) o o fs (omega arith) refl (y .later);
       }
-  kept-block (either a b r) empty w s o fs h k =
+
+  kept-either : (a b r : Block) → Reads a → Reads b → Reads r → Reads (either a b r)
+  unfolding Kept blockForms Written statements nesting counted
+  kept-either a b r read-a read-b read-r s o fs h k =
       let deeper = within-limits (counts n (s + 1) t (o + 1 + 1)) (k .1 .0 .limits) .depth in
       let s₁ = s + 1 + statements a in
       let s₂ = s₁ + statements b in
-      let ends = Close ∷ Close ∷ blockForms r fs in
-      let x = kept-block a false (w .0) (s + 1) (o + 1 + 1) (Close ∷ Two ∷ blockForms b ends) deeper (k .1 .1) in
-      let y = kept-block b false (w .1) s₁ (o + 1 + 1) ends deeper
-      (recount s₁ s₁ (o + 1 + 1 - 1 + 1) (o + 1 + 1) (blockForms b ends) refl (omega arith) (x .later .1 .1)) in
-      let z = kept-block r true (w .2) s₂ o fs h (recount s₂ s₂ (o + 1 + 1 - 1 - 1) o (blockForms r fs) refl (omega arith) (y .later .1 .1)) in
+      let gs = blockForms r fs in
+      let hs = blockForms b (Close ∷ Close ∷ gs) in
+      let x = read-a (s + 1) (o + 1 + 1) (Close ∷ Two ∷ hs) deeper (k .1 .1) in
+      let y = read-b s₁ (o + 1 + 1) (Close ∷ Close ∷ gs) deeper (recount s₁ s₁ (o + 1 + 1 - 1 + 1) (o + 1 + 1) hs refl (omega arith) (x .later .1 .1)) in
+      let z = read-r s₂ o fs h (recount s₂ s₂ (o + 1 + 1 - 1 - 1) o gs refl (omega arith) (y .later .1 .1)) in
       record {
         written = (x .written, y .written, z .written);
         nested = omega (arith, x .nested, y .nested, z .nested);
         later = recount (s₂ + statements r) (s + (1 + statements a + statements b + statements r)) o o fs (omega arith) refl (z .later);
       }
+
+  kept-block : (b : Block) (empty : Bool) → WellFormed empty b → Reads b
+  unfolding Kept blockForms WellFormed Written statements nesting counted lockAbove callAbove
+  kept-block done empty w s o fs h k = record { written = tt; nested = omega arith; later = recount s (s + 0) o o fs (omega arith) refl k }
+  kept-block (skip r) empty w s o fs h k = kept-simple r (kept-block r true w) s o fs h (k .1)
+  kept-block (call p r) empty w s o fs h k =
+      let x = kept-simple r (kept-block r true w) s o fs h (k .1) in
+      record { written = (leb-false n (p + 1) (k .0 .callee), x .written); nested = x .nested; later = x .later }
+  kept-block (hold l b r) empty w s o fs h k =
+      let deeper = within-limits (counts n (s + 1) t (o + 1)) (k .0 .limits) .depth in
+      let x = kept-bracket b r (kept-block b false (w .0)) (kept-block r true (w .1)) s o fs deeper (k .1) in
+      record { written = (omega (arith, ltb-false 31 l (k .0 .lock)), x .written .0, x .written .1); nested = x .nested; later = x .later }
+  kept-block (loop b r) empty w s o fs h k =
+      let deeper = within-limits (counts n (s + 1) t (o + 1)) (k .0 .limits) .depth in
+      kept-bracket b r (kept-block b false (w .0)) (kept-block r true (w .1)) s o fs deeper (k .1)
+  kept-block (either a b r) empty w s o fs h k =
+      kept-either a b r (kept-block a false (w .0)) (kept-block b false (w .1)) (kept-block r true (w .2)) s o fs h k
   kept-block (end l r) empty w s o fs h k = absurd w
 
 -- what the forms of procedures say, where n procedures and s statements have been read, and the counts behind them

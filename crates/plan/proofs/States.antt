@@ -150,21 +150,29 @@ closing (statement ∷ ks) = steps ends-statement
 closing (one ∷ ks) = steps ends-one
 closing (two ∷ ks) = steps ends-two
 
--- the states by the forms: the plan's line, a procedure's, a thread's, a closing line, then skip, call, hold, loop, either, one and two
+-- The states by the forms: on each first line the plan's line, a procedure's, a thread's and a closing line; then skip, call, hold, loop, either, one and two.
 place : (s : State) (f : Form) → Place s f
 unfolding modeOf stackOf brackets advanceOf onClose closeBlock pick
-place initial = by-form (Place initial) (steps begins-plan) refused (λ n. refused) refused refused (λ n. refused) (λ l. refused) refused refused refused refused
-place first-proc = by-form (Place first-proc) refused (steps first) (λ n. refused) refused refused (λ n. refused) (λ l. refused) refused refused refused refused
-place next-proc = by-form (Place next-proc) refused (steps next) (λ n. steps first-thread) refused refused (λ n. refused) (λ l. refused) refused refused refused refused
-place next-thread = by-form (Place next-thread) refused refused (λ n. steps more-threads) (steps ends-plan) refused (λ n. refused) (λ l. refused) refused refused refused refused
-place finished = by-form (Place finished) refused refused (λ n. refused) refused refused (λ n. refused) (λ l. refused) refused refused refused refused
+place initial = by-form (Place initial) (steps begins-plan) refused (λ n. refused) refused
+    refused (λ n. refused) (λ l. refused) refused refused refused refused
+place first-proc = by-form (Place first-proc) refused (steps first) (λ n. refused) refused
+    refused (λ n. refused) (λ l. refused) refused refused refused refused
+place next-proc = by-form (Place next-proc) refused (steps next) (λ n. steps first-thread) refused
+    refused (λ n. refused) (λ l. refused) refused refused refused refused
+place next-thread = by-form (Place next-thread) refused refused (λ n. steps more-threads) (steps ends-plan)
+    refused (λ n. refused) (λ l. refused) refused refused refused refused
+place finished = by-form (Place finished) refused refused (λ n. refused) refused
+    refused (λ n. refused) (λ l. refused) refused refused refused refused
 place (in-block false ks) = by-form (Place (in-block false ks)) refused refused (λ n. refused) refused
     (steps skips) (λ n. steps calls) (λ l. steps holds) (steps loops) (steps chooses) refused refused
 place (in-block true ks) = by-form (Place (in-block true ks)) refused refused (λ n. refused) (closing ks)
     (steps skips) (λ n. steps calls) (λ l. steps holds) (steps loops) (steps chooses) refused refused
-place (needs-one ks) = by-form (Place (needs-one ks)) refused refused (λ n. refused) refused refused (λ n. refused) (λ l. refused) refused refused (steps begins-one) refused
-place (needs-two ks) = by-form (Place (needs-two ks)) refused refused (λ n. refused) refused refused (λ n. refused) (λ l. refused) refused refused refused (steps begins-two)
-place (ends-either ks) = by-form (Place (ends-either ks)) refused refused (λ n. refused) (steps ends-choice) refused (λ n. refused) (λ l. refused) refused refused refused refused
+place (needs-one ks) = by-form (Place (needs-one ks)) refused refused (λ n. refused) refused
+    refused (λ n. refused) (λ l. refused) refused refused (steps begins-one) refused
+place (needs-two ks) = by-form (Place (needs-two ks)) refused refused (λ n. refused) refused
+    refused (λ n. refused) (λ l. refused) refused refused refused (steps begins-two)
+place (ends-either ks) = by-form (Place (ends-either ks)) refused refused (λ n. refused) (steps ends-choice)
+    refused (λ n. refused) (λ l. refused) refused refused refused refused
 
 pub step-or-refused : (s : State) (f : Form) → ((t : State) × Step s f t) ⊎ ((line : ℕ) (fs : List Form) → misplacedFrom s line (f ∷ fs) ≡ some line)
 unfolding misplaced

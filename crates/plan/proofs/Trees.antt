@@ -16,29 +16,27 @@ abbrev pub rest : List Block → List Block → List ℕ → Behind
 rest bs ps ts = record { blocks = bs; procs = ps; threads = ts }
 
 module _ (ps : List Block) (ts : List ℕ) where
-  -- a block up to its closing line
-  whole : (b : Block) (bs : List Block) (x : Behind) → x ≡ rest ((b ⨾ done) ∷ bs) ps ts → x ≡ rest (b ∷ bs) ps ts
-  whole b bs x e = e ∙ ap (λ z. rest (z ∷ bs) ps ts) (⨾-done b)
+  -- the forms of b put b in front of the innermost open block
+  abbrev InFront : Block → Type 0
+  InFront b = (fs : List Form) (t : Block) (bs : List Block) → behind fs ≡ rest (t ∷ bs) ps ts → behind (blockForms b fs) ≡ rest ((b ⨾ t) ∷ bs) ps ts
 
-  -- the forms of b, before forms behind which the innermost open block goes on as t
-  pub behind-block : (empty : Bool) (b : Block) → WellFormed empty b → (fs : List Form) (t : Block) (bs : List Block) → behind fs ≡ rest (t ∷ bs) ps ts
-      → behind (blockForms b fs) ≡ rest ((b ⨾ t) ∷ bs) ps ts
+  -- so with its closing line they open b
+  opened : (b : Block) → InFront b → (fs : List Form) (bs : List Block) → behind fs ≡ rest bs ps ts → behind (blockForms b (Close ∷ fs)) ≡ rest (b ∷ bs) ps ts
+  unfolding behind inFront
+  opened b front fs bs e = front (Close ∷ fs) done bs (ap (inFront Close) e) ∙ ap (λ x. rest (x ∷ bs) ps ts) (⨾-done b)
+
+  behind-block : (empty : Bool) (b : Block) → WellFormed empty b → InFront b
   unfolding behind blockForms inFront WellFormed _⨾_
   behind-block empty done w fs t bs e = e
   behind-block empty (skip r) w fs t bs e = ap (inFront Skip) (behind-block true r w fs t bs e)
   behind-block empty (call n r) w fs t bs e = ap (inFront (Call n)) (behind-block true r w fs t bs e)
   behind-block empty (hold l b r) w fs t bs e =
-      let r′ = behind-block true r (w .1) fs t bs e in
-      ap (inFront (Hold l)) (whole b ((r ⨾ t) ∷ bs) _ (behind-block false b (w .0) (Close ∷ blockForms r fs) done ((r ⨾ t) ∷ bs) (ap (inFront Close) r′)))
-  behind-block empty (loop b r) w fs t bs e =
-      let r′ = behind-block true r (w .1) fs t bs e in
-      ap (inFront Loop) (whole b ((r ⨾ t) ∷ bs) _ (behind-block false b (w .0) (Close ∷ blockForms r fs) done ((r ⨾ t) ∷ bs) (ap (inFront Close) r′)))
+      ap (inFront (Hold l)) (opened b (behind-block false b (w .0)) (blockForms r fs) _ (behind-block true r (w .1) fs t bs e))
+  behind-block empty (loop b r) w fs t bs e = ap (inFront Loop) (opened b (behind-block false b (w .0)) (blockForms r fs) _ (behind-block true r (w .1) fs t bs e))
   behind-block empty (either a b r) w fs t bs e =
-      let gs = Close ∷ Close ∷ blockForms r fs in
       let r′ = behind-block true r (w .2) fs t bs e in
-      let b′ = whole b (done ∷ (r ⨾ t) ∷ bs) _ (behind-block false b (w .1) gs done (done ∷ (r ⨾ t) ∷ bs) (ap (λ x. inFront Close (inFront Close x)) r′)) in
-      ap (inFront Either) (whole a (b ∷ done ∷ (r ⨾ t) ∷ bs) _
-      (behind-block false a (w .0) (Close ∷ Two ∷ blockForms b gs) done (b ∷ done ∷ (r ⨾ t) ∷ bs) (ap (inFront Close) b′)))
+      let b′ = opened b (behind-block false b (w .1)) (Close ∷ blockForms r fs) _ (ap (inFront Close) r′) in
+      ap (inFront Either) (opened a (behind-block false a (w .0)) (Two ∷ blockForms b (Close ∷ Close ∷ blockForms r fs)) _ b′)
   behind-block empty (end l r) w fs t bs e = absurd w
 
 -- the blocks of procedures from one on
@@ -52,9 +50,8 @@ behind-procs : (bs : List Block) (ts : List ℕ) (fs : List Form) → ((p : ℕ)
 unfolding behind inFront procForms bodyIn
 behind-procs [] ts fs w e = e
 behind-procs (b ∷ bs) ts fs w e =
-    ap (inFront Proc) (whole bs ts b (done ∷ []) _
-    (behind-block bs ts false b (w 0 (omega arith)) (Close ∷ procForms bs fs) done (done ∷ [])
-    (ap (inFront Close) (behind-procs bs ts fs (later-blocks b bs w) e))))
+    let bs′ = behind-procs bs ts fs (later-blocks b bs w) e in
+    ap (inFront Proc) (opened bs ts b (behind-block bs ts false b (w 0 (omega arith))) (procForms bs fs) (done ∷ []) bs′)
 
 behind-threads : (ns : List ℕ) → behind (threadForms ns (Close ∷ [])) ≡ rest (done ∷ []) [] ns
 unfolding behind inFront threadForms
