@@ -1,5 +1,5 @@
--- The machine of rule 4 accepts the forms of every plan that the grammar has (`forms-accepted`): a block leads from its beginning to the place behind its last
--- statement, with the same brackets open.
+-- The machine of rule 4 accepts the forms of every plan that the grammar has (`forms-accepted`): a block leads from its beginning to the place behind
+-- its last statement, with the same brackets open.
 use Prim.Native.Nat.{ℕ, suc, _<_}
 use mathlib.Core.Bool.{Bool, true, false}
 use mathlib.Core.List.{List, [], _∷_}
@@ -8,7 +8,7 @@ use mathlib.Core.Path.{_≡_, refl, _∙_}
 use native.Mathlib.Omega.{arith}
 use lib.ListN.{length}
 use Rattle.text.specs.declared.Form.{Form}
-use Rattle.text.specs.declared.Form.the-variants.{Plan, Proc, Thread, Close, Skip, Call, Hold, Loop, Either, One, Two}
+use Rattle.text.specs.declared.Form.the-variants.{Close}
 use Rattle.semantics.specs.Plan.{Block, done, skip, call, hold, loop, either, end, LockPlan, bodyIn, WellFormed}
 use Rattle.plan.specs.Grammar.{blockForms, procForms, threadForms, forms, Grammatical}
 use Rattle.plan.specs.Structure.{misplaced, misplacedLine}
@@ -19,17 +19,11 @@ use Rattle.plan.proofs.States.{
   one,
   two,
   State,
-  initial,
   first-proc,
   next-proc,
   next-thread,
-  finished,
   in-block,
-  needs-one,
-  needs-two,
-  ends-either,
   modeOf,
-  brackets,
   stackOf,
   misplacedFrom,
   Step,

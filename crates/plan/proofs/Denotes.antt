@@ -1,16 +1,17 @@
--- The machine of rule 4 accepts exactly the forms of plans that the grammar has (`structure-plan`). What it accepts from a state on is what a plan's text has from
--- there on (`Rest`): blocks up to the closing lines of the open brackets, then procedures, threads and the plan's end. Each step backwards extends it.
+-- The machine of rule 4 accepts exactly the forms of plans that the grammar has (`structure-plan`). What it accepts from a state on is what a plan's
+-- text has from there on (`Rest`): blocks up to the closing lines of the open brackets, then procedures, threads and the plan's end. Each step
+-- backwards extends it.
 use Prim.Native.Nat.{ℕ, zero, suc, _<_, _≤_}
 use mathlib.Core.Bool.{Bool, true, false}
 use mathlib.Core.List.{List, [], _∷_}
-use mathlib.Core.Logic.{_⊎_, ⊎-elim, _↔_}
+use mathlib.Core.Logic.{⊎-elim, _↔_}
 use mathlib.Core.Option.{none, some, Option·some-ne-none}
 use mathlib.Core.Path.{_≡_, refl, ap, sym, _∙_}
 use native.Mathlib.Omega.{arith}
 use lib.ListN.{length}
 use Rattle.text.specs.declared.Form.{Form}
 use Rattle.text.specs.declared.Form.the-variants.{Plan, Proc, Thread, Close, Skip, Call, Hold, Loop, Either, One, Two}
-use Rattle.semantics.specs.Plan.{Block, done, skip, call, hold, loop, either, end, LockPlan, bodyIn, WellFormed}
+use Rattle.semantics.specs.Plan.{Block, done, skip, call, hold, loop, either, LockPlan, bodyIn, WellFormed}
 use Rattle.plan.specs.Grammar.{blockForms, procForms, threadForms, forms, Grammatical, planIn}
 use Rattle.plan.specs.Structure.{misplaced, misplacedLine}
 use Rattle.plan.proofs.Trees.{plan-of-forms}
@@ -218,7 +219,8 @@ accepted-rest : (fs : List Form) (s : State) (line : ℕ) → misplacedFrom s li
 accepted-rest [] s line h = at-end s line h
 accepted-rest (f ∷ fs) s line h =
     ⊎-elim (λ (x : (t : State) × Step s f t). rest-step (x .1) fs (accepted-rest fs (x .0) (suc line) (sym (after-step (x .1) line fs) ∙ h)))
-    (λ (no-place : (line : ℕ) (fs : List Form) → misplacedFrom s line (f ∷ fs) ≡ some line). absurd (Option·some-ne-none line (sym (no-place line fs) ∙ h)))
+    (λ (no-place : (line : ℕ) (fs : List Form) → misplacedFrom s line (f ∷ fs) ≡ some line).
+    absurd (Option·some-ne-none line (sym (no-place line fs) ∙ h)))
     (step-or-refused s f)
 
 -- forms that are those of a plan

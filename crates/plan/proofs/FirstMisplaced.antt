@@ -1,6 +1,6 @@
--- Rule 4 names the first line with which no plan begins, or one more than the last (`structure-first`). From each state some forms lead to acceptance, so what the
--- machine has read begins a plan; a form without a place is refused whatever follows it.
-use Prim.Native.Nat.{ℕ, zero, suc, _+_, _-_, _<_, _≤_}
+-- Rule 4 names the first line with which no plan begins, or one more than the last (`structure-first`). From each state some forms lead to
+-- acceptance, so what the machine has read begins a plan; a form without a place is refused whatever follows it.
+use Prim.Native.Nat.{ℕ, suc, _+_, _-_, _<_, _≤_}
 use mathlib.Core.Bool.{Bool, true, false}
 use mathlib.Core.List.{List, [], _∷_, _++_, append-assoc, append-nil}
 use mathlib.Core.Logic.{_⊎_, inl, inr, ⊎-elim, _↔_}
@@ -35,15 +35,9 @@ use Rattle.plan.proofs.States.{
   Step,
   begins-plan,
   first,
-  next,
   first-thread,
-  more-threads,
   ends-plan,
   skips,
-  calls,
-  holds,
-  loops,
-  chooses,
   begins-one,
   begins-two,
   ends-proc,
@@ -117,8 +111,8 @@ record Refuses (s : State) (line : ℕ) (fs : List Form) (n : ℕ) : Type 0 wher
   refused : place < length fs → (gs : List Form) → misplacedFrom s line (take (suc place) fs ++ gs) ≡ some n
 
 -- at the first of the forms, or behind them where there is none
-refuses-here : (fs : List Form) (s : State) (line n : ℕ) → line ≡ n → (0 < length fs → (gs : List Form) → misplacedFrom s line (take 1 fs ++ gs) ≡ some n)
-    → Refuses s line fs n
+refuses-here : (fs : List Form) (s : State) (line n : ℕ) → line ≡ n
+    → (0 < length fs → (gs : List Form) → misplacedFrom s line (take 1 fs ++ gs) ≡ some n) → Refuses s line fs n
 unfolding Completion
 refuses-here fs s line n e h =
     record { place = 0; at = omega arith; within = omega arith; rest = completion s .0; completed = completion s .1 line; refused = h }
@@ -172,7 +166,8 @@ module _ (fs : List Form) (n : ℕ) (r : Refuses initial 1 fs n) where
       }
 
   ends-early : misplacedLine fs ≡ some n → length fs ≤ r .place → EndsEarly fs n
-  ends-early h k = record { line = omega (arith, r .at, r .within); begun = rw (take-all (r .place) fs k) at begun-there; incomplete = never-accepted fs n h }
+  ends-early h k =
+      record { line = omega (arith, r .at, r .within); begun = rw (take-all (r .place) fs k) at begun-there; incomplete = never-accepted fs n h }
 
 named : (fs : List Form) (n : ℕ) → misplacedLine fs ≡ some n → NoPlace fs n ⊎ EndsEarly fs n
 unfolding misplacedLine modeOf stackOf

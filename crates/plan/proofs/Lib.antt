@@ -8,5 +8,6 @@ pub mod FirstMisplaced
 -- Rules 5 to 8.
 pub mod Kept
 pub mod Sound
+pub mod Allowed
 -- A form as a word of a table.
 pub mod Codes

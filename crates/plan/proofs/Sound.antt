@@ -1,5 +1,5 @@
--- What rules 4 to 8 settle of a plan's tree (`accepted-settled`). The counts run along with the forms: a block adds its statements and leaves the other counts as they
--- were, so a call within procedure p meets the count p + 1, and a thread the count of all procedures.
+-- What rules 4 to 8 settle of a plan's tree (`accepted-settled`). The counts run along with the forms: a block adds its statements and leaves the
+-- other counts as they were, so a call within procedure p meets the count p + 1, and a thread the count of all procedures.
 use Prim.Native.Nat.{ℕ, zero, suc, _+_, _-_, _<_, _≤_, max}
 use mathlib.Core.Bool.{Bool, true, false}
 use mathlib.Core.List.{List, [], _∷_}
@@ -8,20 +8,18 @@ use mathlib.Core.Path.{_≡_, refl, subst}
 use native.Mathlib.Omega.{arith}
 use native.Mathlib.Nat.{add-zero}
 use lib.ListN.{length, getD}
-use lib.Dec.{leb, ltb}
 use borrow.Author.Tests.{ltb-false, leb-false}
 use Rattle.text.specs.declared.Form.{Form}
-use Rattle.text.specs.declared.Form.the-variants.{Plan, Proc, Thread, Close, Skip, Call, Hold, Loop, Either, One, Two}
+use Rattle.text.specs.declared.Form.the-variants.{Close, Two}
 use Rattle.text.specs.Lines.{formsOf, unreadableLine}
 use Rattle.semantics.specs.Plan.{Block, done, skip, call, hold, loop, either, end, LockPlan, bodyIn, WellFormed, Written, Sound}
-use Rattle.semantics.proofs.Blocks.{written-to, absent}
-use Rattle.plan.specs.declared.Counts.{Counts}
+use Rattle.semantics.proofs.Blocks.{written-to}
 use Rattle.plan.specs.Grammar.{blockForms, procForms, threadForms, forms, Grammatical, planIn}
 use Rattle.plan.specs.Limits.{counts, counted, lockAbove, callAbove, threadAbove, noCounts}
 use Rattle.plan.specs.Rules.{refusedAt, tooLong, formsRefusal, readerRefusal, planOf}
 use Rattle.plan.proofs.Trees.{later-blocks}
 use Rattle.plan.proofs.Denotes.{accepted-denotes}
-use Rattle.plan.proofs.Kept.{Keeps, Kept, kept, first-none, WithinLimits, within-limits}
+use Rattle.plan.proofs.Kept.{Kept, kept, first-none, within-limits}
 
 -- how many statements a block has, those within others too
 unfoldable pub statements : Block → ℕ
@@ -66,7 +64,7 @@ module _ (n t : ℕ) where
     nested : o + nesting b ≤ 16
     later : Kept (counts n (s + statements b) t o) fs
 
-  recount : (s s′ o o′ : ℕ) (fs : List Form) → s ≡ s′ → o ≡ o′ → Kept (counts n s t o) fs → Kept (counts n s′ t o′) fs
+  pub recount : (s s′ o o′ : ℕ) (fs : List Form) → s ≡ s′ → o ≡ o′ → Kept (counts n s t o) fs → Kept (counts n s′ t o′) fs
   recount s s′ o o′ fs p q k = rw (← p, ← q) k
 
   abbrev Reads : Block → Type 0
@@ -77,7 +75,8 @@ module _ (n t : ℕ) where
   unfolding Written statements nesting
   kept-simple r read s o fs h k =
       let x = read (s + 1) o fs h k in
-      record { written = x .written; nested = x .nested; later = recount (s + 1 + statements r) (s + (1 + statements r)) o o fs (omega arith) refl (x .later) }
+      let later = recount (s + 1 + statements r) (s + (1 + statements r)) o o fs (omega arith) refl (x .later) in
+      record { written = x .written; nested = x .nested; later = later }
 
   -- behind the form of a loop or a hold
   kept-bracket : (b r : Block) → Reads b → Reads r → (s o : ℕ) (fs : List Form) → o + 1 ≤ 16
@@ -102,7 +101,8 @@ module _ (n t : ℕ) where
       let gs = blockForms r fs in
       let hs = blockForms b (Close ∷ Close ∷ gs) in
       let x = read-a (s + 1) (o + 1 + 1) (Close ∷ Two ∷ hs) deeper (k .1 .1) in
-      let y = read-b s₁ (o + 1 + 1) (Close ∷ Close ∷ gs) deeper (recount s₁ s₁ (o + 1 + 1 - 1 + 1) (o + 1 + 1) hs refl (omega arith) (x .later .1 .1)) in
+      let in-two = recount s₁ s₁ (o + 1 + 1 - 1 + 1) (o + 1 + 1) hs refl (omega arith) (x .later .1 .1) in
+      let y = read-b s₁ (o + 1 + 1) (Close ∷ Close ∷ gs) deeper in-two in
       let z = read-r s₂ o fs h (recount s₂ s₂ (o + 1 + 1 - 1 - 1) o gs refl (omega arith) (y .later .1 .1)) in
       record {
         written = (x .written, y .written, z .written);
@@ -134,8 +134,8 @@ record KeptProcs (n s : ℕ) (bs : List Block) (fs : List Form) : Type 0 where
   nested : (p : ℕ) → nesting (bodyIn bs p) ≤ 16
   later : Kept (counts (n + length bs) (s + allStatements bs) 0 0) fs
 
-kept-procs : (bs : List Block) → ((p : ℕ) → p < length bs → WellFormed false (bodyIn bs p)) → (n s : ℕ) (fs : List Form) → Kept (counts n s 0 0) (procForms bs fs)
-    → KeptProcs n s bs fs
+kept-procs : (bs : List Block) → ((p : ℕ) → p < length bs → WellFormed false (bodyIn bs p)) → (n s : ℕ) (fs : List Form)
+    → Kept (counts n s 0 0) (procForms bs fs) → KeptProcs n s bs fs
 unfolding Kept procForms bodyIn Written allStatements nesting counted
 kept-procs [] w n s fs k = record { written = λ p. tt; nested = λ p. omega arith; later = rw (add-zero n, add-zero s) k }
 kept-procs (b ∷ bs) w n s fs k =
@@ -149,7 +149,8 @@ kept-procs (b ∷ bs) w n s fs k =
       later = rw (procs, counted-statements) at (y .later);
     }
   where
-    each-body : Written (λ q. q + 1 < n + 1) b → ((p : ℕ) → Written (λ q. q < n + 1 + p) (bodyIn bs p)) → (p : ℕ) → Written (λ q. q < n + p) (bodyIn (b ∷ bs) p)
+    each-body : Written (λ q. q + 1 < n + 1) b → ((p : ℕ) → Written (λ q. q < n + 1 + p) (bodyIn bs p))
+        → (p : ℕ) → Written (λ q. q < n + p) (bodyIn (b ∷ bs) p)
     each-body w ws zero = written-to (λ q. q + 1 < n + 1) (λ q. q < n + 0) (λ q h. omega arith) b w
     each-body w ws (suc p) = written-to (λ q. q < n + 1 + p) (λ q. q < n + suc p) (λ q h. omega arith) (bodyIn bs p) (ws p)
 
@@ -170,7 +171,12 @@ kept-threads [] n s t k =
     record { present = λ i h. absurd (omega arith); few-procs = x .procs; few-statements = x .statements; few-threads = omega (arith, x .threads) }
 kept-threads (m ∷ ns) n s t k =
     let x = kept-threads ns n s (t + 1) (k .1) in
-    record { present = each (leb-false n m (k .0 .thread)) (x .present); few-procs = x .few-procs; few-statements = x .few-statements; few-threads = omega (arith, x .few-threads) }
+    record {
+      present = each (leb-false n m (k .0 .thread)) (x .present);
+      few-procs = x .few-procs;
+      few-statements = x .few-statements;
+      few-threads = omega (arith, x .few-threads);
+    }
   where
     each : m < n → ((i : ℕ) → i < length ns → getD ns i 0 < n) → (i : ℕ) → i < length (m ∷ ns) → getD (m ∷ ns) i 0 < n
     each b bs zero h = b
@@ -182,8 +188,10 @@ unfolding Kept forms counted
 kept-settled plan g k =
     let x = kept-procs (plan .procs) (g .blocks) 0 0 (threadForms (plan .threads) (Close ∷ [])) (k .1) in
     let y = kept-threads (plan .threads) (0 + length (plan .procs)) (0 + allStatements (plan .procs)) 0 (x .later) in
+    let bodies : (p : ℕ) → Written (λ q. q < p) (bodyIn (plan .procs) p) =
+    λ p. written-to (λ q. q < 0 + p) (λ q. q < p) (λ q h. omega arith) (bodyIn (plan .procs) p) (x .written p) in
     record {
-      sound = record { body = λ p. written-to (λ q. q < 0 + p) (λ q. q < p) (λ q h. omega arith) (bodyIn (plan .procs) p) (x .written p); filled = g .blocks };
+      sound = record { body = bodies; filled = g .blocks };
       threads-present = λ t h. omega (arith, y .present t h);
       some-proc = g .some-procedure;
       some-thread = g .some-thread;

@@ -3,13 +3,13 @@ use Prim.Native.Nat.{ℕ, suc}
 use mathlib.Core.Bool.{Bool, true, false}
 use mathlib.Core.List.{List, [], _∷_}
 use mathlib.Core.Logic.{_⊎_, inl, inr}
-use mathlib.Core.Option.{Option, none, some}
+use mathlib.Core.Option.{Option, some}
 use mathlib.Core.Path.{_≡_, refl}
 use Rattle.laws.specs.Choice.{pick}
 use Rattle.text.specs.declared.Form.{Form}
 use Rattle.text.specs.declared.Form.the-variants.{Plan, Proc, Thread, Close, Skip, Call, Hold, Loop, Either, One, Two}
 use Rattle.plan.specs.declared.Advance.{Advance}
-use Rattle.plan.specs.declared.Advance.the-variants.{Stay, Push, Pop, Misplaced}
+use Rattle.plan.specs.declared.Advance.the-variants.{Misplaced}
 use Rattle.plan.specs.Structure.{
   atStart,
   firstProc,
@@ -150,7 +150,7 @@ closing (statement ∷ ks) = steps ends-statement
 closing (one ∷ ks) = steps ends-one
 closing (two ∷ ks) = steps ends-two
 
--- The states by the forms: on each first line the plan's line, a procedure's, a thread's and a closing line; then skip, call, hold, loop, either, one and two.
+-- The states by the forms: on each first line the plan's, a procedure's, a thread's and a closing line; then skip, call, hold, loop, either, one, two.
 place : (s : State) (f : Form) → Place s f
 unfolding modeOf stackOf brackets advanceOf onClose closeBlock pick
 place initial = by-form (Place initial) (steps begins-plan) refused (λ n. refused) refused
@@ -179,6 +179,7 @@ unfolding misplaced
 step-or-refused s f = go (place s f)
   where
     go : {a : Advance} → Outcome s f a
-        → ((t : State) × Step s f t) ⊎ ((line : ℕ) (fs : List Form) → goOn a (stackOf s) line (λ mode stack. misplaced mode stack (suc line) fs) ≡ some line)
+        → ((t : State) × Step s f t)
+        ⊎ ((line : ℕ) (fs : List Form) → goOn a (stackOf s) line (λ mode stack. misplaced mode stack (suc line) fs) ≡ some line)
     go refused = inr (λ line fs. refl)
     go (steps {t} x) = inl (t, x)

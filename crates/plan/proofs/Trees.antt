@@ -1,18 +1,18 @@
 -- A plan is the tree of its own forms (`plan-of-forms`): read from the back, the forms of a block put that block in front of the innermost open one.
-use Prim.Native.Nat.{ℕ, zero, suc, _<_}
+use Prim.Native.Nat.{ℕ, suc, _<_}
 use mathlib.Core.Bool.{Bool, true, false}
 use mathlib.Core.List.{List, [], _∷_}
-use mathlib.Core.Path.{_≡_, refl, ap, sym, _∙_}
+use mathlib.Core.Path.{_≡_, refl, ap, _∙_}
 use native.Mathlib.Omega.{arith}
 use lib.ListN.{length}
 use Rattle.text.specs.declared.Form.{Form}
-use Rattle.text.specs.declared.Form.the-variants.{Plan, Proc, Thread, Close, Skip, Call, Hold, Loop, Either, One, Two}
+use Rattle.text.specs.declared.Form.the-variants.{Proc, Thread, Close, Skip, Call, Hold, Loop, Either, Two}
 use Rattle.semantics.specs.Plan.{Block, done, skip, call, hold, loop, either, end, _⨾_, LockPlan, bodyIn, WellFormed}
 use Rattle.semantics.proofs.Blocks.{⨾-done}
 use Rattle.plan.specs.Grammar.{blockForms, procForms, threadForms, forms, Grammatical, Behind, inFront, behind, planIn}
 
 -- what stands behind a place, part by part
-abbrev pub rest : List Block → List Block → List ℕ → Behind
+abbrev rest : List Block → List Block → List ℕ → Behind
 rest bs ps ts = record { blocks = bs; procs = ps; threads = ts }
 
 module _ (ps : List Block) (ts : List ℕ) where
@@ -21,7 +21,8 @@ module _ (ps : List Block) (ts : List ℕ) where
   InFront b = (fs : List Form) (t : Block) (bs : List Block) → behind fs ≡ rest (t ∷ bs) ps ts → behind (blockForms b fs) ≡ rest ((b ⨾ t) ∷ bs) ps ts
 
   -- so with its closing line they open b
-  opened : (b : Block) → InFront b → (fs : List Form) (bs : List Block) → behind fs ≡ rest bs ps ts → behind (blockForms b (Close ∷ fs)) ≡ rest (b ∷ bs) ps ts
+  opened : (b : Block) → InFront b → (fs : List Form) (bs : List Block) → behind fs ≡ rest bs ps ts
+      → behind (blockForms b (Close ∷ fs)) ≡ rest (b ∷ bs) ps ts
   unfolding behind inFront
   opened b front fs bs e = front (Close ∷ fs) done bs (ap (inFront Close) e) ∙ ap (λ x. rest (x ∷ bs) ps ts) (⨾-done b)
 
@@ -32,7 +33,8 @@ module _ (ps : List Block) (ts : List ℕ) where
   behind-block empty (call n r) w fs t bs e = ap (inFront (Call n)) (behind-block true r w fs t bs e)
   behind-block empty (hold l b r) w fs t bs e =
       ap (inFront (Hold l)) (opened b (behind-block false b (w .0)) (blockForms r fs) _ (behind-block true r (w .1) fs t bs e))
-  behind-block empty (loop b r) w fs t bs e = ap (inFront Loop) (opened b (behind-block false b (w .0)) (blockForms r fs) _ (behind-block true r (w .1) fs t bs e))
+  behind-block empty (loop b r) w fs t bs e =
+      ap (inFront Loop) (opened b (behind-block false b (w .0)) (blockForms r fs) _ (behind-block true r (w .1) fs t bs e))
   behind-block empty (either a b r) w fs t bs e =
       let r′ = behind-block true r (w .2) fs t bs e in
       let b′ = opened b (behind-block false b (w .1)) (Close ∷ blockForms r fs) _ (ap (inFront Close) r′) in
