@@ -13,40 +13,10 @@ use Rattle.semantics.specs.Plan.{Block, done, skip, call, hold, loop, either, e
 use Rattle.plan.specs.Grammar.{blockForms, procForms, threadForms, forms, Grammatical}
 use Rattle.plan.specs.Structure.{misplaced, misplacedLine}
 use Rattle.plan.proofs.Trees.{later-blocks}
-use Rattle.plan.proofs.States.{
-  Bracket,
-  statement,
-  one,
-  two,
-  State,
-  first-proc,
-  next-proc,
-  next-thread,
-  in-block,
-  modeOf,
-  stackOf,
-  misplacedFrom,
-  Step,
-  begins-plan,
-  first,
-  next,
-  first-thread,
-  more-threads,
-  ends-plan,
-  skips,
-  calls,
-  holds,
-  loops,
-  chooses,
-  begins-one,
-  begins-two,
-  ends-proc,
-  ends-statement,
-  ends-one,
-  ends-two,
-  ends-choice,
-  after-step,
-}
+use Rattle.plan.proofs.States.{Bracket, statement, one, two, State, first-proc, next-proc, next-thread, in-block}
+use Rattle.plan.proofs.States.{modeOf, stackOf, misplacedFrom, after-step}
+use Rattle.plan.proofs.States.{Step, begins-plan, first, next, first-thread, more-threads, ends-plan, skips, calls, holds, loops, chooses}
+use Rattle.plan.proofs.States.{begins-one, begins-two, ends-proc, ends-statement, ends-one, ends-two, ends-choice}
 
 -- no form is misplaced and the text does not end too early, whatever the number of the first line
 abbrev pub Accepts : State → List Form → Type 0

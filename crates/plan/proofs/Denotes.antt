@@ -1,6 +1,5 @@
--- The machine of rule 4 accepts exactly the forms of plans that the grammar has (`structure-plan`). What it accepts from a state on is what a plan's
--- text has from there on (`Rest`): blocks up to the closing lines of the open brackets, then procedures, threads and the plan's end. Each step
--- backwards extends it.
+-- The machine of rule 4 accepts exactly the forms of plans that the grammar has (`structure-plan`). What it accepts from a state on is what a
+-- plan's text has from there on (`Rest`), and each step backwards extends it.
 use Prim.Native.Nat.{ℕ, zero, suc, _<_, _≤_}
 use mathlib.Core.Bool.{Bool, true, false}
 use mathlib.Core.List.{List, [], _∷_}
@@ -15,46 +14,11 @@ use Rattle.semantics.specs.Plan.{Block, done, skip, call, hold, loop, either, L
 use Rattle.plan.specs.Grammar.{blockForms, procForms, threadForms, forms, Grammatical, planIn}
 use Rattle.plan.specs.Structure.{misplaced, misplacedLine}
 use Rattle.plan.proofs.Trees.{plan-of-forms}
-use Rattle.plan.proofs.States.{
-  Bracket,
-  statement,
-  one,
-  two,
-  State,
-  initial,
-  first-proc,
-  next-proc,
-  next-thread,
-  finished,
-  in-block,
-  needs-one,
-  needs-two,
-  ends-either,
-  modeOf,
-  stackOf,
-  misplacedFrom,
-  Step,
-  begins-plan,
-  first,
-  next,
-  first-thread,
-  more-threads,
-  ends-plan,
-  skips,
-  calls,
-  holds,
-  loops,
-  chooses,
-  begins-one,
-  begins-two,
-  ends-proc,
-  ends-statement,
-  ends-one,
-  ends-two,
-  ends-choice,
-  after-step,
-  step-or-refused,
-}
+use Rattle.plan.proofs.States.{Bracket, statement, one, two}
+use Rattle.plan.proofs.States.{State, initial, first-proc, next-proc, next-thread, finished, in-block, needs-one, needs-two, ends-either}
+use Rattle.plan.proofs.States.{modeOf, stackOf, misplacedFrom, after-step, step-or-refused}
+use Rattle.plan.proofs.States.{Step, begins-plan, first, next, first-thread, more-threads, ends-plan, skips, calls, holds, loops, chooses}
+use Rattle.plan.proofs.States.{begins-one, begins-two, ends-proc, ends-statement, ends-one, ends-two, ends-choice}
 use Rattle.plan.proofs.Accepts.{forms-accepted}
 
 -- f, and then what K says

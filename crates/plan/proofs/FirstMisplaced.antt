@@ -14,40 +14,11 @@ use Rattle.laws.specs.Choice.{if}
 use Rattle.laws.proofs.Tests.{lt-or-le}
 use Rattle.text.specs.declared.Form.{Form}
 use Rattle.plan.specs.Structure.{complete, misplaced, misplacedLine}
-use Rattle.plan.proofs.States.{
-  Bracket,
-  statement,
-  one,
-  two,
-  State,
-  initial,
-  first-proc,
-  next-proc,
-  next-thread,
-  finished,
-  in-block,
-  needs-one,
-  needs-two,
-  ends-either,
-  modeOf,
-  stackOf,
-  misplacedFrom,
-  Step,
-  begins-plan,
-  first,
-  first-thread,
-  ends-plan,
-  skips,
-  begins-one,
-  begins-two,
-  ends-proc,
-  ends-statement,
-  ends-one,
-  ends-two,
-  ends-choice,
-  after-step,
-  step-or-refused,
-}
+use Rattle.plan.proofs.States.{Bracket, statement, one, two}
+use Rattle.plan.proofs.States.{State, initial, first-proc, next-proc, next-thread, finished, in-block, needs-one, needs-two, ends-either}
+use Rattle.plan.proofs.States.{modeOf, stackOf, misplacedFrom, after-step, step-or-refused}
+use Rattle.plan.proofs.States.{Step, begins-plan, first, first-thread, ends-plan, skips}
+use Rattle.plan.proofs.States.{begins-one, begins-two, ends-proc, ends-statement, ends-one, ends-two, ends-choice}
 use Rattle.plan.proofs.Accepts.{Accepts, accepts-step}
 use Rattle.plan.proofs.Denotes.{IsPlan, accepted-plan, plan-accepted}
 

@@ -207,9 +207,18 @@ forms-settled fs h =
     let d = accepted-denotes fs (k .0) in
     kept-settled (planIn fs) (d .0) (subst (λ l. Kept noCounts l) (d .1) (k .1))
 
-pub accepted-settled : (text : List ℕ) → readerRefusal text ≡ none → Settled (planOf text)
-unfolding readerRefusal planOf
-accepted-settled text h =
+-- a text that the reader accepts: its forms are those of its plan, and rules 4 to 8 settle the plan
+pub accepted-forms : (text : List ℕ) → readerRefusal text ≡ none → formsRefusal (formsOf text) ≡ none
+unfolding readerRefusal
+accepted-forms text h =
     let x = first-none (tooLong text) _ h in
     let y = first-none (refusedAt 3 (unreadableLine text)) (formsRefusal (formsOf text)) (x .1) in
-    forms-settled (formsOf text) (y .1)
+    y .1
+
+pub accepted-text : (text : List ℕ) → readerRefusal text ≡ none → formsOf text ≡ forms (planOf text)
+unfolding planOf
+accepted-text text h = accepted-denotes (formsOf text) (kept (formsOf text) (accepted-forms text h) .0) .1
+
+pub accepted-settled : (text : List ℕ) → readerRefusal text ≡ none → Settled (planOf text)
+unfolding planOf
+accepted-settled text h = forms-settled (formsOf text) (accepted-forms text h)
