@@ -1,4 +1,16 @@
--- The laws that the proofs of the functions cite.
-pub mod Laws
+-- The tree of a plan and its forms.
+pub mod Trees
+-- The machine of rule 4.
+pub mod States
+pub mod Accepts
+pub mod Denotes
+pub mod FirstMisplaced
+-- Rules 5 to 8.
+pub mod Kept
+pub mod Sound
+pub mod Allowed
+-- A form as a word of a table, and the table while it is filled.
 pub mod Codes
 pub mod Filling
+-- The laws that the proofs of the functions cite.
+pub mod Laws

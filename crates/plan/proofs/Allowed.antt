@@ -1,0 +1,169 @@
+-- Rules 4 to 8 refuse no plan that keeps what they settle, so they accept exactly those (`rules-plan`). Along the forms of a block the counts stay
+-- below what the whole block brings them to.
+use Prim.Native.Nat.{ℕ, suc, _+_, _-_, _<_, _≤_}
+use mathlib.Core.Bool.{false}
+use mathlib.Core.List.{List, [], _∷_}
+use mathlib.Core.Logic.{_↔_}
+use mathlib.Core.Option.{none}
+use mathlib.Core.Path.{_≡_, refl}
+use native.Mathlib.Omega.{arith}
+use native.Mathlib.Nat.{add-zero}
+use lib.ListN.{length, getD}
+use borrow.Author.Tests.{le-ltb, lt-leb}
+use Rattle.laws.specs.Choice.{pick}
+use Rattle.text.specs.declared.Form.{Form}
+use Rattle.text.specs.declared.Form.the-variants.{Plan, Proc, Thread, Close, Skip, Call, Hold, Loop, Either, One, Two}
+use Rattle.semantics.specs.Plan.{Block, done, skip, call, hold, loop, either, end, LockPlan, bodyIn, Written}
+use Rattle.semantics.proofs.Blocks.{written-to}
+use Rattle.plan.specs.declared.Counts.{Counts}
+use Rattle.plan.specs.Grammar.{blockForms, procForms, threadForms, forms, Grammatical, planIn}
+use Rattle.plan.specs.Limits.{counts, counted, overLimit, lockAbove, callAbove, threadAbove, breaks, breaking, breakingLine, noCounts}
+use Rattle.plan.specs.Rules.{formsRefusal}
+use Rattle.plan.proofs.Trees.{plan-of-forms}
+use Rattle.plan.proofs.Accepts.{forms-accepted}
+use Rattle.plan.proofs.Denotes.{accepted-denotes}
+use Rattle.plan.proofs.Kept.{Keeps, Kept, kept}
+use Rattle.plan.proofs.Sound.{statements, allStatements, nesting, recount, Settled, forms-settled}
+
+within : (n s t o : ℕ) → n ≤ 64 → s ≤ 1024 → t ≤ 6 → o ≤ 16 → overLimit (counts n s t o) ≡ false
+unfolding overLimit pick
+within n s t o a b c d = rw (le-ltb 64 n a, le-ltb 1024 s b, le-ltb 6 t c, le-ltb 16 o d)
+
+module _ (n t : ℕ) (few-procs : n ≤ 64) (few-threads : t ≤ 6) where
+  keeps : (f : Form) (s o : ℕ) → s ≤ 1024 → o ≤ 16 → lockAbove f ≡ false → callAbove (counts n s t o) f ≡ false → threadAbove (counts n s t o) f ≡ false
+      → Keeps (counts n s t o) f
+  keeps f s o a b lock callee thread = record { limits = within n s t o few-procs a few-threads b; lock = lock; callee = callee; thread = thread }
+
+  -- the forms of a block that keeps the rules, where what follows keeps them
+  abbrev Passes : Block → Type 0
+  Passes b = (s o : ℕ) (fs : List Form) → s + statements b ≤ 1024 → o + nesting b ≤ 16 → Kept (counts n (s + statements b) t o) fs
+      → Kept (counts n s t o) (blockForms b fs)
+
+  -- behind the form of a loop or a hold
+  bracket-kept : (b r : Block) → Passes b → Passes r → (s o : ℕ) (fs : List Form) → s + statements (loop b r) ≤ 1024 → o + nesting (loop b r) ≤ 16
+      → Kept (counts n (s + statements (loop b r)) t o) fs → Kept (counts n (s + 1) t (o + 1)) (blockForms b (Close ∷ blockForms r fs))
+  unfolding Kept statements nesting counted lockAbove callAbove threadAbove
+  bracket-kept b r pass-b pass-r s o fs h d k =
+      let s₁ = s + 1 + statements b in
+      let gs = blockForms r fs in
+      let k′ = recount n t (s + (1 + statements b + statements r)) (s₁ + statements r) o o fs (omega arith) refl k in
+      let r′ = pass-r s₁ o fs (omega arith) (omega arith) k′ in
+      pass-b (s + 1) (o + 1) (Close ∷ gs) (omega arith) (omega arith)
+      (keeps Close s₁ (o + 1 - 1) (omega arith) (omega arith) refl refl refl, recount n t s₁ s₁ o (o + 1 - 1) gs refl (omega arith) r′)
+
+  block-kept : (b : Block) → Written (λ q. q + 1 < n) b → Passes b
+  unfolding Kept blockForms Written statements nesting counted lockAbove callAbove threadAbove
+  block-kept done w s o fs h d k = recount n t (s + 0) s o o fs (omega arith) refl k
+  block-kept (skip r) w s o fs h d k = (
+    keeps Skip (s + 1) o (omega arith) (omega arith) refl refl refl,
+    block-kept r w (s + 1) o fs (omega arith) d (recount n t (s + (1 + statements r)) (s + 1 + statements r) o o fs (omega arith) refl k),
+  )
+  block-kept (call p r) w s o fs h d k = (
+    keeps (Call p) (s + 1) o (omega arith) (omega arith) refl (lt-leb n (p + 1) (w .0)) refl,
+    block-kept r (w .1) (s + 1) o fs (omega arith) d (recount n t (s + (1 + statements r)) (s + 1 + statements r) o o fs (omega arith) refl k),
+  )
+  block-kept (hold l b r) w s o fs h d k =
+      let small : l ≤ 31 = omega (arith, w .0) in (
+        keeps (Hold l) (s + 1) (o + 1) (omega arith) (omega arith) (le-ltb 31 l small) refl refl,
+        bracket-kept b r (block-kept b (w .1)) (block-kept r (w .2)) s o fs h d k,
+      )
+  block-kept (loop b r) w s o fs h d k = (
+    keeps Loop (s + 1) (o + 1) (omega arith) (omega arith) refl refl refl,
+    bracket-kept b r (block-kept b (w .0)) (block-kept r (w .1)) s o fs h d k,
+  )
+  block-kept (either a b r) w s o fs h d k =
+      let s₁ = s + 1 + statements a in
+      let s₂ = s₁ + statements b in
+      let gs = blockForms r fs in
+      let hs = blockForms b (Close ∷ Close ∷ gs) in
+      let r′ = block-kept r (w .2) s₂ o fs (omega arith) (omega arith)
+      (recount n t (s + (1 + statements a + statements b + statements r)) (s₂ + statements r) o o fs (omega arith) refl k) in
+      let b′ = block-kept b (w .1) s₁ (o + 1 + 1) (Close ∷ Close ∷ gs) (omega arith) (omega arith) (
+        keeps Close s₂ (o + 1 + 1 - 1) (omega arith) (omega arith) refl refl refl,
+        (
+          keeps Close s₂ (o + 1 + 1 - 1 - 1) (omega arith) (omega arith) refl refl refl,
+          recount n t s₂ s₂ o (o + 1 + 1 - 1 - 1) gs refl (omega arith) r′,
+        ),
+      ) in
+      let a′ = block-kept a (w .0) (s + 1) (o + 1 + 1) (Close ∷ Two ∷ hs) (omega arith) (omega arith) (
+        keeps Close s₁ (o + 1 + 1 - 1) (omega arith) (omega arith) refl refl refl,
+        (
+          keeps Two s₁ (o + 1 + 1 - 1 + 1) (omega arith) (omega arith) refl refl refl,
+          recount n t s₁ s₁ (o + 1 + 1) (o + 1 + 1 - 1 + 1) hs refl (omega arith) b′,
+        ),
+      ) in (
+        keeps Either (s + 1) (o + 1) (omega arith) (omega arith) refl refl refl,
+        (keeps One (s + 1) (o + 1 + 1) (omega arith) (omega arith) refl refl refl, a′),
+      )
+  block-kept (end l r) w s o fs h d k = absurd w
+
+procs-kept : (bs : List Block) (n s : ℕ) (fs : List Form) → n + length bs ≤ 64 → s + allStatements bs ≤ 1024
+    → ((p : ℕ) → Written (λ q. q < n + p) (bodyIn bs p)) → ((p : ℕ) → nesting (bodyIn bs p) ≤ 16)
+    → Kept (counts (n + length bs) (s + allStatements bs) 0 0) fs → Kept (counts n s 0 0) (procForms bs fs)
+unfolding Kept procForms bodyIn allStatements counted lockAbove callAbove threadAbove
+procs-kept [] n s fs h i w d k = rw (add-zero n, add-zero s) at k
+procs-kept (b ∷ bs) n s fs h i w d k =
+    let few : n + 1 ≤ 64 = omega arith in
+    let procs : n + suc (length bs) ≡ n + 1 + length bs = omega arith in
+    let all : s + (statements b + allStatements bs) ≡ s + statements b + allStatements bs = omega arith in
+    let later : (p : ℕ) → Written (λ q. q < n + 1 + p) (bodyIn bs p) =
+    λ p. written-to (λ q. q < n + suc p) (λ q. q < n + 1 + p) (λ q h. omega arith) (bodyIn bs p) (w (suc p)) in
+    let rest = procs-kept bs (n + 1) (s + statements b) fs (omega arith) (omega arith) later (λ p. d (suc p)) (rw (procs, all) at k) in
+    let first = written-to (λ q. q < n + 0) (λ q. q + 1 < n + 1) (λ q h. omega arith) b (w 0) in (
+      keeps (n + 1) 0 few (omega arith) Proc s 0 (omega arith) (omega arith) refl refl refl,
+      block-kept (n + 1) 0 few (omega arith) b first s 0 (Close ∷ procForms bs fs) (omega arith) (omega (arith, d 0))
+          (keeps (n + 1) 0 few (omega arith) Close (s + statements b) 0 (omega arith) (omega arith) refl refl refl, rest),
+    )
+
+threads-kept : (ns : List ℕ) (n s t : ℕ) → n ≤ 64 → s ≤ 1024 → t + length ns ≤ 6 → ((i : ℕ) → i < length ns → getD ns i 0 < n)
+    → Kept (counts n s t 0) (threadForms ns (Close ∷ []))
+unfolding Kept threadForms counted lockAbove callAbove threadAbove
+threads-kept [] n s t a b c h = (keeps n t a (omega arith) Close s 0 b (omega arith) refl refl refl, tt)
+threads-kept (m ∷ ns) n s t a b c h = (
+  keeps n (t + 1) a (omega arith) (Thread m) s 0 b (omega arith) refl refl (lt-leb n m (h 0 (omega arith))),
+  threads-kept ns n s (t + 1) a b (omega arith) (λ i k. h (suc i) (omega arith)),
+)
+
+pub settled-kept : (plan : LockPlan) → Settled plan → Kept noCounts (forms plan)
+unfolding Kept forms counted lockAbove callAbove threadAbove
+settled-kept plan x =
+    let n = length (plan .procs) in
+    let s = allStatements (plan .procs) in
+    let few : 0 + n ≤ 64 = omega (arith, x .few-procs) in
+    let small : 0 + s ≤ 1024 = omega (arith, x .few-statements) in
+    let threads =
+    threads-kept (plan .threads) (0 + n) (0 + s) 0 few small (omega (arith, x .few-threads)) (λ i h. omega (arith, x .threads-present i h)) in
+    let written : (p : ℕ) → Written (λ q. q < 0 + p) (bodyIn (plan .procs) p) =
+    λ p. written-to (λ q. q < p) (λ q. q < 0 + p) (λ q h. omega arith) (bodyIn (plan .procs) p) (x .sound .body p) in (
+      keeps 0 0 (omega arith) (omega arith) Plan 0 0 (omega arith) (omega arith) refl refl refl,
+      procs-kept (plan .procs) 0 0 (threadForms (plan .threads) (Close ∷ [])) few small written (x .few-open) threads,
+    )
+
+-- a rule that each form keeps names no line
+module _ (rule : ℕ) (keeps-rule : (c : Counts) (f : Form) → Keeps c f → breaks rule c f ≡ false) where
+  unbroken : (fs : List Form) (c : Counts) (line : ℕ) → Kept c fs → breaking rule c line fs ≡ none
+  unfolding Kept breaking
+  unbroken [] c line k = refl
+  unbroken (f ∷ fs) c line k = rw (keeps-rule (counted c f) f (k .0)) (unbroken fs (counted c f) (suc line) (k .1))
+
+pub settled-grammatical : (plan : LockPlan) → Settled plan → Grammatical plan
+settled-grammatical plan x = record { some-procedure = x .some-proc; some-thread = x .some-thread; blocks = x .sound .filled }
+
+pub settled-accepted : (plan : LockPlan) → Settled plan → formsRefusal (forms plan) ≡ none
+unfolding formsRefusal breakingLine breaks pick
+settled-accepted plan x =
+    let k = settled-kept plan x in
+    rw (
+      forms-accepted plan (settled-grammatical plan x),
+      unbroken 5 (λ c f h. h .limits) (forms plan) noCounts 1 k,
+      unbroken 6 (λ c f h. h .lock) (forms plan) noCounts 1 k,
+      unbroken 7 (λ c f h. h .callee) (forms plan) noCounts 1 k,
+      unbroken 8 (λ c f h. h .thread) (forms plan) noCounts 1 k,
+    )
+
+-- Rules 4 to 8 accept exactly the texts of the plans that keep what the rules settle.
+pub rules-plan : (fs : List Form) (plan : LockPlan) → ((formsRefusal fs ≡ none) × (planIn fs ≡ plan)) ↔ (Settled plan × (fs ≡ forms plan))
+rules-plan fs plan = (
+  λ h. (rw (h .1) at (forms-settled fs (h .0)), rw (h .1) at (accepted-denotes fs (kept fs (h .0) .0) .1)),
+  λ h. (rw (h .1) (settled-accepted plan (h .0)), rw (h .1) (plan-of-forms plan (settled-grammatical plan (h .0)))),
+)

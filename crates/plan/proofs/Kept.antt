@@ -1,0 +1,86 @@
+-- Where no rule of 5 to 8 names a line, each form keeps each of them (`kept`).
+use Prim.Native.Nat.{ℕ, suc, _≤_}
+use mathlib.Core.Bool.{Bool, true, false}
+use mathlib.Core.List.{List, [], _∷_}
+use mathlib.Core.Option.{Option, none, some, Option·some-ne-none}
+use mathlib.Core.Path.{_≡_, refl}
+use native.Mathlib.Omega.{arith}
+use lib.Dec.{ltb}
+use borrow.Author.Tests.{ltb-false}
+use Rattle.laws.specs.Choice.{pick, orElse}
+use Rattle.text.specs.declared.Form.{Form}
+use Rattle.plan.specs.declared.Counts.{Counts}
+use Rattle.plan.specs.Limits.{counted, overLimit, lockAbove, callAbove, threadAbove, breaks, lineIf, breaking, breakingLine, noCounts}
+use Rattle.plan.specs.Structure.{misplacedLine}
+use Rattle.plan.specs.Rules.{Refusal, refusal, refusedAt, formsRefusal}
+
+-- no rule is broken by a form, where c counts what has been read, the form too
+pub record Keeps (c : Counts) (f : Form) : Type 0 where
+  pub limits : overLimit c ≡ false
+  pub lock : lockAbove f ≡ false
+  pub callee : callAbove c f ≡ false
+  pub thread : threadAbove c f ≡ false
+
+-- the same of each form, from the counts c on
+unfoldable pub Kept : Counts → List Form → Type 0
+Kept c [] = Unit {0}
+Kept c (f ∷ fs) = Keeps (counted c f) f × Kept (counted c f) fs
+
+unnamed : (b : Bool) (line : ℕ) (later : Option ℕ) → lineIf b line later ≡ none → (b ≡ false) × (later ≡ none)
+unnamed true line later h = absurd (Option·some-ne-none line h)
+unnamed false line later h = (refl, h)
+
+kept-from : (fs : List Form) (c : Counts) (line : ℕ) → breaking 5 c line fs ≡ none → breaking 6 c line fs ≡ none → breaking 7 c line fs ≡ none
+    → breaking 8 c line fs ≡ none → Kept c fs
+unfolding Kept breaking breaks pick
+kept-from [] c line five six seven eight = tt
+kept-from (f ∷ fs) c line five six seven eight =
+    let d = counted c f in
+    let x = unnamed (overLimit d) line (breaking 5 d (suc line) fs) five in
+    let y = unnamed (lockAbove f) line (breaking 6 d (suc line) fs) six in
+    let z = unnamed (callAbove d f) line (breaking 7 d (suc line) fs) seven in
+    let u = unnamed (threadAbove d f) line (breaking 8 d (suc line) fs) eight in
+    (record { limits = x .0; lock = y .0; callee = z .0; thread = u .0 }, kept-from fs d (suc line) (x .1) (y .1) (z .1) (u .1))
+
+pub first-none : {A : Type 0} (o p : Option A) → orElse o p ≡ none → (o ≡ none) × (p ≡ none)
+first-none none p h = (refl, h)
+first-none (some a) p h = absurd (Option·some-ne-none a h)
+
+no-line : (rule : ℕ) (o : Option ℕ) → refusedAt rule o ≡ none → o ≡ none
+no-line rule none h = refl
+no-line rule (some line) h = absurd (Option·some-ne-none (refusal rule line) h)
+
+-- what rules 4 to 8 say of forms that none of them refuses
+pub kept : (fs : List Form) → formsRefusal fs ≡ none → (misplacedLine fs ≡ none) × Kept noCounts fs
+unfolding formsRefusal breakingLine
+kept fs h =
+    let r : ℕ → Option Refusal = λ rule. refusedAt rule (breaking rule noCounts 1 fs) in
+    let a = first-none (refusedAt 4 (misplacedLine fs)) (orElse (r 5) (orElse (r 6) (orElse (r 7) (r 8)))) h in
+    let b = first-none (r 5) (orElse (r 6) (orElse (r 7) (r 8))) (a .1) in
+    let c = first-none (r 6) (orElse (r 7) (r 8)) (b .1) in
+    let d = first-none (r 7) (r 8) (c .1) in (
+      no-line 4 (misplacedLine fs) (a .0),
+      kept-from fs noCounts 1
+          (no-line 5 (breaking 5 noCounts 1 fs) (b .0)) (no-line 6 (breaking 6 noCounts 1 fs) (c .0))
+          (no-line 7 (breaking 7 noCounts 1 fs) (d .0)) (no-line 8 (breaking 8 noCounts 1 fs) (d .1)),
+    )
+
+-- 5: "64 procedures, 1,024 statements, 6 threads, or 16 brackets"
+pub record WithinLimits (c : Counts) : Type 0 where
+  pub procs : c .procs ≤ 64
+  pub statements : c .statements ≤ 1024
+  pub threads : c .threads ≤ 6
+  pub depth : c .depth ≤ 16
+
+neither : (a b : Bool) → pick a true b ≡ false → (a ≡ false) × (b ≡ false)
+unfolding pick
+neither true b h = absurd (let z : _≡_ {A = ℕ} 0 1 = cc in omega arith)
+neither false b h = (refl, h)
+
+pub within-limits : (c : Counts) → overLimit c ≡ false → WithinLimits c
+unfolding overLimit
+within-limits c h =
+    let x = neither (ltb 64 (c .procs)) _ h in
+    let y = neither (ltb 1024 (c .statements)) _ (x .1) in
+    let z = neither (ltb 6 (c .threads)) (ltb 16 (c .depth)) (y .1) in
+    record { procs = ltb-false 64 _ (x .0); statements = ltb-false 1024 _ (y .0); threads = ltb-false 6 _ (z .0); depth = ltb-false 16 _ (z .1) }

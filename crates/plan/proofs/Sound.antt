@@ -1,0 +1,224 @@
+-- What rules 4 to 8 settle of a plan's tree (`accepted-settled`). The counts run along with the forms: a block adds its statements and leaves the
+-- other counts as they were, so a call within procedure p meets the count p + 1, and a thread the count of all procedures.
+use Prim.Native.Nat.{ℕ, zero, suc, _+_, _-_, _<_, _≤_, max}
+use mathlib.Core.Bool.{Bool, true, false}
+use mathlib.Core.List.{List, [], _∷_}
+use mathlib.Core.Option.{none}
+use mathlib.Core.Path.{_≡_, refl, subst}
+use native.Mathlib.Omega.{arith}
+use native.Mathlib.Nat.{add-zero}
+use lib.ListN.{length, getD}
+use borrow.Author.Tests.{ltb-false, leb-false}
+use Rattle.text.specs.declared.Form.{Form}
+use Rattle.text.specs.declared.Form.the-variants.{Close, Two}
+use Rattle.text.specs.Lines.{formsOf, unreadableLine}
+use Rattle.semantics.specs.Plan.{Block, done, skip, call, hold, loop, either, end, LockPlan, bodyIn, WellFormed, Written, Sound}
+use Rattle.semantics.proofs.Blocks.{written-to}
+use Rattle.plan.specs.Grammar.{blockForms, procForms, threadForms, forms, Grammatical, planIn}
+use Rattle.plan.specs.Limits.{counts, counted, lockAbove, callAbove, threadAbove, noCounts}
+use Rattle.plan.specs.Rules.{refusedAt, tooLong, formsRefusal, readerRefusal, planOf}
+use Rattle.plan.proofs.Trees.{later-blocks}
+use Rattle.plan.proofs.Denotes.{accepted-denotes}
+use Rattle.plan.proofs.Kept.{Kept, kept, first-none, within-limits}
+
+-- how many statements a block has, those within others too
+unfoldable pub statements : Block → ℕ
+statements done = 0
+statements (skip r) = 1 + statements r
+statements (call p r) = 1 + statements r
+statements (hold l b r) = 1 + statements b + statements r
+statements (loop b r) = 1 + statements b + statements r
+statements (either a b r) = 1 + statements a + statements b + statements r
+statements (end l r) = statements r
+
+unfoldable pub allStatements : List Block → ℕ
+allStatements [] = 0
+allStatements (b ∷ bs) = statements b + allStatements bs
+
+-- how many "brackets of hold, loop, either, one and two" are open together somewhere in a block
+unfoldable pub nesting : Block → ℕ
+nesting done = 0
+nesting (skip r) = nesting r
+nesting (call p r) = nesting r
+nesting (hold l b r) = max (1 + nesting b) (nesting r)
+nesting (loop b r) = max (1 + nesting b) (nesting r)
+nesting (either a b r) = max (2 + nesting a) (max (2 + nesting b) (nesting r))
+nesting (end l r) = nesting r
+
+-- What rules 4 to 8 settle of a plan.
+pub record Settled (plan : LockPlan) : Type 0 where
+  pub sound : Sound (plan .procs) (λ p. p)
+  pub threads-present : (t : ℕ) → t < length (plan .threads) → getD (plan .threads) t 0 < length (plan .procs)
+  pub some-proc : 0 < length (plan .procs)
+  pub some-thread : 0 < length (plan .threads)
+  pub few-procs : length (plan .procs) ≤ 64
+  pub few-statements : allStatements (plan .procs) ≤ 1024
+  pub few-threads : length (plan .threads) ≤ 6
+  pub few-open : (p : ℕ) → nesting (bodyIn (plan .procs) p) ≤ 16
+
+-- In the n-th procedure, where t threads have been read:
+module _ (n t : ℕ) where
+  -- what the forms of a block b say, where s statements have been read and o brackets are open
+  record KeptBlock (s o : ℕ) (b : Block) (fs : List Form) : Type 0 where
+    written : Written (λ q. q + 1 < n) b
+    nested : o + nesting b ≤ 16
+    later : Kept (counts n (s + statements b) t o) fs
+
+  pub recount : (s s′ o o′ : ℕ) (fs : List Form) → s ≡ s′ → o ≡ o′ → Kept (counts n s t o) fs → Kept (counts n s′ t o′) fs
+  recount s s′ o o′ fs p q k = rw (← p, ← q) k
+
+  abbrev Reads : Block → Type 0
+  Reads b = (s o : ℕ) (fs : List Form) → o ≤ 16 → Kept (counts n s t o) (blockForms b fs) → KeptBlock s o b fs
+
+  -- behind the form of a skip or a call
+  kept-simple : (r : Block) → Reads r → (s o : ℕ) (fs : List Form) → o ≤ 16 → Kept (counts n (s + 1) t o) (blockForms r fs) → KeptBlock s o (skip r) fs
+  unfolding Written statements nesting
+  kept-simple r read s o fs h k =
+      let x = read (s + 1) o fs h k in
+      let later = recount (s + 1 + statements r) (s + (1 + statements r)) o o fs (omega arith) refl (x .later) in
+      record { written = x .written; nested = x .nested; later = later }
+
+  -- behind the form of a loop or a hold
+  kept-bracket : (b r : Block) → Reads b → Reads r → (s o : ℕ) (fs : List Form) → o + 1 ≤ 16
+      → Kept (counts n (s + 1) t (o + 1)) (blockForms b (Close ∷ blockForms r fs)) → KeptBlock s o (loop b r) fs
+  unfolding Kept Written statements nesting counted
+  kept-bracket b r read-b read-r s o fs h k =
+      let s₁ = s + 1 + statements b in
+      let x = read-b (s + 1) (o + 1) (Close ∷ blockForms r fs) h k in
+      let y = read-r s₁ o fs (omega arith) (recount s₁ s₁ (o + 1 - 1) o (blockForms r fs) refl (omega arith) (x .later .1)) in
+      record {
+        written = (x .written, y .written);
+        nested = omega (arith, x .nested, y .nested);
+        later = recount (s₁ + statements r) (s + (1 + statements b + statements r)) o o fs (omega arith) refl (y .later);
+      }
+
+  kept-either : (a b r : Block) → Reads a → Reads b → Reads r → Reads (either a b r)
+  unfolding Kept blockForms Written statements nesting counted
+  kept-either a b r read-a read-b read-r s o fs h k =
+      let deeper = within-limits (counts n (s + 1) t (o + 1 + 1)) (k .1 .0 .limits) .depth in
+      let s₁ = s + 1 + statements a in
+      let s₂ = s₁ + statements b in
+      let gs = blockForms r fs in
+      let hs = blockForms b (Close ∷ Close ∷ gs) in
+      let x = read-a (s + 1) (o + 1 + 1) (Close ∷ Two ∷ hs) deeper (k .1 .1) in
+      let in-two = recount s₁ s₁ (o + 1 + 1 - 1 + 1) (o + 1 + 1) hs refl (omega arith) (x .later .1 .1) in
+      let y = read-b s₁ (o + 1 + 1) (Close ∷ Close ∷ gs) deeper in-two in
+      let z = read-r s₂ o fs h (recount s₂ s₂ (o + 1 + 1 - 1 - 1) o gs refl (omega arith) (y .later .1 .1)) in
+      record {
+        written = (x .written, y .written, z .written);
+        nested = omega (arith, x .nested, y .nested, z .nested);
+        later = recount (s₂ + statements r) (s + (1 + statements a + statements b + statements r)) o o fs (omega arith) refl (z .later);
+      }
+
+  kept-block : (b : Block) (empty : Bool) → WellFormed empty b → Reads b
+  unfolding Kept blockForms WellFormed Written statements nesting counted lockAbove callAbove
+  kept-block done empty w s o fs h k = record { written = tt; nested = omega arith; later = recount s (s + 0) o o fs (omega arith) refl k }
+  kept-block (skip r) empty w s o fs h k = kept-simple r (kept-block r true w) s o fs h (k .1)
+  kept-block (call p r) empty w s o fs h k =
+      let x = kept-simple r (kept-block r true w) s o fs h (k .1) in
+      record { written = (leb-false n (p + 1) (k .0 .callee), x .written); nested = x .nested; later = x .later }
+  kept-block (hold l b r) empty w s o fs h k =
+      let deeper = within-limits (counts n (s + 1) t (o + 1)) (k .0 .limits) .depth in
+      let x = kept-bracket b r (kept-block b false (w .0)) (kept-block r true (w .1)) s o fs deeper (k .1) in
+      record { written = (omega (arith, ltb-false 31 l (k .0 .lock)), x .written .0, x .written .1); nested = x .nested; later = x .later }
+  kept-block (loop b r) empty w s o fs h k =
+      let deeper = within-limits (counts n (s + 1) t (o + 1)) (k .0 .limits) .depth in
+      kept-bracket b r (kept-block b false (w .0)) (kept-block r true (w .1)) s o fs deeper (k .1)
+  kept-block (either a b r) empty w s o fs h k =
+      kept-either a b r (kept-block a false (w .0)) (kept-block b false (w .1)) (kept-block r true (w .2)) s o fs h k
+  kept-block (end l r) empty w s o fs h k = absurd w
+
+-- what the forms of procedures say, where n procedures and s statements have been read, and the counts behind them
+record KeptProcs (n s : ℕ) (bs : List Block) (fs : List Form) : Type 0 where
+  written : (p : ℕ) → Written (λ q. q < n + p) (bodyIn bs p)
+  nested : (p : ℕ) → nesting (bodyIn bs p) ≤ 16
+  later : Kept (counts (n + length bs) (s + allStatements bs) 0 0) fs
+
+kept-procs : (bs : List Block) → ((p : ℕ) → p < length bs → WellFormed false (bodyIn bs p)) → (n s : ℕ) (fs : List Form)
+    → Kept (counts n s 0 0) (procForms bs fs) → KeptProcs n s bs fs
+unfolding Kept procForms bodyIn Written allStatements nesting counted
+kept-procs [] w n s fs k = record { written = λ p. tt; nested = λ p. omega arith; later = rw (add-zero n, add-zero s) k }
+kept-procs (b ∷ bs) w n s fs k =
+    let x = kept-block (n + 1) 0 b false (w 0 (omega arith)) s 0 (Close ∷ procForms bs fs) (omega arith) (k .1) in
+    let y = kept-procs bs (later-blocks b bs w) (n + 1) (s + statements b) fs (x .later .1) in
+    let procs : n + 1 + length bs ≡ n + suc (length bs) = omega arith in
+    let counted-statements : s + statements b + allStatements bs ≡ s + (statements b + allStatements bs) = omega arith in
+    record {
+      written = each-body (x .written) (y .written);
+      nested = each-nested (x .nested) (y .nested);
+      later = rw (procs, counted-statements) at (y .later);
+    }
+  where
+    each-body : Written (λ q. q + 1 < n + 1) b → ((p : ℕ) → Written (λ q. q < n + 1 + p) (bodyIn bs p))
+        → (p : ℕ) → Written (λ q. q < n + p) (bodyIn (b ∷ bs) p)
+    each-body w ws zero = written-to (λ q. q + 1 < n + 1) (λ q. q < n + 0) (λ q h. omega arith) b w
+    each-body w ws (suc p) = written-to (λ q. q < n + 1 + p) (λ q. q < n + suc p) (λ q h. omega arith) (bodyIn bs p) (ws p)
+
+    each-nested : 0 + nesting b ≤ 16 → ((p : ℕ) → nesting (bodyIn bs p) ≤ 16) → (p : ℕ) → nesting (bodyIn (b ∷ bs) p) ≤ 16
+    each-nested o os zero = omega arith
+    each-nested o os (suc p) = os p
+
+record KeptThreads (n s t : ℕ) (ns : List ℕ) : Type 0 where
+  present : (i : ℕ) → i < length ns → getD ns i 0 < n
+  few-procs : n ≤ 64
+  few-statements : s ≤ 1024
+  few-threads : t + length ns ≤ 6
+
+kept-threads : (ns : List ℕ) (n s t : ℕ) → Kept (counts n s t 0) (threadForms ns (Close ∷ [])) → KeptThreads n s t ns
+unfolding Kept threadForms counted threadAbove
+kept-threads [] n s t k =
+    let x = within-limits (counts n s t 0) (k .0 .limits) in
+    record { present = λ i h. absurd (omega arith); few-procs = x .procs; few-statements = x .statements; few-threads = omega (arith, x .threads) }
+kept-threads (m ∷ ns) n s t k =
+    let x = kept-threads ns n s (t + 1) (k .1) in
+    record {
+      present = each (leb-false n m (k .0 .thread)) (x .present);
+      few-procs = x .few-procs;
+      few-statements = x .few-statements;
+      few-threads = omega (arith, x .few-threads);
+    }
+  where
+    each : m < n → ((i : ℕ) → i < length ns → getD ns i 0 < n) → (i : ℕ) → i < length (m ∷ ns) → getD (m ∷ ns) i 0 < n
+    each b bs zero h = b
+    each b bs (suc i) h = bs i (omega arith)
+
+-- the forms of a plan that keep rules 5 to 8
+pub kept-settled : (plan : LockPlan) → Grammatical plan → Kept noCounts (forms plan) → Settled plan
+unfolding Kept forms counted
+kept-settled plan g k =
+    let x = kept-procs (plan .procs) (g .blocks) 0 0 (threadForms (plan .threads) (Close ∷ [])) (k .1) in
+    let y = kept-threads (plan .threads) (0 + length (plan .procs)) (0 + allStatements (plan .procs)) 0 (x .later) in
+    let bodies : (p : ℕ) → Written (λ q. q < p) (bodyIn (plan .procs) p) =
+    λ p. written-to (λ q. q < 0 + p) (λ q. q < p) (λ q h. omega arith) (bodyIn (plan .procs) p) (x .written p) in
+    record {
+      sound = record { body = bodies; filled = g .blocks };
+      threads-present = λ t h. omega (arith, y .present t h);
+      some-proc = g .some-procedure;
+      some-thread = g .some-thread;
+      few-procs = omega (arith, y .few-procs);
+      few-statements = omega (arith, y .few-statements);
+      few-threads = omega (arith, y .few-threads);
+      few-open = x .nested;
+    }
+
+pub forms-settled : (fs : List Form) → formsRefusal fs ≡ none → Settled (planIn fs)
+forms-settled fs h =
+    let k = kept fs h in
+    let d = accepted-denotes fs (k .0) in
+    kept-settled (planIn fs) (d .0) (subst (λ l. Kept noCounts l) (d .1) (k .1))
+
+-- a text that the reader accepts: its forms are those of its plan, and rules 4 to 8 settle the plan
+pub accepted-forms : (text : List ℕ) → readerRefusal text ≡ none → formsRefusal (formsOf text) ≡ none
+unfolding readerRefusal
+accepted-forms text h =
+    let x = first-none (tooLong text) _ h in
+    let y = first-none (refusedAt 3 (unreadableLine text)) (formsRefusal (formsOf text)) (x .1) in
+    y .1
+
+pub accepted-text : (text : List ℕ) → readerRefusal text ≡ none → formsOf text ≡ forms (planOf text)
+unfolding planOf
+accepted-text text h = accepted-denotes (formsOf text) (kept (formsOf text) (accepted-forms text h) .0) .1
+
+pub accepted-settled : (text : List ℕ) → readerRefusal text ≡ none → Settled (planOf text)
+unfolding planOf
+accepted-settled text h = forms-settled (formsOf text) (accepted-forms text h)

@@ -1,0 +1,166 @@
+-- The machine's states that its start leads to, and its steps as a relation: a proof about the machine has one clause for each kind of step.
+use Prim.Native.Nat.{ℕ, suc}
+use mathlib.Core.Bool.{Bool, true, false}
+use mathlib.Core.List.{List, [], _∷_}
+use mathlib.Core.Logic.{_⊎_, inl, inr}
+use mathlib.Core.Option.{Option, some}
+use mathlib.Core.Path.{_≡_, refl}
+use Rattle.laws.specs.Choice.{pick}
+use Rattle.text.specs.declared.Form.{Form}
+use Rattle.text.specs.declared.Form.the-variants.{Plan, Proc, Thread, Close, Skip, Call, Hold, Loop, Either, One, Two}
+use Rattle.plan.specs.declared.Advance.{Advance}
+use Rattle.plan.specs.declared.Advance.the-variants.{Misplaced}
+use Rattle.plan.specs.Structure.{atStart, firstProc, nextProc, nextThread, complete, firstStatement, nextStatement, needsOne, needsTwo, endsEither}
+use Rattle.plan.specs.Structure.{ofStatement, ofOne, ofTwo, innermost, closeBlock, onClose, advanceOf, goOn, misplaced}
+
+pub data Bracket : Type 0 where
+  statement one two : Bracket
+
+-- The states, with the brackets that are open in the procedure. `in-block empty`: within a block, which may end there where `empty` is true.
+pub data State : Type 0 where
+  initial first-proc next-proc next-thread finished : State
+  in-block : Bool → List Bracket → State
+  needs-one needs-two ends-either : List Bracket → State
+
+unfoldable pub modeOf : State → ℕ
+modeOf initial = atStart
+modeOf first-proc = firstProc
+modeOf next-proc = nextProc
+modeOf next-thread = nextThread
+modeOf finished = complete
+modeOf (in-block false ks) = firstStatement
+modeOf (in-block true ks) = nextStatement
+modeOf (needs-one ks) = needsOne
+modeOf (needs-two ks) = needsTwo
+modeOf (ends-either ks) = endsEither
+
+unfoldable pub brackets : List Bracket → List ℕ
+brackets [] = []
+brackets (statement ∷ ks) = ofStatement ∷ brackets ks
+brackets (one ∷ ks) = ofOne ∷ brackets ks
+brackets (two ∷ ks) = ofTwo ∷ brackets ks
+
+unfoldable pub stackOf : State → List ℕ
+stackOf initial = []
+stackOf first-proc = []
+stackOf next-proc = []
+stackOf next-thread = []
+stackOf finished = []
+stackOf (in-block e ks) = brackets ks
+stackOf (needs-one ks) = brackets ks
+stackOf (needs-two ks) = brackets ks
+stackOf (ends-either ks) = brackets ks
+
+-- rule 4 for the forms from a line on, in a state
+abbrev pub misplacedFrom : State → ℕ → List Form → Option ℕ
+misplacedFrom s line fs = misplaced (modeOf s) (stackOf s) line fs
+
+-- the steps
+pub data Step : State → Form → State → Type 0 where
+  begins-plan : Step initial Plan first-proc
+  first : Step first-proc Proc (in-block false [])
+  next : Step next-proc Proc (in-block false [])
+  first-thread : {n : ℕ} → Step next-proc (Thread n) next-thread
+  more-threads : {n : ℕ} → Step next-thread (Thread n) next-thread
+  ends-plan : Step next-thread Close finished
+  skips : {e : Bool} {ks : List Bracket} → Step (in-block e ks) Skip (in-block true ks)
+  calls : {e : Bool} {ks : List Bracket} {n : ℕ} → Step (in-block e ks) (Call n) (in-block true ks)
+  holds : {e : Bool} {ks : List Bracket} {l : ℕ} → Step (in-block e ks) (Hold l) (in-block false (statement ∷ ks))
+  loops : {e : Bool} {ks : List Bracket} → Step (in-block e ks) Loop (in-block false (statement ∷ ks))
+  chooses : {e : Bool} {ks : List Bracket} → Step (in-block e ks) Either (needs-one ks)
+  begins-one : {ks : List Bracket} → Step (needs-one ks) One (in-block false (one ∷ ks))
+  begins-two : {ks : List Bracket} → Step (needs-two ks) Two (in-block false (two ∷ ks))
+  ends-proc : Step (in-block true []) Close next-proc
+  ends-statement : {ks : List Bracket} → Step (in-block true (statement ∷ ks)) Close (in-block true ks)
+  ends-one : {ks : List Bracket} → Step (in-block true (one ∷ ks)) Close (needs-two ks)
+  ends-two : {ks : List Bracket} → Step (in-block true (two ∷ ks)) Close (ends-either ks)
+  ends-choice : {ks : List Bracket} → Step (ends-either ks) Close (in-block true ks)
+
+pub after-step : {s t : State} {f : Form} → Step s f t → (line : ℕ) (fs : List Form) → misplacedFrom s line (f ∷ fs) ≡ misplacedFrom t (suc line) fs
+unfolding misplaced modeOf stackOf brackets advanceOf onClose closeBlock pick
+after-step begins-plan line fs = refl
+after-step first line fs = refl
+after-step next line fs = refl
+after-step first-thread line fs = refl
+after-step more-threads line fs = refl
+after-step ends-plan line fs = refl
+after-step (skips {e = true}) line fs = refl
+after-step (skips {e = false}) line fs = refl
+after-step (calls {e = true}) line fs = refl
+after-step (calls {e = false}) line fs = refl
+after-step (holds {e = true}) line fs = refl
+after-step (holds {e = false}) line fs = refl
+after-step (loops {e = true}) line fs = refl
+after-step (loops {e = false}) line fs = refl
+after-step (chooses {e = true}) line fs = refl
+after-step (chooses {e = false}) line fs = refl
+after-step begins-one line fs = refl
+after-step begins-two line fs = refl
+after-step ends-proc line fs = refl
+after-step ends-statement line fs = refl
+after-step ends-one line fs = refl
+after-step ends-two line fs = refl
+after-step ends-choice line fs = refl
+
+-- a form has its step, or no place
+data Outcome (s : State) (f : Form) : Advance → Type 0 where
+  refused : Outcome s f Misplaced
+  steps : {t : State} {a : Advance} → Step s f t → Outcome s f a
+
+by-form : (P : Form → Type 0) → P Plan → P Proc → ((n : ℕ) → P (Thread n)) → P Close → P Skip → ((n : ℕ) → P (Call n)) → ((l : ℕ) → P (Hold l))
+    → P Loop → P Either → P One → P Two → (f : Form) → P f
+by-form P a b c d e f g h i j k Plan = a
+by-form P a b c d e f g h i j k Proc = b
+by-form P a b c d e f g h i j k (Thread n) = c n
+by-form P a b c d e f g h i j k Close = d
+by-form P a b c d e f g h i j k Skip = e
+by-form P a b c d e f g h i j k (Call n) = f n
+by-form P a b c d e f g h i j k (Hold l) = g l
+by-form P a b c d e f g h i j k Loop = h
+by-form P a b c d e f g h i j k Either = i
+by-form P a b c d e f g h i j k One = j
+by-form P a b c d e f g h i j k Two = k
+
+abbrev Place : State → Form → Type 0
+Place s f = Outcome s f (advanceOf (modeOf s) (innermost (stackOf s)) f)
+
+closing : (ks : List Bracket) → Place (in-block true ks) Close
+unfolding modeOf stackOf brackets advanceOf onClose closeBlock pick
+closing [] = steps ends-proc
+closing (statement ∷ ks) = steps ends-statement
+closing (one ∷ ks) = steps ends-one
+closing (two ∷ ks) = steps ends-two
+
+-- The states by the forms: on each first line the plan's, a procedure's, a thread's and a closing line; then skip, call, hold, loop, either, one, two.
+place : (s : State) (f : Form) → Place s f
+unfolding modeOf stackOf brackets advanceOf onClose closeBlock pick
+place initial = by-form (Place initial) (steps begins-plan) refused (λ n. refused) refused
+    refused (λ n. refused) (λ l. refused) refused refused refused refused
+place first-proc = by-form (Place first-proc) refused (steps first) (λ n. refused) refused
+    refused (λ n. refused) (λ l. refused) refused refused refused refused
+place next-proc = by-form (Place next-proc) refused (steps next) (λ n. steps first-thread) refused
+    refused (λ n. refused) (λ l. refused) refused refused refused refused
+place next-thread = by-form (Place next-thread) refused refused (λ n. steps more-threads) (steps ends-plan)
+    refused (λ n. refused) (λ l. refused) refused refused refused refused
+place finished = by-form (Place finished) refused refused (λ n. refused) refused
+    refused (λ n. refused) (λ l. refused) refused refused refused refused
+place (in-block false ks) = by-form (Place (in-block false ks)) refused refused (λ n. refused) refused
+    (steps skips) (λ n. steps calls) (λ l. steps holds) (steps loops) (steps chooses) refused refused
+place (in-block true ks) = by-form (Place (in-block true ks)) refused refused (λ n. refused) (closing ks)
+    (steps skips) (λ n. steps calls) (λ l. steps holds) (steps loops) (steps chooses) refused refused
+place (needs-one ks) = by-form (Place (needs-one ks)) refused refused (λ n. refused) refused
+    refused (λ n. refused) (λ l. refused) refused refused (steps begins-one) refused
+place (needs-two ks) = by-form (Place (needs-two ks)) refused refused (λ n. refused) refused
+    refused (λ n. refused) (λ l. refused) refused refused refused (steps begins-two)
+place (ends-either ks) = by-form (Place (ends-either ks)) refused refused (λ n. refused) (steps ends-choice)
+    refused (λ n. refused) (λ l. refused) refused refused refused refused
+
+pub step-or-refused : (s : State) (f : Form) → ((t : State) × Step s f t) ⊎ ((line : ℕ) (fs : List Form) → misplacedFrom s line (f ∷ fs) ≡ some line)
+unfolding misplaced
+step-or-refused s f = go (place s f)
+  where
+    go : {a : Advance} → Outcome s f a
+        → ((t : State) × Step s f t)
+        ⊎ ((line : ℕ) (fs : List Form) → goOn a (stackOf s) line (λ mode stack. misplaced mode stack (suc line) fs) ≡ some line)
+    go refused = inr (λ line fs. refl)
+    go (steps {t} x) = inl (t, x)
