@@ -15,9 +15,10 @@ use Rattle.text.specs.declared.Form.{Form}
 use Rattle.text.specs.declared.Form.the-variants.{Plan, Proc, Thread, Close, Skip, Call, Hold, Loop, Either, One, Two}
 use Rattle.semantics.specs.Plan.{Block, done, skip, call, hold, loop, either, end, LockPlan, bodyIn, Written}
 use Rattle.semantics.proofs.Blocks.{written-to}
+use Rattle.text.specs.Forms.{numberIn}
 use Rattle.plan.specs.declared.Counts.{Counts}
 use Rattle.plan.specs.Grammar.{blockForms, procForms, threadForms, forms, Grammatical, planIn}
-use Rattle.plan.specs.Limits.{counts, counted, overLimit, lockAbove, callAbove, threadAbove, breaks, breaking, breakingLine, noCounts}
+use Rattle.plan.specs.Limits.{counts, counted, overLimit, testedBy, leastBad, breaks, breaking, breakingLine, noCounts}
 use Rattle.plan.specs.Rules.{formsRefusal}
 use Rattle.plan.proofs.Trees.{plan-of-forms}
 use Rattle.plan.proofs.Accepts.{forms-accepted}
@@ -30,7 +31,7 @@ unfolding overLimit pick
 within n s t o a b c d = rw (le-ltb 64 n a, le-ltb 1024 s b, le-ltb 6 t c, le-ltb 16 o d)
 
 module _ (n t : ℕ) (few-procs : n ≤ 64) (few-threads : t ≤ 6) where
-  keeps : (f : Form) (s o : ℕ) → s ≤ 1024 → o ≤ 16 → lockAbove f ≡ false → callAbove (counts n s t o) f ≡ false → threadAbove (counts n s t o) f ≡ false
+  keeps : (f : Form) (s o : ℕ) → s ≤ 1024 → o ≤ 16 → breaks 6 (counts n s t o) f ≡ false → breaks 7 (counts n s t o) f ≡ false → breaks 8 (counts n s t o) f ≡ false
       → Keeps (counts n s t o) f
   keeps f s o a b lock callee thread = record { limits = within n s t o few-procs a few-threads b; lock = lock; callee = callee; thread = thread }
 
@@ -42,7 +43,7 @@ module _ (n t : ℕ) (few-procs : n ≤ 64) (few-threads : t ≤ 6) where
   -- behind the form of a loop or a hold
   bracket-kept : (b r : Block) → Passes b → Passes r → (s o : ℕ) (fs : List Form) → s + statements (loop b r) ≤ 1024 → o + nesting (loop b r) ≤ 16
       → Kept (counts n (s + statements (loop b r)) t o) fs → Kept (counts n (s + 1) t (o + 1)) (blockForms b (Close ∷ blockForms r fs))
-  unfolding Kept statements nesting counted lockAbove callAbove threadAbove
+  unfolding Kept statements nesting counted breaks testedBy leastBad numberIn pick
   bracket-kept b r pass-b pass-r s o fs h d k =
       let s₁ = s + 1 + statements b in
       let gs = blockForms r fs in
@@ -52,14 +53,14 @@ module _ (n t : ℕ) (few-procs : n ≤ 64) (few-threads : t ≤ 6) where
       (keeps Close s₁ (o + 1 - 1) (omega arith) (omega arith) refl refl refl, recount n t s₁ s₁ o (o + 1 - 1) gs refl (omega arith) r′)
 
   block-kept : (b : Block) → Written (λ q. q + 1 < n) b → Passes b
-  unfolding Kept blockForms Written statements nesting counted lockAbove callAbove threadAbove
+  unfolding Kept blockForms Written statements nesting counted breaks testedBy leastBad numberIn pick
   block-kept done w s o fs h d k = recount n t (s + 0) s o o fs (omega arith) refl k
   block-kept (skip r) w s o fs h d k = (
     keeps Skip (s + 1) o (omega arith) (omega arith) refl refl refl,
     block-kept r w (s + 1) o fs (omega arith) d (recount n t (s + (1 + statements r)) (s + 1 + statements r) o o fs (omega arith) refl k),
   )
   block-kept (call p r) w s o fs h d k = (
-    keeps (Call p) (s + 1) o (omega arith) (omega arith) refl (lt-leb n (p + 1) (w .0)) refl,
+    keeps (Call p) (s + 1) o (omega arith) (omega arith) refl (lt-leb (n - 1) p (omega (arith, w .0))) refl,
     block-kept r (w .1) (s + 1) o fs (omega arith) d (recount n t (s + (1 + statements r)) (s + 1 + statements r) o o fs (omega arith) refl k),
   )
   block-kept (hold l b r) w s o fs h d k =
@@ -100,7 +101,7 @@ module _ (n t : ℕ) (few-procs : n ≤ 64) (few-threads : t ≤ 6) where
 procs-kept : (bs : List Block) (n s : ℕ) (fs : List Form) → n + length bs ≤ 64 → s + allStatements bs ≤ 1024
     → ((p : ℕ) → Written (λ q. q < n + p) (bodyIn bs p)) → ((p : ℕ) → nesting (bodyIn bs p) ≤ 16)
     → Kept (counts (n + length bs) (s + allStatements bs) 0 0) fs → Kept (counts n s 0 0) (procForms bs fs)
-unfolding Kept procForms bodyIn allStatements counted lockAbove callAbove threadAbove
+unfolding Kept procForms bodyIn allStatements counted breaks testedBy leastBad numberIn pick
 procs-kept [] n s fs h i w d k = rw (add-zero n, add-zero s) at k
 procs-kept (b ∷ bs) n s fs h i w d k =
     let few : n + 1 ≤ 64 = omega arith in
@@ -117,7 +118,7 @@ procs-kept (b ∷ bs) n s fs h i w d k =
 
 threads-kept : (ns : List ℕ) (n s t : ℕ) → n ≤ 64 → s ≤ 1024 → t + length ns ≤ 6 → ((i : ℕ) → i < length ns → getD ns i 0 < n)
     → Kept (counts n s t 0) (threadForms ns (Close ∷ []))
-unfolding Kept threadForms counted lockAbove callAbove threadAbove
+unfolding Kept threadForms counted breaks testedBy leastBad numberIn pick
 threads-kept [] n s t a b c h = (keeps n t a (omega arith) Close s 0 b (omega arith) refl refl refl, tt)
 threads-kept (m ∷ ns) n s t a b c h = (
   keeps n (t + 1) a (omega arith) (Thread m) s 0 b (omega arith) refl refl (lt-leb n m (h 0 (omega arith))),
@@ -125,7 +126,7 @@ threads-kept (m ∷ ns) n s t a b c h = (
 )
 
 pub settled-kept : (plan : LockPlan) → Settled plan → Kept noCounts (forms plan)
-unfolding Kept forms counted lockAbove callAbove threadAbove
+unfolding Kept forms counted breaks testedBy leastBad numberIn pick
 settled-kept plan x =
     let n = length (plan .procs) in
     let s = allStatements (plan .procs) in

@@ -15,7 +15,7 @@ use Rattle.text.specs.declared.Line.the-variants as line
 use Rattle.text.specs.Lines.{lineAt, formsOf, unreadableLine}
 use Rattle.laws.specs.Choice.{orElse}
 use Rattle.text.proofs.Splits.{few-forms}
-use Rattle.text.proofs.Reading.{formsFrom, unreadableFrom, start-forms, start-unreadable, next-forms, next-unreadable, next-later, next-within, next-small, refused-rule, refused-line, ended-forms, ended-readable}
+use Rattle.text.proofs.Reading.{formsFrom, unreadableFrom, next-forms, next-unreadable, next-later, next-within, next-small, refused-rule, refused-line, ended-forms, ended-readable}
 use Rattle.plan.specs.declared.Reading.{Reading}
 use Rattle.plan.specs.declared.Reading.the-variants.{Accepted, Refused}
 use Rattle.plan.specs.Table.{codeOf, formAt, tableForms}
@@ -31,7 +31,8 @@ pub record Filling (text table : List ℕ) (at n : ℕ) : Type 0 where
   pub readable : unreadableFrom text at (n + 1) ≡ unreadableLine text
 
 pub filling-none : (text table : List ℕ) → Filling text table 0 0
-filling-none text table = record { pace = omega arith; within = omega arith; read = start-forms text; readable = start-unreadable text }
+unfolding formsOf unreadableLine
+filling-none text table = record { pace = omega arith; within = omega arith; read = refl; readable = refl }
 
 map-append : (f : ℕ → Form) (xs ys : List ℕ) → map f (xs ++ ys) ≡ map f xs ++ map f ys
 map-append f [] ys = refl

@@ -10,16 +10,16 @@ use borrow.Author.Tests.{ltb-false}
 use Rattle.laws.specs.Choice.{pick, orElse}
 use Rattle.text.specs.declared.Form.{Form}
 use Rattle.plan.specs.declared.Counts.{Counts}
-use Rattle.plan.specs.Limits.{counted, overLimit, lockAbove, callAbove, threadAbove, breaks, lineIf, breaking, breakingLine, noCounts}
+use Rattle.plan.specs.Limits.{counted, overLimit, breaks, lineIf, breaking, breakingLine, noCounts}
 use Rattle.plan.specs.Structure.{misplacedLine}
 use Rattle.plan.specs.Rules.{Refusal, refusal, refusedAt, formsRefusal}
 
 -- no rule is broken by a form, where c counts what has been read, the form too
 pub record Keeps (c : Counts) (f : Form) : Type 0 where
   pub limits : overLimit c ≡ false
-  pub lock : lockAbove f ≡ false
-  pub callee : callAbove c f ≡ false
-  pub thread : threadAbove c f ≡ false
+  pub lock : breaks 6 c f ≡ false
+  pub callee : breaks 7 c f ≡ false
+  pub thread : breaks 8 c f ≡ false
 
 -- the same of each form, from the counts c on
 unfoldable pub Kept : Counts → List Form → Type 0
@@ -37,9 +37,9 @@ kept-from [] c line five six seven eight = tt
 kept-from (f ∷ fs) c line five six seven eight =
     let d = counted c f in
     let x = unnamed (overLimit d) line (breaking 5 d (suc line) fs) five in
-    let y = unnamed (lockAbove f) line (breaking 6 d (suc line) fs) six in
-    let z = unnamed (callAbove d f) line (breaking 7 d (suc line) fs) seven in
-    let u = unnamed (threadAbove d f) line (breaking 8 d (suc line) fs) eight in
+    let y = unnamed (breaks 6 d f) line (breaking 6 d (suc line) fs) six in
+    let z = unnamed (breaks 7 d f) line (breaking 7 d (suc line) fs) seven in
+    let u = unnamed (breaks 8 d f) line (breaking 8 d (suc line) fs) eight in
     (record { limits = x .0; lock = y .0; callee = z .0; thread = u .0 }, kept-from fs d (suc line) (x .1) (y .1) (z .1) (u .1))
 
 pub first-none : {A : Type 0} (o p : Option A) → orElse o p ≡ none → (o ≡ none) × (p ≡ none)

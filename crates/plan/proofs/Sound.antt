@@ -15,7 +15,9 @@ use Rattle.text.specs.Lines.{formsOf, unreadableLine}
 use Rattle.semantics.specs.Plan.{Block, done, skip, call, hold, loop, either, end, LockPlan, bodyIn, WellFormed, Written, Sound}
 use Rattle.semantics.proofs.Blocks.{written-to}
 use Rattle.plan.specs.Grammar.{blockForms, procForms, threadForms, forms, Grammatical, planIn}
-use Rattle.plan.specs.Limits.{counts, counted, lockAbove, callAbove, threadAbove, noCounts}
+use Rattle.laws.specs.Choice.{pick}
+use Rattle.text.specs.Forms.{numberIn}
+use Rattle.plan.specs.Limits.{counts, counted, testedBy, leastBad, breaks, noCounts}
 use Rattle.plan.specs.Rules.{refusedAt, tooLong, formsRefusal, readerRefusal, planOf}
 use Rattle.plan.proofs.Trees.{later-blocks}
 use Rattle.plan.proofs.Denotes.{accepted-denotes}
@@ -111,12 +113,12 @@ module _ (n t : ℕ) where
       }
 
   kept-block : (b : Block) (empty : Bool) → WellFormed empty b → Reads b
-  unfolding Kept blockForms WellFormed Written statements nesting counted lockAbove callAbove
+  unfolding Kept blockForms WellFormed Written statements nesting counted breaks testedBy leastBad numberIn pick
   kept-block done empty w s o fs h k = record { written = tt; nested = omega arith; later = recount s (s + 0) o o fs (omega arith) refl k }
   kept-block (skip r) empty w s o fs h k = kept-simple r (kept-block r true w) s o fs h (k .1)
   kept-block (call p r) empty w s o fs h k =
       let x = kept-simple r (kept-block r true w) s o fs h (k .1) in
-      record { written = (leb-false n (p + 1) (k .0 .callee), x .written); nested = x .nested; later = x .later }
+      record { written = (omega (arith, leb-false (n - 1) p (k .0 .callee)), x .written); nested = x .nested; later = x .later }
   kept-block (hold l b r) empty w s o fs h k =
       let deeper = within-limits (counts n (s + 1) t (o + 1)) (k .0 .limits) .depth in
       let x = kept-bracket b r (kept-block b false (w .0)) (kept-block r true (w .1)) s o fs deeper (k .1) in
@@ -165,7 +167,7 @@ record KeptThreads (n s t : ℕ) (ns : List ℕ) : Type 0 where
   few-threads : t + length ns ≤ 6
 
 kept-threads : (ns : List ℕ) (n s t : ℕ) → Kept (counts n s t 0) (threadForms ns (Close ∷ [])) → KeptThreads n s t ns
-unfolding Kept threadForms counted threadAbove
+unfolding Kept threadForms counted breaks testedBy leastBad numberIn pick
 kept-threads [] n s t k =
     let x = within-limits (counts n s t 0) (k .0 .limits) in
     record { present = λ i h. absurd (omega arith); few-procs = x .procs; few-statements = x .statements; few-threads = omega (arith, x .threads) }

@@ -10,7 +10,7 @@ use Rattle.text.specs.declared.Form.{Form}
 use Rattle.text.specs.declared.Form.the-variants.{Plan, Proc, Thread, Close, Skip, Call, Hold, Loop, Either, One, Two}
 use Rattle.plan.specs.declared.Advance.{Advance}
 use Rattle.plan.specs.declared.Advance.the-variants.{Misplaced}
-use Rattle.plan.specs.Structure.{atStart, firstProc, nextProc, nextThread, complete, firstStatement, nextStatement, needsOne, needsTwo, endsEither}
+use Rattle.plan.specs.Structure.{atStart, firstProc, nextProc, nextThread, complete, firstStatement, nextStatement, needsOne, needsTwo, endsEither, only, among}
 use Rattle.plan.specs.Structure.{ofStatement, ofOne, ofTwo, innermost, closeBlock, onClose, advanceOf, goOn, misplaced}
 
 pub data Bracket : Type 0 where
@@ -77,7 +77,7 @@ pub data Step : State → Form → State → Type 0 where
   ends-choice : {ks : List Bracket} → Step (ends-either ks) Close (in-block true ks)
 
 pub after-step : {s t : State} {f : Form} → Step s f t → (line : ℕ) (fs : List Form) → misplacedFrom s line (f ∷ fs) ≡ misplacedFrom t (suc line) fs
-unfolding misplaced modeOf stackOf brackets advanceOf onClose closeBlock pick
+unfolding misplaced modeOf stackOf brackets advanceOf only among onClose closeBlock pick
 after-step begins-plan line fs = refl
 after-step first line fs = refl
 after-step next line fs = refl
@@ -125,7 +125,7 @@ abbrev Place : State → Form → Type 0
 Place s f = Outcome s f (advanceOf (modeOf s) (innermost (stackOf s)) f)
 
 closing : (ks : List Bracket) → Place (in-block true ks) Close
-unfolding modeOf stackOf brackets advanceOf onClose closeBlock pick
+unfolding modeOf stackOf brackets advanceOf only among onClose closeBlock pick
 closing [] = steps ends-proc
 closing (statement ∷ ks) = steps ends-statement
 closing (one ∷ ks) = steps ends-one
@@ -133,7 +133,7 @@ closing (two ∷ ks) = steps ends-two
 
 -- The states by the forms: on each first line the plan's, a procedure's, a thread's and a closing line; then skip, call, hold, loop, either, one, two.
 place : (s : State) (f : Form) → Place s f
-unfolding modeOf stackOf brackets advanceOf onClose closeBlock pick
+unfolding modeOf stackOf brackets advanceOf only among onClose closeBlock pick
 place initial = by-form (Place initial) (steps begins-plan) refused (λ n. refused) refused
     refused (λ n. refused) (λ l. refused) refused refused refused refused
 place first-proc = by-form (Place first-proc) refused (steps first) (λ n. refused) refused
