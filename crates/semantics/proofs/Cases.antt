@@ -15,17 +15,17 @@ use Rattle.semantics.specs.Run.{ThreadState, up, down, move, compatible,
 use Rattle.semantics.specs.Stuck.{Largest, DeadlockFree}
 use Rattle.semantics.specs.Pairs.{heldFrom, Critical, pairsWith, pairsAt, pairs}
 use Rattle.laws.proofs.Tests.{same-test, T-and, lt-or-le}
-use Rattle.semantics.proofs.Blocks.{plain-body}
-use Rattle.semantics.proofs.Moments.{run-moment, run-length, start-length, start-moment}
+use Rattle.semantics.proofs.Remainders.{plain-body}
+use Rattle.semantics.proofs.Invariant.{run-invariant, run-length, start-length, start-invariant}
+use Rattle.semantics.proofs.PairsComplete.{pairs-complete}
+use Rattle.semantics.proofs.PairsSound.{pairs-sound}
+use Rattle.semantics.proofs.LargestStuck.{atHold, round, rounds, rounds-largest, rounds-in}
+use Rattle.semantics.proofs.ConflictSearch.{any, any-is, unmet, searchFrom}
+use Rattle.semantics.proofs.ConflictTest.{conflicting}
+use Rattle.semantics.proofs.Characterisation.{characterisation}
 use Rattle.laws.specs.Ascending.{Ascends, insert, ascending}
 use Rattle.laws.proofs.Ascending.{ascends, ascending-mem, mem-ascending}
-use Rattle.semantics.proofs.Complete.{complete}
-use Rattle.semantics.proofs.Reach.{sound}
-use Rattle.semantics.proofs.Largest.{atHold, round, rounds, rounds-largest, rounds-in}
 use Rattle.laws.specs.Mask.{bit}
-use Rattle.semantics.proofs.Search.{any, any-is, unblocked, searchFrom}
-use Rattle.semantics.proofs.Crossing.{conflicting}
-use Rattle.semantics.proofs.Verdict.{verdict}
 
 -- ---- the table
 
@@ -41,15 +41,15 @@ pub record Case : Type 0 where
   pub words : List (List ℕ)
   pub answer : Answer
 
-abbrev pub one-skip : Block
-one-skip = skip done
+abbrev pub oneSkip : Block
+oneSkip = skip done
 
 -- l[b], and l[k] with a skip inside
-abbrev pub only : ℕ → Block → Block
-only l b = hold l b done
+abbrev pub holdOnly : ℕ → Block → Block
+holdOnly l b = hold l b done
 
 abbrev pub nest : ℕ → ℕ → Block
-nest l k = only l (only k one-skip)
+nest l k = holdOnly l (holdOnly k oneSkip)
 
 -- 0[1] and 1[0]
 abbrev pub caseA : Case
@@ -57,7 +57,7 @@ caseA = record { procs = nest 0 1 ∷ nest 1 0 ∷ []; threads = 0 ∷ 1 ∷ [];
 
 -- 2[0[1]] and 2[1[0]]
 abbrev pub caseB : Case
-caseB = record { procs = only 2 (nest 0 1) ∷ only 2 (nest 1 0) ∷ []; threads = 0 ∷ 1 ∷ []; words = (2 ∷ 128 ∷ 161 ∷ []) ∷ (2 ∷ 129 ∷ 192 ∷ []) ∷ []; answer = free }
+caseB = record { procs = holdOnly 2 (nest 0 1) ∷ holdOnly 2 (nest 1 0) ∷ []; threads = 0 ∷ 1 ∷ []; words = (2 ∷ 128 ∷ 161 ∷ []) ∷ (2 ∷ 129 ∷ 192 ∷ []) ∷ []; answer = free }
 
 -- 0[0], by two threads
 abbrev pub caseC : Case
@@ -73,22 +73,22 @@ caseE = record { procs = nest 1 0 ∷ nest 2 1 ∷ []; threads = 0 ∷ 1 ∷ [];
 
 -- 0[1] then 1[0], by one thread
 abbrev pub caseF : Case
-caseF = record { procs = hold 0 (only 1 one-skip) (nest 1 0) ∷ []; threads = 0 ∷ []; words = []; answer = free }
+caseF = record { procs = hold 0 (holdOnly 1 oneSkip) (nest 1 0) ∷ []; threads = 0 ∷ []; words = []; answer = free }
 
 -- 0[1 2] and 1[0 2[0]]
 abbrev pub caseG : Case
-caseG = record { procs = only 0 (hold 1 one-skip (only 2 one-skip)) ∷ only 1 (hold 0 one-skip (nest 2 0)) ∷ []; threads = 0 ∷ 1 ∷ []; words = []; answer = deadlock (0 ∷ 1 ∷ []) (0 ∷ 1 ∷ []) }
+caseG = record { procs = holdOnly 0 (hold 1 oneSkip (holdOnly 2 oneSkip)) ∷ holdOnly 1 (hold 0 oneSkip (nest 2 0)) ∷ []; threads = 0 ∷ 1 ∷ []; words = []; answer = deadlock (0 ∷ 1 ∷ []) (0 ∷ 1 ∷ []) }
 
 -- an either of 0[1] or skip, and 1[0]
 abbrev pub caseH : Case
-caseH = record { procs = either (nest 0 1) one-skip done ∷ nest 1 0 ∷ []; threads = 0 ∷ 1 ∷ []; words = []; answer = deadlock (8 ∷ 0 ∷ 1 ∷ []) (0 ∷ 1 ∷ []) }
+caseH = record { procs = either (nest 0 1) oneSkip done ∷ nest 1 0 ∷ []; threads = 0 ∷ 1 ∷ []; words = []; answer = deadlock (8 ∷ 0 ∷ 1 ∷ []) (0 ∷ 1 ∷ []) }
 
 -- a loop over hold 0, by two threads
 abbrev pub caseI : Case
-caseI = record { procs = loop (only 0 one-skip) done ∷ []; threads = 0 ∷ 0 ∷ []; words = []; answer = free }
+caseI = record { procs = loop (holdOnly 0 oneSkip) done ∷ []; threads = 0 ∷ 0 ∷ []; words = []; answer = free }
 
-abbrev pub table : List Case
-table = caseA ∷ caseB ∷ caseC ∷ caseD ∷ caseE ∷ caseF ∷ caseG ∷ caseH ∷ caseI ∷ []
+abbrev pub cases : List Case
+cases = caseA ∷ caseB ∷ caseC ∷ caseD ∷ caseE ∷ caseF ∷ caseG ∷ caseH ∷ caseI ∷ []
 
 -- ---- the test
 
@@ -161,8 +161,8 @@ unfoldable pub allPass : List Case → Bool
 allPass [] = true
 allPass (c ∷ cs) = passes c && allPass cs
 
-table-passes : T (allPass table)
-unfolding allPass passes answers stuckAre sameBelow wordsFrom sameList all soundFrom written filled any unblocked bit searchFrom rounds round atHold ascending insert pairsWith pairsAt heldFrom run start step stepIn threadAt apart withAll compatible move down up bodyIn _⨾_
+table-passes : T (allPass cases)
+unfolding allPass passes answers stuckAre sameBelow wordsFrom sameList all soundFrom written filled any unmet bit searchFrom rounds round atHold ascending insert pairsWith pairsAt heldFrom run start step stepIn threadAt apart withAll compatible move down up bodyIn _⨾_
 table-passes = tt
 
 -- ---- what it implies
@@ -257,13 +257,13 @@ same-below (suc n) S R h t b =
     ⊎-elim (λ (e : t ≡ n). rw e (agree-is (S n) (R n) x)) (λ (l : t < n). same-below n S R y t l) (eq-or-lt-of-le (omega arith))
 
 -- what an answer says
-abbrev pub Holds : List Block → List ℕ → Answer → Type 0
-Holds ps ns free = DeadlockFree ps ns
-Holds ps ns (deadlock es us) = (ts : List ThreadState) × (run ps (start ps ns) es ≡ some ts) × Largest ps ts (among us)
+abbrev pub AnswerHolds : List Block → List ℕ → Answer → Type 0
+AnswerHolds ps ns free = DeadlockFree ps ns
+AnswerHolds ps ns (deadlock es us) = (ts : List ThreadState) × (run ps (start ps ns) es ≡ some ts) × Largest ps ts (among us)
 
-pub record Facts (c : Case) : Type 0 where
+pub record CaseFacts (c : Case) : Type 0 where
   pub words : (p : ℕ) → p < length (c .words) → Ascends (getD (c .words) p []) × ((w : ℕ) → List·Memᴰ w (getD (c .words) p []) ↔ Critical (c .procs) p w)
-  pub answer : Holds (c .procs) (c .threads) (c .answer)
+  pub answer : AnswerHolds (c .procs) (c .threads) (c .answer)
 
 module _ (ps : List Block) (ns : List ℕ) (plan : Sound ps (λ p. p)) where
   -- the stuck threads of a run that leads to ts are those of the list
@@ -276,7 +276,7 @@ module _ (ps : List Block) (ns : List ℕ) (plan : Sound ps (λ p. p)) where
       go (some ts) e h =
           let n = length ns in
           let (same, one) = T-and (sameBelow n (rounds n ps ts) (among us)) (any (rounds n ps ts) us) h in
-          let m = run-moment ps (plain-body plan) (start ps ns) ts es e (start-moment ps (plain-body plan) ns) in
+          let m = run-invariant ps (plain-body plan) (start ps ns) ts es e (start-invariant ps (plain-body plan) ns) in
           let len : length ts ≡ n = run-length ps (start ps ns) ts es e ∙ start-length ps ns in
           let is : rounds n ps ts ≡ among us = fun-ext (λ t. ⊎-elim
           (λ (b : t < n). same-below n (rounds n ps ts) (among us) same t b)
@@ -288,9 +288,9 @@ module _ (ps : List Block) (ns : List ℕ) (plan : Sound ps (λ p. p)) where
           (ts, e, subst (Largest ps ts) is (rounds-largest ps (plain-body plan) ts m n (omega arith) u r))
 
   module _ (d : ℕ) (few : length ns ≤ 8) (deep : (t : ℕ) → t < length ns → getD ns t 0 < d) where
-    answer-holds : (a : Answer) → T (answers d ps ns a) → Holds ps ns a
+    answer-holds : (a : Answer) → T (answers d ps ns a) → AnswerHolds ps ns a
     unfolding answers
-    answer-holds free h = verdict ps (λ p. p) plan ns few d deep .free .0 (T-not (conflicting (map (pairs d ps) ns)) h)
+    answer-holds free h = characterisation ps (λ p. p) plan ns few d deep .free .0 (T-not (conflicting (map (pairs d ps) ns)) h)
     answer-holds (deadlock es us) h =
         let test = stuckAre (length ns) ps us (run ps (start ps ns) es) in
         let (_, y) = T-and (conflicting (map (pairs d ps) ns)) (all (λ t. ltb t (length ns)) us && test) h in
@@ -298,7 +298,7 @@ module _ (ps : List Block) (ns : List ℕ) (plan : Sound ps (λ p. p)) where
         stuck-are es us small ends
 
 -- a case that passes
-pub passes-facts : (c : Case) → T (passes c) → Facts c
+pub passes-facts : (c : Case) → T (passes c) → CaseFacts c
 unfolding passes
 passes-facts c h =
     let ps = c .procs in
@@ -321,20 +321,20 @@ passes-facts c h =
           rw (← e) (
             ascends (pairs d ps p),
             λ w. (
-              λ m. (sound ps (λ p. p) plan d p w k (mem-ascending (pairs d ps p) w m)) .0,
-              λ q. ascending-mem (pairs d ps p) w (complete ps (λ p. p) plan d p w k q),
+              λ m. (pairs-sound ps (λ p. p) plan d p w k (mem-ascending (pairs d ps p) w m)) .0,
+              λ q. ascending-mem (pairs d ps p) w (pairs-complete ps (λ p. p) plan d p w k q),
             ),
           );
       answer = answer-holds ps ns plan d (leb→le (length ns) 8 h₂) (λ t b. ltb→lt (getD ns t 0) d (all-at (λ n. ltb n d) ns h₁ t b)) (c .answer) h₄;
     }
 
-pub cases-facts : (cs : List Case) → T (allPass cs) → (c : Case) → List·Memᴰ c cs → Facts c
+pub cases-facts : (cs : List Case) → T (allPass cs) → (c : Case) → List·Memᴰ c cs → CaseFacts c
 unfolding allPass
 cases-facts [] h c m = absurd (List·Memᴰ·not-nil m)
 cases-facts (x ∷ cs) h c m =
     let (a, b) = T-and (passes x) (allPass cs) h in
-    ⊎-elim (λ (e : c ≡ x). subst Facts (sym e) (passes-facts x a)) (λ n. cases-facts cs b c n) (List·Memᴰ·cases-cons m)
+    ⊎-elim (λ (e : c ≡ x). subst CaseFacts (sym e) (passes-facts x a)) (λ n. cases-facts cs b c n) (List·Memᴰ·cases-cons m)
 
 -- so every case of the table is as expected
-pub table-facts : (c : Case) → List·Memᴰ c table → Facts c
-table-facts = cases-facts table table-passes
+pub case-facts : (c : Case) → List·Memᴰ c cases → CaseFacts c
+case-facts = cases-facts cases table-passes

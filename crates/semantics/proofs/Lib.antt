@@ -1,30 +1,41 @@
 -- Lock sets.
-pub mod Masks
+pub mod LockSets
 -- One thread by itself.
-pub mod Blocks
-pub mod Moves
+pub mod Remainders
+pub mod CallDepth
+pub mod Transitions
 pub mod Balance
 pub mod Execution
+pub mod MatchingHold
 -- Threads beside each other.
 pub mod Compatible
 pub mod Apart
-pub mod Step
-pub mod Moments
+pub mod Steps
+pub mod Blocked
+pub mod Invariant
+pub mod Projection
 -- The pairs that are computed are the critical ones.
-pub mod Complete
-pub mod Reach
-pub mod Compose
-pub mod Bound
+pub mod PairsComplete
+pub mod PairsSound
+pub mod CallPairs
+pub mod PairBound
 pub mod Traces
+pub mod TracesInLanguage
+pub mod CriticalLanguage
 -- Deadlocks are conflicts of pairs.
 pub mod Conflict
+pub mod StuckConflict
 pub mod Tables
-pub mod Retreat
+pub mod JointStates
+pub mod RetreatStep
+pub mod RetreatRefused
+pub mod RetreatJump
+pub mod RetreatRun
 pub mod RetreatByMasks
-pub mod Deadlock
-pub mod Largest
-pub mod Search
-pub mod Crossing
-pub mod Verdict
-pub mod Copies
+pub mod ConflictRun
+pub mod LargestStuck
+pub mod ConflictSearch
+pub mod ConflictTest
+pub mod Characterisation
+pub mod MoreThreads
 pub mod Cases

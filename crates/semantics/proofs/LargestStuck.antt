@@ -13,10 +13,11 @@ use Rattle.semantics.specs.Plan.{Block, done, skip, call, hold, loop, ei
 use Rattle.semantics.specs.Run.{ThreadState, thread, up, move, everyone, stepIn}
 use Rattle.semantics.specs.Stuck.{Stuck, Largest}
 use Rattle.laws.proofs.Tests.{same-test, T-and, and-T, T-dec, lt-or-le, search-below}
-use Rattle.semantics.proofs.Blocks.{Plain}
-use Rattle.semantics.proofs.Apart.{nth, nobody, counts, Apart, apart→}
-use Rattle.semantics.proofs.Step.{Waits, moveOf, step-some, permitted-or, waits-barred, waits-stuck, stuck-waits}
-use Rattle.semantics.proofs.Moments.{Moment}
+use Rattle.semantics.proofs.Remainders.{Plain}
+use Rattle.semantics.proofs.Apart.{nth, absentThread, counts, Apart, apart→}
+use Rattle.semantics.proofs.Blocked.{Blocked, permitted-or-blocked, blocked-barred, blocked-stuck, stuck-blocked}
+use Rattle.semantics.proofs.Steps.{moveOf, step-some}
+use Rattle.semantics.proofs.Invariant.{Invariant}
 use Rattle.semantics.proofs.Tables.{total, total-ones, total-lt, total-at}
 
 -- the remainder is about to begin a hold
@@ -29,19 +30,19 @@ atHold (loop b r) = false
 atHold (either a b r) = false
 atHold (end l r) = false
 
-abbrev pub first : List ThreadState → ℕ → Bool
-first ts t = atHold ((nth ts t) .rest)
+abbrev pub beginsHold : List ThreadState → ℕ → Bool
+beginsHold ts t = atHold ((nth ts t) .rest)
 
-abbrev pub refused : {A : Type 0} → Option A → Bool
-refused none = true
-refused (some a) = false
+abbrev pub isNone : {A : Type 0} → Option A → Bool
+isNone none = true
+isNone (some a) = false
 
 -- the threads of S that are about to begin a hold and may not, the others forgotten
 unfoldable pub round : List Block → List ThreadState → (ℕ → Bool) → ℕ → Bool
-round ps ts S t = S t && (first ts t && refused (stepIn S ps ts t 0))
+round ps ts S t = S t && (beginsHold ts t && isNone (stepIn S ps ts t 0))
 
 unfoldable pub rounds : ℕ → List Block → List ThreadState → ℕ → Bool
-rounds zero ps ts = first ts
+rounds zero ps ts = beginsHold ts
 rounds (suc k) ps ts = round ps ts (rounds k ps ts)
 
 -- every stuck set lies in S
@@ -49,8 +50,8 @@ abbrev pub Covers : List Block → List ThreadState → (ℕ → Bool) → Type 
 Covers ps ts S = (S′ : ℕ → Bool) → Stuck ps ts S′ → (t : ℕ) → T (S′ t) → T (S t)
 
 -- no thread of S is dropped
-abbrev pub Fixed : List Block → List ThreadState → (ℕ → Bool) → Type 0
-Fixed ps ts S = (t : ℕ) → T (S t) → T (round ps ts S t)
+abbrev pub FixedPoint : List Block → List ThreadState → (ℕ → Bool) → Type 0
+FixedPoint ps ts S = (t : ℕ) → T (S t) → T (round ps ts S t)
 
 -- ---- tests as numbers
 
@@ -72,25 +73,25 @@ at-hold : (b : Block) → T (atHold b) → (l : ℕ) × (x : Block) × (r : Bloc
 unfolding atHold
 at-hold (hold l x r) h = (l, x, r, refl)
 
-first-in : (ts : List ThreadState) (t : ℕ) → T (first ts t) → t < length ts
+first-in : (ts : List ThreadState) (t : ℕ) → T (beginsHold ts t) → t < length ts
 unfolding atHold
 first-in ts t h =
-    ⊎-elim (λ b. b) (λ (b : length ts ≤ t). absurd (subst (λ x. T (atHold (x .rest))) (List·getD-eq-default ts nobody b) h)) (lt-or-le t (length ts))
+    ⊎-elim (λ b. b) (λ (b : length ts ≤ t). absurd (subst (λ x. T (atHold (x .rest))) (List·getD-eq-default ts absentThread b) h)) (lt-or-le t (length ts))
 
-waits-first : (S : ℕ → Bool) (ts : List ThreadState) (t : ℕ) → Waits S ts t → T (first ts t)
+blocked-begins : (S : ℕ → Bool) (ts : List ThreadState) (t : ℕ) → Blocked S ts t → T (beginsHold ts t)
 unfolding atHold
-waits-first S ts t w = rw (w .stands) tt
+blocked-begins S ts t w = rw (w .stands) tt
 
-refused-none : {A : Type 0} (o : Option A) → o ≡ none → T (refused o)
+refused-none : {A : Type 0} (o : Option A) → o ≡ none → T (isNone o)
 refused-none none e = tt
 refused-none (some a) e = absurd (Option·some-ne-none a e)
 
-refused-some : {A : Type 0} (o : Option A) (a : A) → T (refused o) → o ≡ some a → ⊥
+refused-some : {A : Type 0} (o : Option A) (a : A) → T (isNone o) → o ≡ some a → ⊥
 refused-some none a t e = Option·none-ne-some a e
 refused-some (some b) a t e = t
 
-waits-more : (S S′ : ℕ → Bool) (ts : List ThreadState) (t : ℕ) → ((u : ℕ) → T (S u) → T (S′ u)) → Waits S ts t → Waits S′ ts t
-waits-more S S′ ts t m w =
+blocked-more : (S S′ : ℕ → Bool) (ts : List ThreadState) (t : ℕ) → ((u : ℕ) → T (S u) → T (S′ u)) → Blocked S ts t → Blocked S′ ts t
+blocked-more S S′ ts t m w =
     record {
       lock = w .lock;
       inside = w .inside;
@@ -102,45 +103,45 @@ waits-more S S′ ts t m w =
       theirs = w .theirs;
     }
 
-module _ (ps : List Block) (bodies : (p : ℕ) → Plain (bodyIn ps p)) (ts : List ThreadState) (moment : Moment ts) where
+module _ (ps : List Block) (bodies : (p : ℕ) → Plain (bodyIn ps p)) (ts : List ThreadState) (moment : Invariant ts) where
   apart-in : (S : ℕ → Bool) → Apart S ts
-  apart-in S i j d _ _ = apart→ everyone ts (moment .free) i j d tt tt
+  apart-in S i j d _ _ = apart→ everyone ts (moment .all-apart) i j d tt tt
 
-  waits-in : (S : ℕ → Bool) → Stuck ps ts S → (t : ℕ) → T (S t) → Waits S ts t
-  waits-in S = stuck-waits ps bodies S ts (moment .balanced) (apart-in S)
+  blocked-in : (S : ℕ → Bool) → Stuck ps ts S → (t : ℕ) → T (S t) → Blocked S ts t
+  blocked-in S = stuck-blocked ps bodies S ts (moment .balanced) (apart-in S)
 
-  -- a thread stays just if it waits for another thread of S
-  pub waits-round : (S : ℕ → Bool) (t : ℕ) → T (S t) → Waits S ts t → T (round ps ts S t)
+  -- a thread stays just if it is blocked by another thread of S
+  pub blocked-round : (S : ℕ → Bool) (t : ℕ) → T (S t) → Blocked S ts t → T (round ps ts S t)
   unfolding round
-  waits-round S t s w =
-      let f = waits-first S ts t w in
-      and-T (S t) (first ts t && refused (stepIn S ps ts t 0)) s
-      (and-T (first ts t) (refused (stepIn S ps ts t 0)) f
-      (refused-none (stepIn S ps ts t 0) (waits-barred ps bodies S ts (moment .balanced) t 0 (first-in ts t f) s w)))
+  blocked-round S t s w =
+      let f = blocked-begins S ts t w in
+      and-T (S t) (beginsHold ts t && isNone (stepIn S ps ts t 0)) s
+      (and-T (beginsHold ts t) (isNone (stepIn S ps ts t 0)) f
+      (refused-none (stepIn S ps ts t 0) (blocked-barred ps bodies S ts (moment .balanced) t 0 (first-in ts t f) s w)))
 
-  pub round-waits : (S : ℕ → Bool) (t : ℕ) → T (round ps ts S t) → (t < length ts) × Waits S ts t
+  pub round-blocked : (S : ℕ → Bool) (t : ℕ) → T (round ps ts S t) → (t < length ts) × Blocked S ts t
   unfolding round move
-  round-waits S t h =
-      let (s, q) = T-and (S t) (first ts t && refused (stepIn S ps ts t 0)) h in
-      let (f, n) = T-and (first ts t) (refused (stepIn S ps ts t 0)) q in
+  round-blocked S t h =
+      let (s, q) = T-and (S t) (beginsHold ts t && isNone (stepIn S ps ts t 0)) h in
+      let (f, n) = T-and (beginsHold ts t) (isNone (stepIn S ps ts t 0)) q in
       let b = first-in ts t f in
       let (l, x, r, e) = at-hold ((nth ts t) .rest) f in
       let y : ThreadState = thread (x ⨾ end l r) (up l (counts ts t)) in
       let m : moveOf ps ts t 0 ≡ some y = ap (λ b. move ps 0 b (counts ts t)) e in (
         b,
         ⊎-elim (λ a. absurd (refused-some (stepIn S ps ts t 0) (set ts t y) n (step-some S ps ts t 0 y b m a))) (λ w. w)
-            (permitted-or ps bodies S ts (moment .balanced) (apart-in S) t 0 y b s m),
+            (permitted-or-blocked ps bodies S ts (moment .balanced) (apart-in S) t 0 y b s m),
       )
 
-  pub first-covers : Covers ps ts (first ts)
-  first-covers S st t s = waits-first S ts t (waits-in S st t s)
+  pub begins-covers : Covers ps ts (beginsHold ts)
+  begins-covers S st t s = blocked-begins S ts t (blocked-in S st t s)
 
   pub round-covers : (S : ℕ → Bool) → Covers ps ts S → Covers ps ts (round ps ts S)
-  round-covers S c S′ st t s = waits-round S t (c S′ st t s) (waits-more S′ S ts t (c S′ st) (waits-in S′ st t s))
+  round-covers S c S′ st t s = blocked-round S t (c S′ st t s) (blocked-more S′ S ts t (c S′ st) (blocked-in S′ st t s))
 
-  pub fixed-largest : (S : ℕ → Bool) → Covers ps ts S → Fixed ps ts S → (t : ℕ) → T (S t) → Largest ps ts S
+  pub fixed-largest : (S : ℕ → Bool) → Covers ps ts S → FixedPoint ps ts S → (t : ℕ) → T (S t) → Largest ps ts S
   fixed-largest S c f t s = record {
-    stuck = waits-stuck ps bodies S ts (moment .balanced) (λ u r. (round-waits S u (f u r)) .0) (λ u r. (round-waits S u (f u r)) .1) t s;
+    stuck = blocked-stuck ps bodies S ts (moment .balanced) (λ u r. (round-blocked S u (f u r)) .0) (λ u r. (round-blocked S u (f u r)) .1) t s;
     holds-all = c;
   }
 
@@ -152,13 +153,13 @@ module _ (ps : List Block) (bodies : (p : ℕ) → Plain (bodyIn ps p)) (ts : Li
 
   pub round-in : (S : ℕ → Bool) (t : ℕ) → T (round ps ts S t) → T (S t)
   unfolding round
-  round-in S t h = (T-and (S t) (first ts t && refused (stepIn S ps ts t 0)) h) .0
+  round-in S t h = (T-and (S t) (beginsHold ts t && isNone (stepIn S ps ts t 0)) h) .0
 
   -- a round of a set from which it drops none is that set
-  fixed-same : (S : ℕ → Bool) → Fixed ps ts S → round ps ts S ≡ S
+  fixed-same : (S : ℕ → Bool) → FixedPoint ps ts S → round ps ts S ≡ S
   fixed-same S f = fun-ext (λ t. same-test (round ps ts S t) (S t) (round-in S t) (f t))
 
-  fixed-or : (S : ℕ → Bool) → ((t : ℕ) → T (S t) → t < length ts) → Fixed ps ts S ⊎ (size (round ps ts S) < size S)
+  fixed-or : (S : ℕ → Bool) → ((t : ℕ) → T (S t) → t < length ts) → FixedPoint ps ts S ⊎ (size (round ps ts S) < size S)
   fixed-or S b =
       ⊎-elim
       (λ (q : (t : ℕ) × (t < length ts) × T (S t && not (round ps ts S t))).
@@ -174,28 +175,28 @@ module _ (ps : List Block) (bodies : (p : ℕ) → Plain (bodyIn ps p)) (ts : Li
   rounds-in zero t h = first-in ts t h
   rounds-in (suc k) t h = rounds-in k t (round-in (rounds k ps ts) t h)
 
-  rounds-fall : (k : ℕ) → Fixed ps ts (rounds k ps ts) ⊎ (size (rounds k ps ts) + k ≤ length ts)
+  rounds-fall : (k : ℕ) → FixedPoint ps ts (rounds k ps ts) ⊎ (size (rounds k ps ts) + k ≤ length ts)
   unfolding rounds
-  rounds-fall zero = inr (omega (arith, total-ones (length ts) (λ t. cond (first ts t) 1 0) (λ t. test-le (first ts t) true (λ _. tt))))
+  rounds-fall zero = inr (omega (arith, total-ones (length ts) (λ t. cond (beginsHold ts t) 1 0) (λ t. test-le (beginsHold ts t) true (λ _. tt))))
   rounds-fall (suc k) =
       ⊎-elim
-      (λ (f : Fixed ps ts (rounds k ps ts)). inl (subst (Fixed ps ts) (sym (fixed-same (rounds k ps ts) f)) f))
+      (λ (f : FixedPoint ps ts (rounds k ps ts)). inl (subst (FixedPoint ps ts) (sym (fixed-same (rounds k ps ts) f)) f))
       (λ (c : size (rounds k ps ts) + k ≤ length ts).
-      ⊎-elim (λ (f : Fixed ps ts (rounds k ps ts)). inl (subst (Fixed ps ts) (sym (fixed-same (rounds k ps ts) f)) f))
+      ⊎-elim (λ (f : FixedPoint ps ts (rounds k ps ts)). inl (subst (FixedPoint ps ts) (sym (fixed-same (rounds k ps ts) f)) f))
       (λ (d : size (round ps ts (rounds k ps ts)) < size (rounds k ps ts)). inr (omega arith))
       (fixed-or (rounds k ps ts) (rounds-in k)))
       (rounds-fall k)
 
-  pub rounds-fixed : (k : ℕ) → length ts ≤ k → Fixed ps ts (rounds k ps ts)
+  pub rounds-fixed : (k : ℕ) → length ts ≤ k → FixedPoint ps ts (rounds k ps ts)
   rounds-fixed k b t s =
-      ⊎-elim (λ (f : Fixed ps ts (rounds k ps ts)). f t s)
+      ⊎-elim (λ (f : FixedPoint ps ts (rounds k ps ts)). f t s)
       (λ (c : size (rounds k ps ts) + k ≤ length ts).
       absurd (omega (arith, total-at (length ts) (λ t. cond (rounds k ps ts t) 1 0) t (rounds-in k t s), test-one (rounds k ps ts t) s)))
       (rounds-fall k)
 
   pub rounds-cover : (k : ℕ) → Covers ps ts (rounds k ps ts)
   unfolding rounds
-  rounds-cover zero = first-covers
+  rounds-cover zero = begins-covers
   rounds-cover (suc k) = round-covers (rounds k ps ts) (rounds-cover k)
 
   -- what is left after k rounds, for k threads or fewer, is the largest stuck set; if nothing is left, no set is stuck

@@ -12,9 +12,9 @@ use Rattle.semantics.specs.Plan.{Block, Sound}
 use Rattle.semantics.specs.Stuck.{DeadlockFree}
 use Rattle.semantics.specs.Pairs.{locksOf, pairs}
 use Rattle.laws.proofs.Tests.{T-and, and-T, T-or, or-T}
-use Rattle.semantics.proofs.Search.{any, still, searchFrom}
-use Rattle.semantics.proofs.Crossing.{compatSets, blocksSet}
-use Rattle.semantics.proofs.Verdict.{verdict}
+use Rattle.semantics.proofs.ConflictSearch.{any, stillUnmet, searchFrom}
+use Rattle.semantics.proofs.ConflictTest.{compatibleSets, excludesSet}
+use Rattle.semantics.proofs.Characterisation.{characterisation}
 
 any-more : (f g : ℕ → Bool) → ((v : ℕ) → T (f v) → T (g v)) → (vs : List ℕ) → T (any f vs) → T (any g vs)
 unfolding any
@@ -23,7 +23,7 @@ any-more f g h (v ∷ vs) t = or-T (g v) (any g vs) (⊎-elim (λ a. inl (h v a)
 
 module _ (c b : ℕ → ℕ → Bool) where
   abbrev takes : List (List ℕ) → ℕ → List ℕ → ℕ → Bool
-  takes vss m ws v = c m (locksOf v) && searchFrom c b vss (bitOr m (locksOf v)) (still c b m v ws) true
+  takes vss m ws v = c m (locksOf v) && searchFrom c b vss (bitOr m (locksOf v)) (stillUnmet c b m v ws) true
 
   pub search-insert : (xs : List (List ℕ)) (vs : List ℕ) (ys : List (List ℕ)) (m : ℕ) (ws : List ℕ) (some : Bool)
       → T (searchFrom c b (xs ++ ys) m ws some) → T (searchFrom c b (xs ++ vs ∷ ys) m ws some)
@@ -33,9 +33,9 @@ module _ (c b : ℕ → ℕ → Bool) where
       or-T (searchFrom c b (xs ++ vs ∷ ys) m ws some) (any (takes (xs ++ vs ∷ ys) m ws) x)
       (⊎-elim (λ p. inl (search-insert xs vs ys m ws some p))
       (λ p. inr (any-more (takes (xs ++ ys) m ws) (takes (xs ++ vs ∷ ys) m ws)
-      (λ v q. let (k, r) = T-and (c m (locksOf v)) (searchFrom c b (xs ++ ys) (bitOr m (locksOf v)) (still c b m v ws) true) q in
-      and-T (c m (locksOf v)) (searchFrom c b (xs ++ vs ∷ ys) (bitOr m (locksOf v)) (still c b m v ws) true) k
-      (search-insert xs vs ys (bitOr m (locksOf v)) (still c b m v ws) true r)) x p))
+      (λ v q. let (k, r) = T-and (c m (locksOf v)) (searchFrom c b (xs ++ ys) (bitOr m (locksOf v)) (stillUnmet c b m v ws) true) q in
+      and-T (c m (locksOf v)) (searchFrom c b (xs ++ vs ∷ ys) (bitOr m (locksOf v)) (stillUnmet c b m v ws) true) k
+      (search-insert xs vs ys (bitOr m (locksOf v)) (stillUnmet c b m v ws) true r)) x p))
       (T-or (searchFrom c b (xs ++ ys) m ws some) (any (takes (xs ++ ys) m ws) x) t))
 
 map-++ : (f : ℕ → List ℕ) (ms ns : List ℕ) → map f (ms ++ ns) ≡ map f ms ++ map f ns
@@ -43,11 +43,11 @@ map-++ f [] ns = refl
 map-++ f (m ∷ ms) ns = ap (λ r. f m ∷ r) (map-++ f ms ns)
 
 -- a gateway that is free with a thread of procedure p more is free without it
-pub free-fewer : (ps : List Block) (rank : ℕ → ℕ) → Sound ps rank → (d : ℕ) → ((q : ℕ) → rank q < d)
+pub deadlock-free-fewer : (ps : List Block) (rank : ℕ → ℕ) → Sound ps rank → (d : ℕ) → ((q : ℕ) → rank q < d)
     → (ms : List ℕ) (p : ℕ) (ns : List ℕ) → length (ms ++ p ∷ ns) ≤ 8 → DeadlockFree ps (ms ++ p ∷ ns) → DeadlockFree ps (ms ++ ns)
-free-fewer ps rank s d deep ms p ns few free =
+deadlock-free-fewer ps rank s d deep ms p ns few free =
     let less : length (ms ++ ns) ≤ 8 = rw length-append (omega (arith, rw length-append at few)) in
-    verdict ps rank s (ms ++ ns) less d (λ t _. deep (getD (ms ++ ns) t 0)) .free .0
-    (λ h. verdict ps rank s (ms ++ p ∷ ns) few d (λ t _. deep (getD (ms ++ p ∷ ns) t 0)) .free .1 free
-    (rw (map-++ (pairs d ps) ms (p ∷ ns)) (search-insert compatSets blocksSet (map (pairs d ps) ms) (pairs d ps p) (map (pairs d ps) ns) 0 [] false
+    characterisation ps rank s (ms ++ ns) less d (λ t _. deep (getD (ms ++ ns) t 0)) .free .0
+    (λ h. characterisation ps rank s (ms ++ p ∷ ns) few d (λ t _. deep (getD (ms ++ p ∷ ns) t 0)) .free .1 free
+    (rw (map-++ (pairs d ps) ms (p ∷ ns)) (search-insert compatibleSets excludesSet (map (pairs d ps) ms) (pairs d ps p) (map (pairs d ps) ns) 0 [] false
     (rw (map-++ (pairs d ps) ms ns) at h))))

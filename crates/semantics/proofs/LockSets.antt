@@ -27,35 +27,35 @@ shift k (c ∷ cs) = rw (shift (k + 1) cs, shift 1 cs, add-one, pow-suc 2 k) (go
     go true = omega arith
     go false = omega arith
 
-pub bit-held : (cs : List ℕ) (k : ℕ) → bit (held cs) k ≡ cond (ltb 0 (getD cs k 0)) 1 0
+pub held-digit : (cs : List ℕ) (k : ℕ) → bit (held cs) k ≡ cond (ltb 0 (getD cs k 0)) 1 0
 unfolding heldFrom
-bit-held [] k = bit-none k
-bit-held (c ∷ cs) zero = rw (bit-zero, shift 1 cs) (go (ltb 0 c))
+held-digit [] k = bit-none k
+held-digit (c ∷ cs) zero = rw (bit-zero, shift 1 cs) (go (ltb 0 c))
   where
     go : (t : Bool) → (cond t 1 0 + held cs * 2) % 2 ≡ cond t 1 0
     go true = omega arith
     go false = omega arith
-bit-held (c ∷ cs) (suc k) = rw (bit-suc, shift 1 cs, go (ltb 0 c)) (bit-held cs k)
+held-digit (c ∷ cs) (suc k) = rw (bit-suc, shift 1 cs, go (ltb 0 c)) (held-digit cs k)
   where
     go : (t : Bool) → (cond t 1 0 + held cs * 2) / 2 ≡ held cs
     go true = omega arith
     go false = omega arith
 
-pub bit-of-free : (cs : List ℕ) (l : ℕ) → getD cs l 0 ≡ 0 → bit (held cs) l ≡ 0
-bit-of-free cs l e = rw (bit-held, e)
+pub free-digit : (cs : List ℕ) (l : ℕ) → getD cs l 0 ≡ 0 → bit (held cs) l ≡ 0
+free-digit cs l e = rw (held-digit, e)
 
-pub has-bit : (cs : List ℕ) (l : ℕ) → 0 < getD cs l 0 → bit (held cs) l ≡ 1
-has-bit cs l h = rw (bit-held, lt-ltb 0 (getD cs l 0) h)
+pub positive-digit : (cs : List ℕ) (l : ℕ) → 0 < getD cs l 0 → bit (held cs) l ≡ 1
+positive-digit cs l h = rw (held-digit, lt-ltb 0 (getD cs l 0) h)
 
-pub bit-has : (cs : List ℕ) (l : ℕ) → bit (held cs) l ≡ 1 → 0 < getD cs l 0
-bit-has cs l e = ⊎-elim (λ z. absurd (omega (arith, bit-of-free cs l z))) (λ h. h) (eq-zero-or-pos (getD cs l 0))
+pub digit-positive : (cs : List ℕ) (l : ℕ) → bit (held cs) l ≡ 1 → 0 < getD cs l 0
+digit-positive cs l e = ⊎-elim (λ z. absurd (omega (arith, free-digit cs l z))) (λ h. h) (eq-zero-or-pos (getD cs l 0))
 
-pub free-bit : (cs : List ℕ) (l : ℕ) → bit (held cs) l ≡ 0 → getD cs l 0 ≡ 0
-free-bit cs l e = ⊎-elim (λ z. z) (λ h. absurd (omega (arith, has-bit cs l h))) (eq-zero-or-pos (getD cs l 0))
+pub digit-free : (cs : List ℕ) (l : ℕ) → bit (held cs) l ≡ 0 → getD cs l 0 ≡ 0
+digit-free cs l e = ⊎-elim (λ z. z) (λ h. absurd (omega (arith, positive-digit cs l h))) (eq-zero-or-pos (getD cs l 0))
 
-pub held-up : (cs : List ℕ) (l : ℕ) → l < length cs → held (up l cs) ≡ bitOr (held cs) (2 ^ l)
+pub held-begin : (cs : List ℕ) (l : ℕ) → l < length cs → held (up l cs) ≡ bitOr (held cs) (2 ^ l)
 unfolding up
-held-up cs l h = bit-ext _ _ (λ k. rw (bit-held, bit-or, bit-held) (go k (ℕ-discrete k l)))
+held-begin cs l h = bit-ext _ _ (λ k. rw (held-digit, bit-or, held-digit) (go k (ℕ-discrete k l)))
   where
     most : (t : Bool) → 1 ≡ max (cond t 1 0) 1
     most true = refl

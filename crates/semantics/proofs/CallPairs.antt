@@ -13,10 +13,11 @@ use Rattle.semantics.specs.Plan.{Block, done, skip, call, hold, loop, ei
 use Rattle.semantics.specs.Run.{up, unlocked}
 use Rattle.semantics.specs.Pairs.{wordOf, locksOf, wantOf, heldFrom, held, wordAt, pairsWith, pairsAt, pairs}
 use Rattle.laws.proofs.Tests.{T-true, only}
-use Rattle.semantics.proofs.Blocks.{length-up, body-below, depth-solves}
+use Rattle.semantics.proofs.Remainders.{length-up, body-below}
+use Rattle.semantics.proofs.CallDepth.{depth-unfolds}
+use Rattle.semantics.proofs.LockSets.{held-begin}
+use Rattle.semantics.proofs.Compatible.{freshIn, fresh-held, fresh-or, fresh-none}
 use Rattle.laws.proofs.Bits.{or-assoc}
-use Rattle.semantics.proofs.Masks.{held-up}
-use Rattle.semantics.proofs.Compatible.{freshIn, fresh-in, fresh-or, fresh-none}
 
 -- the word w of a callee, as its caller has it who holds the locks of m: none where the lock is held already
 unfoldable pub liftWord : ℕ → ℕ → List ℕ
@@ -98,7 +99,7 @@ words-agree C f g e m (end l r) w = absurd w
 
 pub words-unfolds : (ps : List Block) (rank : ℕ → ℕ) → Sound ps rank → (d p : ℕ) → rank p < d → wordsAt d ps p ≡ wordsWith (wordsAt d ps) 0 (bodyIn ps p)
 unfolding wordsAt
-words-unfolds ps rank s = depth-solves ps rank s (λ g b. wordsWith g 0 b) (λ C f g e b w. words-agree C f g e 0 b w) (λ d p. wordsAt d ps p) (λ d p. refl)
+words-unfolds ps rank s = depth-unfolds ps rank s (λ g b. wordsWith g 0 b) (λ C f g e b w. words-agree C f g e 0 b w) (λ d p. wordsAt d ps p) (λ d p. refl)
 
 -- Proposition 6.2, over a block
 pub words-lift : (g : ℕ → List ℕ) (m n : ℕ) (b : Block) → lift m (wordsWith g n b) ≡ wordsWith g (bitOr m n) b
@@ -117,34 +118,34 @@ unfolding liftWord
 word-lift cs l h =
     let lock : wantOf l ≡ l = omega arith in
     let locks : locksOf l ≡ 0 = omega arith in
-    rw (lock, locks, or-zero-r, fresh-in)
+    rw (lock, locks, or-zero-r, fresh-held)
 
 module _ (C : ℕ → Type 0) (f : ℕ → List ℕ → List ℕ) (g : ℕ → List ℕ)
     (called : (p : ℕ) → C p → (cs : List ℕ) → length cs ≡ 32 → f p cs ≡ lift (held cs) (g p)) where
-  pub words-are : (cs : List ℕ) (b : Block) → length cs ≡ 32 → Written C b → pairsWith f cs b ≡ wordsWith g (held cs) b
+  pub pairs-words-with : (cs : List ℕ) (b : Block) → length cs ≡ 32 → Written C b → pairsWith f cs b ≡ wordsWith g (held cs) b
   unfolding Written pairsWith wordsWith
-  words-are cs done e w = refl
-  words-are cs (skip r) e w = words-are cs r e w
-  words-are cs (call p r) e w = cc (called p (w .0) cs e, words-are cs r e (w .1))
-  words-are cs (hold l b r) e w =
+  pairs-words-with cs done e w = refl
+  pairs-words-with cs (skip r) e w = pairs-words-with cs r e w
+  pairs-words-with cs (call p r) e w = cc (called p (w .0) cs e, pairs-words-with cs r e (w .1))
+  pairs-words-with cs (hold l b r) e w =
       let inner : pairsWith f (up l cs) b ≡ wordsWith g (bitOr (held cs) (2 ^ l)) b =
-      rw (words-are (up l cs) b (length-up l cs ∙ e) (w .1), held-up cs l (rw e (w .0))) in
-      cc (word-lift cs l (w .0), inner, words-are cs r e (w .2))
-  words-are cs (loop b r) e w = cc (words-are cs b e (w .0), words-are cs r e (w .1))
-  words-are cs (either a b r) e w = cc (words-are cs a e (w .0), words-are cs b e (w .1), words-are cs r e (w .2))
-  words-are cs (end l r) e w = absurd w
+      rw (pairs-words-with (up l cs) b (length-up l cs ∙ e) (w .1), held-begin cs l (rw e (w .0))) in
+      cc (word-lift cs l (w .0), inner, pairs-words-with cs r e (w .2))
+  pairs-words-with cs (loop b r) e w = cc (pairs-words-with cs b e (w .0), pairs-words-with cs r e (w .1))
+  pairs-words-with cs (either a b r) e w = cc (pairs-words-with cs a e (w .0), pairs-words-with cs b e (w .1), pairs-words-with cs r e (w .2))
+  pairs-words-with cs (end l r) e w = absurd w
 
 module _ (ps : List Block) (rank : ℕ → ℕ) (s : Sound ps rank) where
-  pub words-at : (d p : ℕ) → rank p < d → (cs : List ℕ) → length cs ≡ 32 → pairsAt d ps p cs ≡ lift (held cs) (wordsAt d ps p)
+  pub pairs-words-at : (d p : ℕ) → rank p < d → (cs : List ℕ) → length cs ≡ 32 → pairsAt d ps p cs ≡ lift (held cs) (wordsAt d ps p)
   unfolding pairsAt wordsAt
-  words-at zero p h cs e = absurd (omega arith)
-  words-at (suc d) p h cs e = rw (words-lift, or-zero-r)
-      (words-are (λ q. rank q < d) (pairsAt d ps) (wordsAt d ps) (words-at d) cs (bodyIn ps p) e (body-below ps rank s d p (omega arith)))
+  pairs-words-at zero p h cs e = absurd (omega arith)
+  pairs-words-at (suc d) p h cs e = rw (words-lift, or-zero-r)
+      (pairs-words-with (λ q. rank q < d) (pairsAt d ps) (wordsAt d ps) (pairs-words-at d) cs (bodyIn ps p) e (body-below ps rank s d p (omega arith)))
 
   pub pairs-words : (d p : ℕ) → rank p < d → pairs d ps p ≡ wordsAt d ps p
   unfolding heldFrom
-  pairs-words d p h = words-at d p h unlocked refl ∙ lift-none (wordsAt d ps p)
+  pairs-words d p h = pairs-words-at d p h unlocked refl ∙ lift-none (wordsAt d ps p)
 
   -- Proposition 6.2: the words with some locks held, from the words with none held
   pub pairs-lift : (d p : ℕ) → rank p < d → (cs : List ℕ) → length cs ≡ 32 → pairsAt d ps p cs ≡ lift (held cs) (pairs d ps p)
-  pairs-lift d p h cs e = rw (pairs-words d p h) (words-at d p h cs e)
+  pairs-lift d p h cs e = rw (pairs-words d p h) (pairs-words-at d p h cs e)
