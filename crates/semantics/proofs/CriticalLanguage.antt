@@ -3,6 +3,7 @@
 use Prim.Native.Nat.{ℕ, zero, suc, _<_}
 use mathlib.Core.List.{List, [], _∷_, _++_}
 use mathlib.Core.Path.{_≡_, refl, ap, sym, _∙_, subst}
+use mathlib.Core.Logic.{_↔_}
 use native.Mathlib.Omega.{arith}
 use lib.Dec.{T}
 use Rattle.semantics.specs.Plan.{Block, done, skip, call, hold, loop, either, end, bodyIn, Written, Sound}
@@ -16,7 +17,7 @@ use Rattle.semantics.specs.Language.{Action, acquire, release, in-done, 
 use Rattle.semantics.proofs.Traces.{word-traced, trace-counts, traces-exec, traces-at-acquire}
 use Rattle.semantics.proofs.TracesInLanguage.{exec-traces-in-language}
 
-pub language-critical : (ps : List Block) (p w : ℕ) → PublishedCritical ps p w → Critical ps p w
+language-critical : (ps : List Block) (p w : ℕ) → PublishedCritical ps p w → Critical ps p w
 language-critical ps p w k =
     let (cs′, s) = word-traced (k .in-language) done unlocked in
     let a = traces-at-acquire ps _ (s .steps) _ _ (k .before) (k .lock) (k .behind) (rw (⨾-done (bodyIn ps p)) at (s .traces)) refl in
@@ -52,7 +53,7 @@ completion-at ps rank s zero p h = absurd (omega arith)
 completion-at ps rank s (suc d) p h =
     completion ps (λ q. rank q < d) (completion-at ps rank s d) (bodyIn ps p) (remainder-of-written _ (bodyIn ps p) (body-below ps rank s d p (omega arith)))
 
-pub critical-language : (ps : List Block) (rank : ℕ → ℕ) → Sound ps rank → (p w : ℕ) → Critical ps p w → PublishedCritical ps p w
+critical-language : (ps : List Block) (rank : ℕ → ℕ) → Sound ps rank → (p w : ℕ) → Critical ps p w → PublishedCritical ps p w
 unfolding Remainder
 critical-language ps rank s p w c =
     let d = suc (rank p) in
@@ -74,3 +75,7 @@ critical-language ps rank s p w c =
       free = subst (λ cs. T (fresh cs (c .lock))) (sym counts) (c .free);
       word = c .word ∙ ap (λ (cs : List ℕ). wordOf (held cs) (c .lock)) (sym counts);
     }
+
+-- Definition 4.1 is ours
+pub critical-is-published : (ps : List Block) (rank : ℕ → ℕ) → Sound ps rank → (p w : ℕ) → Critical ps p w ↔ PublishedCritical ps p w
+critical-is-published ps rank s p w = (critical-language ps rank s p w, language-critical ps p w)

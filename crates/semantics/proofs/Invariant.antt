@@ -1,9 +1,9 @@
--- What every run keeps: at each moment the counts of a thread are those of the ends that its remainder has, and no lock is positive in two threads. It holds at
--- the start, and each permitted step keeps it.
+-- What every run keeps (`run-keeps`): the counts of a thread are those of the ends that its remainder has, no lock is positive in two threads (source 000, Remark 2.1), and
+-- only to begin a hold of a lock that another thread holds is ever refused. The first two hold at the start and each permitted step keeps them.
 use Prim.Native.Nat.{ℕ, zero, suc, _+_, _*_, _/_, _%_, _<_}
 use mathlib.Core.List.{List, [], _∷_}
 use mathlib.Core.Logic.{⊎-elim, _≢_}
-use mathlib.Core.Option.{some, Option·some-injective}
+use mathlib.Core.Option.{none, some, Option·some-injective, Option·some-ne-none}
 use mathlib.Core.Path.{_≡_, refl, sym, ap, _∙_, subst}
 use native.Mathlib.Nat.{not-suc-le-zero, le-of-suc-le-suc}
 use native.Mathlib.Omega.{arith}
@@ -11,15 +11,15 @@ use lib.ListN.{length, getD, set, length-set, length-map}
 use lib.Seq.{getD-set-same, getD-set-other}
 use lib.Dec.{T}
 use Rattle.semantics.specs.Plan.{Block, bodyIn}
-use Rattle.semantics.specs.Run.{ThreadState, apart, everyone, step, run, start, initial}
+use Rattle.semantics.specs.Run.{ThreadState, apart, everyone, stepIn, step, run, start, initial}
 use Rattle.laws.proofs.Tests.{bind-inv, eq-or-ne}
-use Rattle.semantics.proofs.Apart.{nth, absentThread, counts, excludes-present, apart←}
-use Rattle.semantics.proofs.Compatible.{HasLock, Excludes, unlocked-excludes-none, compatible-or-contended}
+use Rattle.semantics.proofs.Apart.{nth, absentThread, counts, excludes-present, apart→, apart←}
+use Rattle.semantics.proofs.Compatible.{HasLock, Excludes, compatible-not-contended, unlocked-excludes-none, compatible-or-contended}
 use Rattle.semantics.proofs.Remainders.{Plain}
 use Rattle.semantics.proofs.Transitions.{move-transition}
-use Rattle.semantics.proofs.Balance.{Balanced, balanced-step, balanced-plain}
-use Rattle.semantics.proofs.Blocked.{BalancedAll}
-use Rattle.semantics.proofs.Steps.{step-inv}
+use Rattle.semantics.proofs.Balance.{endCount, Balanced, balanced-step, balanced-plain}
+use Rattle.semantics.proofs.Blocked.{BalancedAll, Blocked, permitted-or-blocked}
+use Rattle.semantics.proofs.Steps.{moveOf, step-some, step-inv}
 
 -- an entry gives back its thread and its choice
 pub entry-thread : (k c : ℕ) → k < 8 → (k + 8 * c) % 8 ≡ k
@@ -28,7 +28,7 @@ entry-thread k c b = omega arith
 pub entry-choice : (k c : ℕ) → k < 8 → (k + 8 * c) / 8 ≡ c
 entry-choice k c b = omega arith
 
--- a moment: each thread's counts are those that its remainder settles, and no lock is held by two threads
+-- each thread's counts are those that its remainder settles, and no lock is held by two threads
 pub record Invariant (ts : List ThreadState) : Type 0 where
   pub balanced : BalancedAll ts
   pub all-apart : T (apart everyone ts)
@@ -85,3 +85,22 @@ run-length ps ts ts′ (e ∷ es) h =
     let p = bind-inv (step ps ts e) (λ us. run ps us es) ts′ h in
     let q = step-inv everyone ps ts (e % 8) (e / 8) (p .0) (p .1) in
     run-length ps (p .0) ts′ es (p .2) ∙ ap length (q .4) ∙ length-set ts (e % 8) (q .0)
+
+-- ---- what this says of a run
+
+pub record Kept (ps : List Block) (ts : List ThreadState) : Type 0 where
+  pub counted : (t l : ℕ) → t < length ts → getD (counts ts t) l 0 ≡ endCount l ((nth ts t) .rest)
+  pub exclusive : (t u l : ℕ) → t ≢ u → HasLock (counts ts t) l → Excludes (counts ts u) l → ⊥
+  pub refused : (t c : ℕ) (y : ThreadState) → t < length ts → moveOf ps ts t c ≡ some y → stepIn everyone ps ts t c ≡ none → Blocked everyone ts t
+
+pub run-keeps : (ps : List Block) → ((p : ℕ) → Plain (bodyIn ps p)) → (ns es : List ℕ) (ts : List ThreadState) → run ps (start ps ns) es ≡ some ts → Kept ps ts
+run-keeps ps bodies ns es ts h =
+    let m = run-invariant ps bodies (start ps ns) ts es h (start-invariant ps bodies ns) in
+    let a = apart→ everyone ts (m .all-apart) in
+    record {
+      counted = λ t l b. m .balanced t b .counts l;
+      exclusive = λ t u l d. compatible-not-contended (counts ts t) (counts ts u) (a t u d tt tt) l;
+      refused = λ t c y b e z.
+          ⊎-elim (λ p. absurd (Option·some-ne-none (set ts t y) (sym (step-some everyone ps ts t c y b e p) ∙ z))) (λ w. w)
+          (permitted-or-blocked ps bodies everyone ts (m .balanced) a t c y b tt e);
+    }

@@ -1,9 +1,9 @@
--- The largest stuck set of a moment: begin with the threads that are about to begin a hold, and in rounds drop those that wait for no other that is left.
--- Every stuck set survives each round, and after as many rounds as there are threads nothing more is dropped.
+-- The largest stuck set as a fixed point: begin with the threads that are about to begin a hold, and in rounds drop those that are blocked by no other that is left.
+-- Every stuck set survives each round, and after as many rounds as there are threads nothing more is dropped. What is left is stuck, unless it is empty.
 use Prim.Native.Nat.{ℕ, zero, suc, _+_, _≤_, _<_}
 use mathlib.Core.List.{List}
 use mathlib.Core.Bool.{Bool, true, false, not, _&&_, cond}
-use mathlib.Core.Logic.{_⊎_, inl, inr, ⊎-elim}
+use mathlib.Core.Logic.{_⊎_, inl, inr, ⊎-elim, _↔_}
 use mathlib.Core.Option.{Option, none, some, Option·none-ne-some, Option·some-ne-none}
 use mathlib.Core.Path.{_≡_, refl, sym, ap, subst, fun-ext}
 use native.Mathlib.Omega.{arith}
@@ -199,9 +199,16 @@ module _ (ps : List Block) (bodies : (p : ℕ) → Plain (bodyIn ps p)) (ts : Li
   rounds-cover zero = begins-covers
   rounds-cover (suc k) = round-covers (rounds k ps ts) (rounds-cover k)
 
-  -- what is left after k rounds, for k threads or fewer, is the largest stuck set; if nothing is left, no set is stuck
+  -- what is left after k rounds, for k threads or fewer, is the largest stuck set, where there is any
   pub rounds-largest : (k : ℕ) → length ts ≤ k → (t : ℕ) → T (rounds k ps ts t) → Largest ps ts (rounds k ps ts)
   rounds-largest k b = fixed-largest (rounds k ps ts) (rounds-cover k) (rounds-fixed k b)
 
-  pub rounds-none : (k : ℕ) → ((t : ℕ) → T (rounds k ps ts t) → ⊥) → (S : ℕ → Bool) → Stuck ps ts S → ⊥
-  rounds-none k f S st = let p = st .two in f (p .0) (rounds-cover k S st (p .0) (p .3))
+  pub stuck-largest : (k : ℕ) → length ts ≤ k → (S : ℕ → Bool) → Stuck ps ts S → Largest ps ts (rounds k ps ts)
+  stuck-largest k b S st = let (t, _, _, s, _) = st .two in rounds-largest k b t (rounds-cover k S st t s)
+
+  -- and it is empty exactly where nothing is stuck
+  pub rounds-empty : (k : ℕ) → length ts ≤ k → ((t : ℕ) → T (rounds k ps ts t) → ⊥) ↔ ((S : ℕ → Bool) → Stuck ps ts S → ⊥)
+  rounds-empty k b = (
+    λ f S st. let (t, _, _, s, _) = st .two in f t (rounds-cover k S st t s),
+    λ f t s. f (rounds k ps ts) (rounds-largest k b t s .stuck),
+  )

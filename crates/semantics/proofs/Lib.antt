@@ -17,6 +17,7 @@ pub mod Projection
 -- The pairs that are computed are the critical ones.
 pub mod PairsComplete
 pub mod PairsSound
+pub mod PairList
 pub mod CallPairs
 pub mod PairBound
 pub mod Traces
@@ -26,6 +27,7 @@ pub mod CriticalLanguage
 pub mod Conflict
 pub mod StuckConflict
 pub mod Tables
+pub mod SizeDepth
 pub mod JointStates
 pub mod RetreatStep
 pub mod RetreatRefused

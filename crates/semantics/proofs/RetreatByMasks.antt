@@ -22,13 +22,13 @@ use Rattle.semantics.proofs.RetreatJump.{MatchingBegin}
 
 -- ---- the locks that a thread holds, as a mask
 
-abbrev pub heldBy : ThreadState → ℕ
-heldBy x = held (x .count)
+abbrev pub heldMask : ThreadState → ℕ
+heldMask x = held (x .count)
 
-pub apart-of-masks : (ts : List ThreadState) → ((i k : ℕ) → i ≢ k → CompatibleIn (heldBy (nth ts i)) (heldBy (nth ts k))) → T (apart everyone ts)
+pub apart-of-masks : (ts : List ThreadState) → ((i k : ℕ) → i ≢ k → CompatibleIn (heldMask (nth ts i)) (heldMask (nth ts k))) → T (apart everyone ts)
 apart-of-masks ts h = apart← everyone ts (λ i k d _ _. compatible-held (counts ts i) (counts ts k) (h i k d))
 
-pub masks-of-apart : (ts : List ThreadState) → T (apart everyone ts) → (i k : ℕ) → i ≢ k → CompatibleIn (heldBy (nth ts i)) (heldBy (nth ts k))
+pub masks-of-apart : (ts : List ThreadState) → T (apart everyone ts) → (i k : ℕ) → i ≢ k → CompatibleIn (heldMask (nth ts i)) (heldMask (nth ts k))
 masks-of-apart ts a i k d = held-compatible (counts ts i) (counts ts k) (apart→ everyone ts a i k d tt tt)
 
 -- ---- positions in a list
@@ -45,7 +45,7 @@ lowered-set js k b o = record {
 module _ {ps : List Block} {n : ℕ} {P : ℕ → List ℕ} {s : ℕ → ℕ → ThreadState} (x : Executions ps n P s) where
   module _ (j : ℕ → ℕ) (w : (i : ℕ) → i < n → j i ≤ length (P i)) (a : T (apart everyone (joint n s j))) (k : ℕ) (b : k < n) (o : 0 < j k) where
     -- thread k may go back by a step just if what it held then is held by no other
-    pub step-back-permitted : ((i : ℕ) → i < n → i ≢ k → CompatibleIn (heldBy (s k (j k - 1))) (heldBy (s i (j i)))) → T (apart everyone (earlier n s j k))
+    pub step-back-permitted : ((i : ℕ) → i < n → i ≢ k → CompatibleIn (heldMask (s k (j k - 1))) (heldMask (s i (j i)))) → T (apart everyone (earlier n s j k))
     step-back-permitted h =
         ⊎-elim (λ t. t)
         (λ (r : Clash everyone (joint n s j) k (s k (j k - 1))).
@@ -55,7 +55,7 @@ module _ {ps : List Block} {n : ℕ} {P : ℕ → List ℕ} {s : ℕ → ℕ →
         (lt-or-le (r .other) n))
         (apart-or-clash everyone (joint n s j) k (s k (j k - 1)) (in-joint x j k b) (apart→ everyone (joint n s j) a))
 
-    pub step-back-refused : (i : ℕ) → i < n → i ≢ k → (CompatibleIn (heldBy (s k (j k - 1))) (heldBy (s i (j i))) → ⊥) → T (apart everyone (earlier n s j k)) → ⊥
+    pub step-back-refused : (i : ℕ) → i < n → i ≢ k → (CompatibleIn (heldMask (s k (j k - 1))) (heldMask (s i (j i))) → ⊥) → T (apart everyone (earlier n s j k)) → ⊥
     step-back-refused i c d e t =
         clash-not-apart everyone (joint n s j) k (s k (j k - 1)) (in-joint x j k b) tt
         (record { other = i; differs = d; member = tt; against = λ q. e (held-compatible ((s k (j k - 1)) .count) ((s i (j i)) .count) (rw (joint-counts x j i c) at q)) })
