@@ -1,20 +1,23 @@
--- The set of the locks with a positive count, as a mask.
-use Prim.Native.Nat.{ℕ, zero, suc, _+_, _*_, _/_, _%_, _^_, _<_, max}
+-- The set of the locks that counts have (`held`) as a mask: digit l is 1 just if the count of l is positive. So it is the sum of the powers of two of those locks, and
+-- to begin a hold joins its lock to it.
+use Prim.Native.Nat.{ℕ, zero, suc, _+_, _*_, _/_, _%_, _^_, _<_, _≤_, max}
 use mathlib.Core.List.{List, [], _∷_}
 use mathlib.Core.Bool.{Bool, true, false, cond}
-use mathlib.Core.Path.{_≡_, refl, sym}
+use mathlib.Core.Path.{_≡_, refl, sym, _∙_}
 use mathlib.Core.Logic.{⊎-elim}
 use native.Mathlib.Omega.{arith}
 use native.Mathlib.Nat.{pow-suc, zero-mul, eq-zero-or-pos}
 use native.Mathlib.Numerals.{add-one}
 use native.Mathlib.Decide.{ℕ-discrete}
 use lib.Bits.{bitOr}
-use lib.ListN.{length, getD, set}
+use lib.ListN.{length, getD, set, List·getD-eq-default}
 use lib.Seq.{getD-set-same, getD-set-other}
 use lib.Dec.{ltb}
 use borrow.Author.Tests.{lt-ltb}
-use Rattle.laws.specs.Mask.{bit}
+use Rattle.laws.specs.Mask.{bit, maskOf}
 use Rattle.laws.proofs.Bits.{bit-zero, bit-suc, bit-or, bit-ext, bit-none, bit-pow, bit-pow-other}
+use Rattle.laws.proofs.Masks.{mask-lt, mask-digit, mask-out}
+use Rattle.laws.proofs.Tests.{lt-or-le}
 use Rattle.semantics.specs.Run.{up}
 use Rattle.semantics.specs.Pairs.{heldFrom, held}
 
@@ -64,3 +67,13 @@ held-begin cs l h = bit-ext _ _ (λ k. rw (held-digit, bit-or, held-digit) (go k
     go : (k : ℕ) → Dec (k ≡ l) → cond (ltb 0 (getD (set cs l (getD cs l 0 + 1)) k 0)) 1 0 ≡ max (cond (ltb 0 (getD cs k 0)) 1 0) (bit (2 ^ l) k)
     go k (yes e) = rw (e, getD-set-same, bit-pow, lt-ltb 0 (getD cs l 0 + 1) (omega arith)) (most (ltb 0 (getD cs l 0)))
     go k (no n) = rw (getD-set-other, bit-pow-other) (omega arith)
+
+-- "lock k in X counts 2 to the power k": the set is the sum over the locks below n with a positive count
+pub held-mask : (n : ℕ) (cs : List ℕ) → length cs ≤ n → held cs ≡ maskOf n (λ l. ltb 0 (getD cs l 0))
+held-mask n cs h = bit-ext (held cs) (maskOf n (λ l. ltb 0 (getD cs l 0))) (λ k. ⊎-elim
+    (λ (b : k < n). held-digit cs k ∙ sym (mask-digit n (λ l. ltb 0 (getD cs l 0)) k b))
+    (λ (b : n ≤ k). free-digit cs k (List·getD-eq-default cs 0 (omega arith)) ∙ sym (mask-out n (λ l. ltb 0 (getD cs l 0)) k b))
+    (lt-or-le k n))
+
+pub held-lt : (n : ℕ) (cs : List ℕ) → length cs ≤ n → held cs < 2 ^ n
+held-lt n cs h = rw (held-mask n cs h) (mask-lt n (λ l. ltb 0 (getD cs l 0)))
