@@ -10,21 +10,20 @@ use native.Mathlib.Nat.{add-zero, zero-add, eq-or-lt-of-le}
 use native.Mathlib.Omega.{arith}
 use lib.ListN.{length, getD}
 use lib.Dec.{T, leb, ltb, eqb, leb→le, ltb→lt, eqb→eq, T-not}
-use Rattle.semantics.specs.Plan.{Block, done, skip, call, hold, loop, either, end, _⨾_, bodyIn, Written, WellFormed, Sound}
+use Rattle.semantics.specs.Plan.{Block, done, skip, call, hold, loop, either, end, _⨾_, bodyIn, Written, WellFormed, Sound, LockPlan}
 use Rattle.semantics.specs.Run.{ThreadState, up, down, move, compatible, withAll, apart, threadAt, stepIn, step, run, start}
-use Rattle.semantics.specs.Stuck.{Largest, DeadlockFree}
-use Rattle.semantics.specs.Pairs.{heldFrom, Critical, pairsWith, pairsAt, pairs}
+use Rattle.semantics.specs.Stuck.{Largest, DeadlockFree, Schedule}
+use Rattle.semantics.specs.Pairs.{heldFrom, Critical, pairsWith, pairsAt, pairList}
+use Rattle.semantics.specs.Sizes.{sizeWith, sizeAt, sizes, threadSizes}
+use Rattle.semantics.proofs.PairList.{pair-list-critical}
 use Rattle.laws.proofs.Tests.{same-test, T-and, lt-or-le}
 use Rattle.semantics.proofs.Remainders.{plain-body}
 use Rattle.semantics.proofs.Invariant.{run-invariant, run-length, start-length, start-invariant}
-use Rattle.semantics.proofs.PairsComplete.{pairs-complete}
-use Rattle.semantics.proofs.PairsSound.{pairs-sound}
 use Rattle.semantics.proofs.LargestStuck.{atHold, round, rounds, rounds-largest, rounds-in}
 use Rattle.semantics.proofs.ConflictSearch.{any, any-is, unmet, searchFrom}
 use Rattle.semantics.proofs.ConflictTest.{conflicting}
-use Rattle.semantics.proofs.Characterisation.{characterisation}
-use Rattle.laws.specs.Ascending.{Ascends, insert, ascending}
-use Rattle.laws.proofs.Ascending.{ascends, ascending-mem, mem-ascending}
+use Rattle.semantics.proofs.Characterisation.{Ranked, plan-characterisation}
+use Rattle.laws.specs.Ascending.{insert, ascending}
 use Rattle.laws.specs.Mask.{bit}
 
 -- ---- the table
@@ -36,8 +35,7 @@ pub data Answer : Type 0 where
 
 -- `words` lists the pair words of the first procedures, of as many as it has lists
 pub record Case : Type 0 where
-  pub procs : List Block
-  pub threads : List ℕ
+  pub plan : LockPlan
   pub words : List (List ℕ)
   pub answer : Answer
 
@@ -53,39 +51,39 @@ nest l k = holdOnly l (holdOnly k oneSkip)
 
 -- 0[1] and 1[0]
 abbrev pub caseA : Case
-caseA = record { procs = nest 0 1 ∷ nest 1 0 ∷ []; threads = 0 ∷ 1 ∷ []; words = []; answer = deadlock (0 ∷ 1 ∷ []) (0 ∷ 1 ∷ []) }
+caseA = record { plan = record { procs = nest 0 1 ∷ nest 1 0 ∷ []; threads = 0 ∷ 1 ∷ [] }; words = []; answer = deadlock (0 ∷ 1 ∷ []) (0 ∷ 1 ∷ []) }
 
 -- 2[0[1]] and 2[1[0]]
 abbrev pub caseB : Case
-caseB = record { procs = holdOnly 2 (nest 0 1) ∷ holdOnly 2 (nest 1 0) ∷ []; threads = 0 ∷ 1 ∷ []; words = (2 ∷ 128 ∷ 161 ∷ []) ∷ (2 ∷ 129 ∷ 192 ∷ []) ∷ []; answer = free }
+caseB = record { plan = record { procs = holdOnly 2 (nest 0 1) ∷ holdOnly 2 (nest 1 0) ∷ []; threads = 0 ∷ 1 ∷ [] }; words = (2 ∷ 128 ∷ 161 ∷ []) ∷ (2 ∷ 129 ∷ 192 ∷ []) ∷ []; answer = free }
 
 -- 0[0], by two threads
 abbrev pub caseC : Case
-caseC = record { procs = nest 0 0 ∷ []; threads = 0 ∷ 0 ∷ []; words = (0 ∷ []) ∷ []; answer = free }
+caseC = record { plan = record { procs = nest 0 0 ∷ []; threads = 0 ∷ 0 ∷ [] }; words = (0 ∷ []) ∷ []; answer = free }
 
 -- 1[0], 2[1] and 0[2]
 abbrev pub caseD : Case
-caseD = record { procs = nest 1 0 ∷ nest 2 1 ∷ nest 0 2 ∷ []; threads = 0 ∷ 1 ∷ 2 ∷ []; words = []; answer = deadlock (0 ∷ 1 ∷ 2 ∷ []) (0 ∷ 1 ∷ 2 ∷ []) }
+caseD = record { plan = record { procs = nest 1 0 ∷ nest 2 1 ∷ nest 0 2 ∷ []; threads = 0 ∷ 1 ∷ 2 ∷ [] }; words = []; answer = deadlock (0 ∷ 1 ∷ 2 ∷ []) (0 ∷ 1 ∷ 2 ∷ []) }
 
 -- the first two of D
 abbrev pub caseE : Case
-caseE = record { procs = nest 1 0 ∷ nest 2 1 ∷ []; threads = 0 ∷ 1 ∷ []; words = []; answer = free }
+caseE = record { plan = record { procs = nest 1 0 ∷ nest 2 1 ∷ []; threads = 0 ∷ 1 ∷ [] }; words = []; answer = free }
 
 -- 0[1] then 1[0], by one thread
 abbrev pub caseF : Case
-caseF = record { procs = hold 0 (holdOnly 1 oneSkip) (nest 1 0) ∷ []; threads = 0 ∷ []; words = []; answer = free }
+caseF = record { plan = record { procs = hold 0 (holdOnly 1 oneSkip) (nest 1 0) ∷ []; threads = 0 ∷ [] }; words = []; answer = free }
 
 -- 0[1 2] and 1[0 2[0]]
 abbrev pub caseG : Case
-caseG = record { procs = holdOnly 0 (hold 1 oneSkip (holdOnly 2 oneSkip)) ∷ holdOnly 1 (hold 0 oneSkip (nest 2 0)) ∷ []; threads = 0 ∷ 1 ∷ []; words = []; answer = deadlock (0 ∷ 1 ∷ []) (0 ∷ 1 ∷ []) }
+caseG = record { plan = record { procs = holdOnly 0 (hold 1 oneSkip (holdOnly 2 oneSkip)) ∷ holdOnly 1 (hold 0 oneSkip (nest 2 0)) ∷ []; threads = 0 ∷ 1 ∷ [] }; words = []; answer = deadlock (0 ∷ 1 ∷ []) (0 ∷ 1 ∷ []) }
 
 -- an either of 0[1] or skip, and 1[0]
 abbrev pub caseH : Case
-caseH = record { procs = either (nest 0 1) oneSkip done ∷ nest 1 0 ∷ []; threads = 0 ∷ 1 ∷ []; words = []; answer = deadlock (8 ∷ 0 ∷ 1 ∷ []) (0 ∷ 1 ∷ []) }
+caseH = record { plan = record { procs = either (nest 0 1) oneSkip done ∷ nest 1 0 ∷ []; threads = 0 ∷ 1 ∷ [] }; words = []; answer = deadlock (8 ∷ 0 ∷ 1 ∷ []) (0 ∷ 1 ∷ []) }
 
 -- a loop over hold 0, by two threads
 abbrev pub caseI : Case
-caseI = record { procs = loop (holdOnly 0 oneSkip) done ∷ []; threads = 0 ∷ 0 ∷ []; words = []; answer = free }
+caseI = record { plan = record { procs = loop (holdOnly 0 oneSkip) done ∷ []; threads = 0 ∷ 0 ∷ [] }; words = []; answer = free }
 
 abbrev pub cases : List Case
 cases = caseA ∷ caseB ∷ caseC ∷ caseD ∷ caseE ∷ caseF ∷ caseG ∷ caseH ∷ caseI ∷ []
@@ -125,9 +123,9 @@ sameList [] (y ∷ ys) = false
 sameList (x ∷ xs) [] = false
 sameList (x ∷ xs) (y ∷ ys) = eqb x y && sameList xs ys
 
-unfoldable pub wordsFrom : ℕ → List Block → ℕ → List (List ℕ) → Bool
-wordsFrom d ps p [] = true
-wordsFrom d ps p (ws ∷ wss) = ltb p d && (sameList (ascending (pairs d ps p)) ws && wordsFrom d ps (suc p) wss)
+unfoldable pub wordsFrom : List Block → ℕ → List (List ℕ) → Bool
+wordsFrom ps p [] = true
+wordsFrom ps p (ws ∷ wss) = ltb p (length ps) && (sameList (pairList ps p) ws && wordsFrom ps (suc p) wss)
 
 -- the threads of a list, as a set
 abbrev pub among : List ℕ → ℕ → Bool
@@ -146,23 +144,25 @@ unfoldable pub stuckAre : ℕ → List Block → List ℕ → Option (List Threa
 stuckAre n ps us none = false
 stuckAre n ps us (some ts) = sameBelow n (rounds n ps ts) (among us) && any (rounds n ps ts) us
 
-unfoldable pub answers : ℕ → List Block → List ℕ → Answer → Bool
-answers d ps ns free = not (conflicting (map (pairs d ps) ns))
-answers d ps ns (deadlock es us) =
-    conflicting (map (pairs d ps) ns) && (all (λ t. ltb t (length ns)) us && stuckAre (length ns) ps us (run ps (start ps ns) es))
+unfoldable pub answers : LockPlan → Answer → Bool
+answers plan free = not (conflicting (map (pairList (plan .procs)) (plan .threads)))
+answers plan (deadlock es us) =
+    leb (length es) (threadSizes plan)
+    && (all (λ t. ltb t (length (plan .threads))) us
+    && stuckAre (length (plan .threads)) (plan .procs) us (run (plan .procs) (start (plan .procs) (plan .threads)) es))
 
 unfoldable pub passes : Case → Bool
 passes c =
-    let d = length (c .procs) in
-    soundFrom 0 (c .procs) && (all (λ n. ltb n d) (c .threads) && (leb (length (c .threads)) 8
-    && (wordsFrom d (c .procs) 0 (c .words) && answers d (c .procs) (c .threads) (c .answer))))
+    let ps = c .plan .procs in
+    let ns = c .plan .threads in
+    soundFrom 0 ps && (all (λ n. ltb n (length ps)) ns && (leb (length ns) 8 && (wordsFrom ps 0 (c .words) && answers (c .plan) (c .answer))))
 
 unfoldable pub allPass : List Case → Bool
 allPass [] = true
 allPass (c ∷ cs) = passes c && allPass cs
 
 table-passes : T (allPass cases)
-unfolding allPass passes answers stuckAre sameBelow wordsFrom sameList all soundFrom written filled any unmet bit searchFrom rounds round atHold ascending insert pairsWith pairsAt heldFrom run start step stepIn threadAt apart withAll compatible move down up bodyIn _⨾_
+unfolding allPass passes answers pairList threadSizes sizes sizeAt sizeWith stuckAre sameBelow wordsFrom sameList all soundFrom written filled any unmet bit searchFrom rounds round atHold ascending insert pairsWith pairsAt heldFrom run start step stepIn threadAt apart withAll compatible move down up bodyIn _⨾_
 table-passes = tt
 
 -- ---- what it implies
@@ -230,20 +230,20 @@ unfolding sameList
 same-list [] [] t = refl
 same-list (x ∷ xs) (y ∷ ys) t = let (a, b) = T-and (eqb x y) (sameList xs ys) t in ap₂ {C = List ℕ} (λ h r. h ∷ r) (eqb→eq x y a) (same-list xs ys b)
 
-words-from : (d : ℕ) (ps : List Block) (k : ℕ) (wss : List (List ℕ)) → T (wordsFrom d ps k wss) → (p : ℕ) → p < length wss
-    → (k + p < d) × (ascending (pairs d ps (k + p)) ≡ getD wss p [])
+words-from : (ps : List Block) (k : ℕ) (wss : List (List ℕ)) → T (wordsFrom ps k wss) → (p : ℕ) → p < length wss
+    → (k + p < length ps) × (pairList ps (k + p) ≡ getD wss p [])
 unfolding wordsFrom
-words-from d ps k [] t p b = absurd (omega arith)
-words-from d ps k (ws ∷ wss) t zero b =
-    let (x, y) = T-and (ltb k d) (sameList (ascending (pairs d ps k)) ws && wordsFrom d ps (suc k) wss) t in
-    let (y₁, _) = T-and (sameList (ascending (pairs d ps k)) ws) (wordsFrom d ps (suc k) wss) y in
-    (omega (arith, ltb→lt k d x), rw add-zero (same-list (ascending (pairs d ps k)) ws y₁))
-words-from d ps k (ws ∷ wss) t (suc p) b =
-    let (_, y) = T-and (ltb k d) (sameList (ascending (pairs d ps k)) ws && wordsFrom d ps (suc k) wss) t in
-    let (_, y₂) = T-and (sameList (ascending (pairs d ps k)) ws) (wordsFrom d ps (suc k) wss) y in
+words-from ps k [] t p b = absurd (omega arith)
+words-from ps k (ws ∷ wss) t zero b =
+    let (x, y) = T-and (ltb k (length ps)) (sameList (pairList ps k) ws && wordsFrom ps (suc k) wss) t in
+    let (y₁, _) = T-and (sameList (pairList ps k) ws) (wordsFrom ps (suc k) wss) y in
+    (omega (arith, ltb→lt k (length ps) x), rw add-zero (same-list (pairList ps k) ws y₁))
+words-from ps k (ws ∷ wss) t (suc p) b =
+    let (_, y) = T-and (ltb k (length ps)) (sameList (pairList ps k) ws && wordsFrom ps (suc k) wss) t in
+    let (_, y₂) = T-and (sameList (pairList ps k) ws) (wordsFrom ps (suc k) wss) y in
     let e : suc k + p ≡ k + suc p = omega arith in
-    let (l, is) = words-from d ps (suc k) wss y₂ p (omega arith) in
-    (omega arith, subst (λ n. ascending (pairs d ps n) ≡ getD wss p []) e is)
+    let (l, is) = words-from ps (suc k) wss y₂ p (omega arith) in
+    (omega arith, subst (λ n. pairList ps n ≡ getD wss p []) e is)
 
 agree-is : (a b : Bool) → T (agree a b) → a ≡ b
 agree-is true true t = refl
@@ -257,75 +257,76 @@ same-below (suc n) S R h t b =
     ⊎-elim (λ (e : t ≡ n). rw e (agree-is (S n) (R n) x)) (λ (l : t < n). same-below n S R y t l) (eq-or-lt-of-le (omega arith))
 
 -- what an answer says
-abbrev pub AnswerHolds : List Block → List ℕ → Answer → Type 0
-AnswerHolds ps ns free = DeadlockFree ps ns
-AnswerHolds ps ns (deadlock es us) = (ts : List ThreadState) × (run ps (start ps ns) es ≡ some ts) × Largest ps ts (among us)
+abbrev pub AnswerHolds : LockPlan → Answer → Type 0
+AnswerHolds plan free = DeadlockFree (plan .procs) (plan .threads)
+AnswerHolds plan (deadlock es us) = Schedule plan es (among us)
 
 pub record CaseFacts (c : Case) : Type 0 where
-  pub words : (p : ℕ) → p < length (c .words) → Ascends (getD (c .words) p []) × ((w : ℕ) → List·Memᴰ w (getD (c .words) p []) ↔ Critical (c .procs) p w)
-  pub answer : AnswerHolds (c .procs) (c .threads) (c .answer)
+  pub words : (p : ℕ) → p < length (c .words) → getD (c .words) p [] ≡ pairList (c .plan .procs) p
+  pub critical : (p : ℕ) → p < length (c .words) → (w : ℕ) → List·Memᴰ w (getD (c .words) p []) ↔ Critical (c .plan .procs) p w
+  pub answer : AnswerHolds (c .plan) (c .answer)
 
-module _ (ps : List Block) (ns : List ℕ) (plan : Sound ps (λ p. p)) where
+module _ (plan : LockPlan) (ranked : Ranked plan (λ p. p)) where
+  abbrev ps : List Block
+  ps = plan .procs
+
+  abbrev n : ℕ
+  n = length (plan .threads)
+
   -- the stuck threads of a run that leads to ts are those of the list
-  stuck-are : (es us : List ℕ) → T (all (λ t. ltb t (length ns)) us) → T (stuckAre (length ns) ps us (run ps (start ps ns) es))
-      → (ts : List ThreadState) × (run ps (start ps ns) es ≡ some ts) × Largest ps ts (among us)
+  stuck-are : (es us : List ℕ) → T (all (λ t. ltb t n) us) → T (stuckAre n ps us (run ps (start ps (plan .threads)) es)) → length es ≤ threadSizes plan → Schedule plan es (among us)
   unfolding stuckAre
-  stuck-are es us small = go (run ps (start ps ns) es) refl
+  stuck-are es us small h short = go (run ps (start ps (plan .threads)) es) refl h
     where
-      go : (o : Option (List ThreadState)) → run ps (start ps ns) es ≡ o → T (stuckAre (length ns) ps us o) → (ts : List ThreadState) × (run ps (start ps ns) es ≡ some ts) × Largest ps ts (among us)
+      go : (o : Option (List ThreadState)) → run ps (start ps (plan .threads)) es ≡ o → T (stuckAre n ps us o) → Schedule plan es (among us)
       go (some ts) e h =
-          let n = length ns in
+          let bodies = plain-body (ranked .sound) in
           let (same, one) = T-and (sameBelow n (rounds n ps ts) (among us)) (any (rounds n ps ts) us) h in
-          let m = run-invariant ps (plain-body plan) (start ps ns) ts es e (start-invariant ps (plain-body plan) ns) in
-          let len : length ts ≡ n = run-length ps (start ps ns) ts es e ∙ start-length ps ns in
+          let m = run-invariant ps bodies (start ps (plan .threads)) ts es e (start-invariant ps bodies (plan .threads)) in
+          let len : length ts ≡ n = run-length ps (start ps (plan .threads)) ts es e ∙ start-length ps (plan .threads) in
           let is : rounds n ps ts ≡ among us = fun-ext (λ t. ⊎-elim
           (λ (b : t < n). same-below n (rounds n ps ts) (among us) same t b)
           (λ (b : n ≤ t). same-test (rounds n ps ts t) (among us t)
-          (λ r. absurd (omega (arith, rounds-in ps (plain-body plan) ts m n t r)))
+          (λ r. absurd (omega (arith, rounds-in ps bodies ts m n t r)))
           (λ a. let (v, i, q) = any-is (eqb t) us a in absurd (omega (arith, eqb→eq t v q, ltb→lt v n (all-mem (λ t. ltb t n) us small v i)))))
           (lt-or-le t n)) in
           let (u, _, r) = any-is (rounds n ps ts) us one in
-          (ts, e, subst (Largest ps ts) is (rounds-largest ps (plain-body plan) ts m n (omega arith) u r))
+          record { there = ts; reached = e; largest = subst (Largest ps ts) is (rounds-largest ps bodies ts m n (omega arith) u r); short = short }
 
-  module _ (d : ℕ) (few : length ns ≤ 8) (deep : (t : ℕ) → t < length ns → getD ns t 0 < d) where
-    answer-holds : (a : Answer) → T (answers d ps ns a) → AnswerHolds ps ns a
-    unfolding answers
-    answer-holds free h = characterisation ps (λ p. p) plan ns few d deep .free .0 (T-not (conflicting (map (pairs d ps) ns)) h)
-    answer-holds (deadlock es us) h =
-        let test = stuckAre (length ns) ps us (run ps (start ps ns) es) in
-        let (_, y) = T-and (conflicting (map (pairs d ps) ns)) (all (λ t. ltb t (length ns)) us && test) h in
-        let (small, ends) = T-and (all (λ t. ltb t (length ns)) us) test y in
-        stuck-are es us small ends
+  answer-holds : (a : Answer) → T (answers plan a) → AnswerHolds plan a
+  unfolding answers
+  answer-holds free h = plan-characterisation plan (λ p. p) ranked .free .0 (T-not (conflicting (map (pairList ps) (plan .threads))) h)
+  answer-holds (deadlock es us) h =
+      let test = stuckAre n ps us (run ps (start ps (plan .threads)) es) in
+      let (short, y) = T-and (leb (length es) (threadSizes plan)) (all (λ t. ltb t n) us && test) h in
+      let (small, ends) = T-and (all (λ t. ltb t n) us) test y in
+      stuck-are es us small ends (leb→le (length es) (threadSizes plan) short)
 
 -- a case that passes
 pub passes-facts : (c : Case) → T (passes c) → CaseFacts c
 unfolding passes
 passes-facts c h =
-    let ps = c .procs in
-    let ns = c .threads in
-    let d = length ps in
-    let t₄ = answers d ps ns (c .answer) in
-    let t₃ = wordsFrom d ps 0 (c .words) && t₄ in
+    let ps = c .plan .procs in
+    let ns = c .plan .threads in
+    let t₄ = answers (c .plan) (c .answer) in
+    let t₃ = wordsFrom ps 0 (c .words) && t₄ in
     let t₂ = leb (length ns) 8 && t₃ in
-    let t₁ = all (λ n. ltb n d) ns && t₂ in
+    let t₁ = all (λ n. ltb n (length ps)) ns && t₂ in
     let (h₀, k₁) = T-and (soundFrom 0 ps) t₁ h in
-    let (h₁, k₂) = T-and (all (λ n. ltb n d) ns) t₂ k₁ in
+    let (h₁, k₂) = T-and (all (λ n. ltb n (length ps)) ns) t₂ k₁ in
     let (h₂, k₃) = T-and (leb (length ns) 8) t₃ k₂ in
-    let (h₃, h₄) = T-and (wordsFrom d ps 0 (c .words)) t₄ k₃ in
-    let plan = plan-sound ps h₀ in
+    let (h₃, h₄) = T-and (wordsFrom ps 0 (c .words)) t₄ k₃ in
+    let ranked : Ranked (c .plan) (λ p. p) = record {
+      sound = plan-sound ps h₀;
+      ranks = λ p b. b;
+      there = λ t b. ltb→lt (getD ns t 0) (length ps) (all-at (λ n. ltb n (length ps)) ns h₁ t b);
+      few = leb→le (length ns) 8 h₂;
+    } in
+    let listed : (p : ℕ) → p < length (c .words) → (p < length ps) × (pairList ps p ≡ getD (c .words) p []) = λ p b. rw zero-add at (words-from ps 0 (c .words) h₃ p b) in
     record {
-      words = λ p b.
-          let (l, is) = words-from d ps 0 (c .words) h₃ p b in
-          let e : ascending (pairs d ps p) ≡ getD (c .words) p [] = rw zero-add at is in
-          let k : p < d = omega arith in
-          rw (← e) (
-            ascends (pairs d ps p),
-            λ w. (
-              λ m. (pairs-sound ps (λ p. p) plan d p w k (mem-ascending (pairs d ps p) w m)) .0,
-              λ q. ascending-mem (pairs d ps p) w (pairs-complete ps (λ p. p) plan d p w k q),
-            ),
-          );
-      answer = answer-holds ps ns plan d (leb→le (length ns) 8 h₂) (λ t b. ltb→lt (getD ns t 0) d (all-at (λ n. ltb n d) ns h₁ t b)) (c .answer) h₄;
+      words = λ p b. sym (listed p b .1);
+      critical = λ p b w. rw (← listed p b .1) (pair-list-critical ps (λ p. p) (ranked .sound) p (listed p b .0) w);
+      answer = answer-holds (c .plan) ranked (c .answer) h₄;
     }
 
 pub cases-facts : (cs : List Case) → T (allPass cs) → (c : Case) → List·Memᴰ c cs → CaseFacts c
