@@ -1,21 +1,22 @@
--- Pairs compose (source 000, Proposition 6.2): the words of a procedure called with locks held, from its words with none held (`pairs-lift`). So one list for each
--- procedure is enough, computed over lock sets (`wordsWith`): what an analyser can do.
+-- Source 000, Proposition 6.2: the words of a procedure that is called with locks held, from its words with none held (`pairs-lift`, `call-pairs`). So one list for each
+-- procedure is enough, and it can be computed over lock sets instead of counts (`wordsWith`, `pairs-words`).
 use Prim.Native.Nat.{ℕ, zero, suc, _^_, _<_}
 use mathlib.Core.List.{List, [], _∷_, _++_, append-assoc, append-nil, List·Memᴰ, List·Memᴰ·head, List·Memᴰ·tail, List·Memᴰ·not-nil, List·Memᴰ·cases-cons, List·Memᴰ·append-cases, Memᴰ·append-right}
 use mathlib.Core.Bool.{Bool, true, false, cond}
 use mathlib.Core.Path.{_≡_, refl, _∙_}
-use mathlib.Core.Logic.{⊎-elim}
+use mathlib.Core.Logic.{⊎-elim, _↔_}
 use native.Mathlib.Omega.{arith}
 use lib.Bits.{bitOr, or-zero-r}
 use lib.ListN.{length}
 use lib.Dec.{T}
 use Rattle.semantics.specs.Plan.{Block, done, skip, call, hold, loop, either, end, bodyIn, Written, Sound}
 use Rattle.semantics.specs.Run.{up, unlocked}
-use Rattle.semantics.specs.Pairs.{wordOf, locksOf, wantOf, heldFrom, held, wordAt, pairsWith, pairsAt, pairs}
+use Rattle.semantics.specs.Pairs.{wordOf, locksOf, wantOf, heldFrom, held, wordAt, Critical, pairsWith, pairsAt, pairs}
 use Rattle.laws.proofs.Tests.{T-true, only}
 use Rattle.semantics.proofs.Remainders.{length-up, body-below}
 use Rattle.semantics.proofs.CallDepth.{depth-unfolds}
 use Rattle.semantics.proofs.LockSets.{held-begin}
+use Rattle.semantics.proofs.PairList.{pairs-critical}
 use Rattle.semantics.proofs.Compatible.{freshIn, fresh-held, fresh-or, fresh-none}
 use Rattle.laws.proofs.Bits.{or-assoc}
 
@@ -73,7 +74,7 @@ mem-lift m (x ∷ ws) v i free = ⊎-elim
     (λ j. Memᴰ·append-right (liftWord m x) (mem-lift m ws v j free))
     (List·Memᴰ·cases-cons i)
 
--- The same words, by lock sets in place of counts, and with one list for each procedure: what an analyser can do.
+-- the same words, by lock sets in place of counts, and with one list for each procedure
 unfoldable pub wordsWith : (ℕ → List ℕ) → ℕ → Block → List ℕ
 wordsWith g m done = []
 wordsWith g m (skip r) = wordsWith g m r
@@ -149,3 +150,11 @@ module _ (ps : List Block) (rank : ℕ → ℕ) (s : Sound ps rank) where
   -- Proposition 6.2: the words with some locks held, from the words with none held
   pub pairs-lift : (d p : ℕ) → rank p < d → (cs : List ℕ) → length cs ≡ 32 → pairsAt d ps p cs ≡ lift (held cs) (pairs d ps p)
   pairs-lift d p h cs e = rw (pairs-words d p h) (pairs-words-at d p h cs e)
+
+  -- the same by members, as published: the pairs of a call made with the locks of cs held are those (⌊L⌋ ∪ X, ℓ) of the callee's pairs (X, ℓ) with L(ℓ) = 0
+  pub call-pairs : (d p : ℕ) → rank p < d → (cs : List ℕ) → length cs ≡ 32 → (w : ℕ)
+      → List·Memᴰ w (pairsAt d ps p cs) ↔ ((v : ℕ) × Critical ps p v × T (freshIn (held cs) (wantOf v)) × (w ≡ wordOf (bitOr (held cs) (locksOf v)) (wantOf v)))
+  call-pairs d p h cs e w = rw (pairs-lift d p h cs e) (
+    λ m. let (v, i, free, is) = lift-mem (held cs) (pairs d ps p) w m in (v, pairs-critical ps rank s d p h v .0 i, free, is),
+    λ q. rw (q .3) (mem-lift (held cs) (pairs d ps p) (q .0) (pairs-critical ps rank s d p h (q .0) .1 (q .1)) (q .2)),
+  )

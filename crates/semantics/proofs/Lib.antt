@@ -1,33 +1,37 @@
--- Lock sets.
+-- The theory of lock plans, in the order of reading. docs/THEORY.md has a map of it, with the lemmas of source 000.
+
+-- Groundwork: lock sets as masks, tables of threads, what is computed through calls.
 pub mod LockSets
--- One thread by itself.
-pub mod Remainders
+pub mod Tables
 pub mod CallDepth
+pub mod SizeDepth
+-- One thread by itself: what it has still to do, its steps, its counts, its executions.
+pub mod Remainders
 pub mod Transitions
 pub mod Balance
 pub mod Execution
 pub mod MatchingHold
--- Threads beside each other.
+-- Threads beside each other: what a lock excludes, which steps are permitted, what every run keeps, runs and executions.
 pub mod Compatible
 pub mod Apart
 pub mod Steps
 pub mod Blocked
 pub mod Invariant
 pub mod Projection
--- The pairs that are computed are the critical ones.
+-- Critical pairs: those that are computed are the critical ones, how they compose, how many there are.
 pub mod PairsComplete
 pub mod PairsSound
 pub mod PairList
 pub mod CallPairs
 pub mod PairBound
+-- They are those of the published definition.
 pub mod Traces
 pub mod TracesInLanguage
 pub mod CriticalLanguage
--- Deadlocks are conflicts of pairs.
+-- A deadlock has a conflict of critical pairs.
 pub mod Conflict
 pub mod StuckConflict
-pub mod Tables
-pub mod SizeDepth
+-- A conflict has a deadlock: the retreat.
 pub mod JointStates
 pub mod RetreatStep
 pub mod RetreatRefused
@@ -35,7 +39,9 @@ pub mod RetreatJump
 pub mod RetreatRun
 pub mod RetreatByMasks
 pub mod ConflictRun
+-- The largest stuck set.
 pub mod LargestStuck
+-- The test for a conflict, and the whole.
 pub mod ConflictSearch
 pub mod ConflictTest
 pub mod Characterisation

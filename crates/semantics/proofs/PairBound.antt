@@ -7,11 +7,10 @@ use native.Mathlib.Omega.{arith}
 use lib.ListN.{length, length-append}
 use Rattle.semantics.specs.Plan.{Block, done, skip, call, hold, loop, either, end, bodyIn, WellFormed, Sound}
 use Rattle.semantics.specs.Run.{up, down, unlocked}
-use Rattle.semantics.specs.Pairs.{wordOf, held, fresh, pairsWith, pairsAt, pairs}
-use Rattle.semantics.specs.Sizes.{sizeWith, sizeAt}
+use Rattle.semantics.specs.Pairs.{wordOf, held, fresh, pairsWith, pairsAt, pairs, pairList}
+use Rattle.semantics.specs.Sizes.{sizeWith, sizeAt, sizeOf}
 use Rattle.laws.proofs.Tests.{lt-or-le}
 use Rattle.semantics.proofs.Remainders.{absent-body}
-use Rattle.laws.specs.Ascending.{ascending}
 use Rattle.laws.proofs.Ascending.{ascending-length}
 
 -- the number of holds, those of called procedures at each call; h p is that of procedure p
@@ -84,6 +83,7 @@ module _ (ps : List Block) (rank : ℕ → ℕ) (s : Sound ps rank) where
   pairs-bound zero p b z = absurd (omega arith)
   pairs-bound (suc d) p b z = omega (arith, pairs-le-holds-at (suc d) ps p unlocked, holds-size (holdsAt d ps) (sizeAt d ps) (holds-size-at d) false (bodyIn ps p) (s .filled p b))
 
-  -- so a procedure of size 1,024 at most has at most 511 different words
-  pub pair-list-bound : (d p : ℕ) → p < length ps → 0 < d → sizeAt d ps p ≤ 1024 → length (ascending (pairs d ps p)) ≤ 511
-  pair-list-bound d p b z le = omega (arith, pairs-bound d p b z, ascending-length (pairs d ps p))
+  -- 2 × pairs + 1 ≤ size
+  pub pair-list-bound : (p : ℕ) → p < length ps → 2 * length (pairList ps p) + 1 ≤ sizeOf ps p
+  unfolding pairList sizeOf
+  pair-list-bound p b = omega (arith, pairs-bound (length ps) p b (omega arith), ascending-length (pairs (length ps) ps p))
