@@ -21,14 +21,28 @@ pub digit-out : (m n k : ℕ) → m < 2 ^ n → n ≤ k → bit m k ≡ 0
 unfolding bit
 digit-out m n k h b = let z : m / 2 ^ k ≡ 0 = div-eq-of-lt (omega (arith, pow-mono b)) in rw z
 
--- a digit is the number of its test
+-- a digit is 0 or 1
+on-digit : (P : ℕ → Type 0) → P 0 → P 1 → (d : ℕ) → d < 2 → P d
+on-digit P a b zero h = a
+on-digit P a b (suc zero) h = b
+on-digit P a b (suc (suc d)) h = absurd (omega arith)
+
+on-digits : (P : ℕ → ℕ → Type 0) → P 0 0 → P 0 1 → P 1 0 → P 1 1 → (a b k : ℕ) → P (bit a k) (bit b k)
+on-digits P p q r s a b k = on-digit (λ x. P x (bit b k)) (on-digit (P 0) p q (bit b k) (bit-lt b k)) (on-digit (P 1) r s (bit b k) (bit-lt b k)) (bit a k) (bit-lt a k)
+
+on-tests : (P : Bool → Bool → Type 0) → P false false → P false true → P true false → P true true → (a b : Bool) → P a b
+on-tests P p q r s true true = s
+on-tests P p q r s true false = r
+on-tests P p q r s false true = q
+on-tests P p q r s false false = p
+
+-- a digit is the number of its test, and the test of such a number is the test
 pub digit-test : (m k : ℕ) → cond (inMask m k) 1 0 ≡ bit m k
-digit-test m k = go (bit m k) (bit-lt m k)
-  where
-    go : (d : ℕ) → d < 2 → cond (eqb d 1) 1 0 ≡ d
-    go zero h = refl
-    go (suc zero) h = refl
-    go (suc (suc d)) h = absurd (omega arith)
+digit-test m k = on-digit (λ d. cond (eqb d 1) 1 0 ≡ d) refl refl (bit m k) (bit-lt m k)
+
+test-digit : (t : Bool) → eqb (cond t 1 0) 1 ≡ t
+test-digit true = refl
+test-digit false = refl
 
 -- ---- sums of powers of two
 
@@ -68,11 +82,7 @@ mask-digit (suc n) f k b = rw (mask-join n f, bit-or)
     (eq-or-ne k n))
 
 pub mask-member : (n : ℕ) (f : ℕ → Bool) (k : ℕ) → k < n → inMask (maskOf n f) k ≡ f k
-mask-member n f k b = rw (mask-digit n f k b) (go (f k))
-  where
-    go : (t : Bool) → eqb (cond t 1 0) 1 ≡ t
-    go true = refl
-    go false = refl
+mask-member n f k b = rw (mask-digit n f k b) (test-digit (f k))
 
 -- two masks of n digits are equal where their members are
 pub mask-ext : (n a b : ℕ) → a < 2 ^ n → b < 2 ^ n → ((k : ℕ) → k < n → bit a k ≡ bit b k) → a ≡ b
@@ -85,49 +95,21 @@ mask-of-members n m h = mask-ext n (maskOf n (inMask m)) m (mask-lt n (inMask m)
 -- ---- joins and intersections
 
 pub in-or : (a b k : ℕ) → inMask (bitOr a b) k ≡ (inMask a k || inMask b k)
-in-or a b k = rw bit-or (go (bit a k) (bit b k) (bit-lt a k) (bit-lt b k))
-  where
-    go : (x y : ℕ) → x < 2 → y < 2 → eqb (max x y) 1 ≡ (eqb x 1 || eqb y 1)
-    go zero zero g h = refl
-    go zero (suc zero) g h = refl
-    go (suc zero) zero g h = refl
-    go (suc zero) (suc zero) g h = refl
-    go zero (suc (suc y)) g h = absurd (omega arith)
-    go (suc zero) (suc (suc y)) g h = absurd (omega arith)
-    go (suc (suc x)) y g h = absurd (omega arith)
+in-or a b k = rw bit-or (on-digits (λ x y. eqb (max x y) 1 ≡ (eqb x 1 || eqb y 1)) refl refl refl refl a b k)
 
 pub in-and : (a b k : ℕ) → inMask (bitAnd a b) k ≡ (inMask a k && inMask b k)
-in-and a b k = rw bit-and (go (bit a k) (bit b k) (bit-lt a k) (bit-lt b k))
-  where
-    go : (x y : ℕ) → x < 2 → y < 2 → eqb (min x y) 1 ≡ (eqb x 1 && eqb y 1)
-    go zero zero g h = refl
-    go zero (suc zero) g h = refl
-    go (suc zero) zero g h = refl
-    go (suc zero) (suc zero) g h = refl
-    go zero (suc (suc y)) g h = absurd (omega arith)
-    go (suc zero) (suc (suc y)) g h = absurd (omega arith)
-    go (suc (suc x)) y g h = absurd (omega arith)
+in-and a b k = rw bit-and (on-digits (λ x y. eqb (min x y) 1 ≡ (eqb x 1 && eqb y 1)) refl refl refl refl a b k)
 
 -- a join of masks is the mask of the union, an intersection that of the common members
 pub mask-or : (n : ℕ) (f g : ℕ → Bool) → bitOr (maskOf n f) (maskOf n g) ≡ maskOf n (λ k. f k || g k)
 mask-or n f g = mask-ext n _ _ (or-lt n (maskOf n f) (maskOf n g) (mask-lt n f) (mask-lt n g)) (mask-lt n (λ k. f k || g k))
-    (λ k b. rw (bit-or, mask-digit n f k b, mask-digit n g k b, mask-digit n (λ k. f k || g k) k b) (go (f k) (g k)))
-  where
-    go : (a b : Bool) → max (cond a 1 0) (cond b 1 0) ≡ cond (a || b) 1 0
-    go true true = refl
-    go true false = refl
-    go false true = refl
-    go false false = refl
+    (λ k b. rw (bit-or, mask-digit n f k b, mask-digit n g k b, mask-digit n (λ k. f k || g k) k b)
+    (on-tests (λ x y. max (cond x 1 0) (cond y 1 0) ≡ cond (x || y) 1 0) refl refl refl refl (f k) (g k)))
 
 pub mask-and : (n : ℕ) (f g : ℕ → Bool) → bitAnd (maskOf n f) (maskOf n g) ≡ maskOf n (λ k. f k && g k)
 mask-and n f g = mask-ext n _ _ (and-lt n (maskOf n f) (maskOf n g) (mask-lt n f) (mask-lt n g)) (mask-lt n (λ k. f k && g k))
-    (λ k b. rw (bit-and, mask-digit n f k b, mask-digit n g k b, mask-digit n (λ k. f k && g k) k b) (go (f k) (g k)))
-  where
-    go : (a b : Bool) → min (cond a 1 0) (cond b 1 0) ≡ cond (a && b) 1 0
-    go true true = refl
-    go true false = refl
-    go false true = refl
-    go false false = refl
+    (λ k b. rw (bit-and, mask-digit n f k b, mask-digit n g k b, mask-digit n (λ k. f k && g k) k b)
+    (on-tests (λ x y. min (cond x 1 0) (cond y 1 0) ≡ cond (x && y) 1 0) refl refl refl refl (f k) (g k)))
 
 -- ---- one member more
 
@@ -139,11 +121,7 @@ pub mask-one : (n l : ℕ) → l < n → 2 ^ l ≡ maskOf n (λ k. eqb k l)
 mask-one n l h = mask-ext n (2 ^ l) _ (pow-lt h) (mask-lt n (λ k. eqb k l)) (λ k b. power-test l k ∙ sym (mask-digit n (λ k. eqb k l) k b))
 
 pub in-with : (m l k : ℕ) → inMask (bitOr m (2 ^ l)) k ≡ (inMask m k || eqb k l)
-in-with m l k = rw (in-or, power-test) (ap (λ b. inMask m k || b) (go (eqb k l)))
-  where
-    go : (t : Bool) → eqb (cond t 1 0) 1 ≡ t
-    go true = refl
-    go false = refl
+in-with m l k = rw (in-or, power-test) (ap (λ b. inMask m k || b) (test-digit (eqb k l)))
 
 pub mask-with : (n : ℕ) (f : ℕ → Bool) (l : ℕ) → l < n → bitOr (maskOf n f) (2 ^ l) ≡ maskOf n (λ k. f k || eqb k l)
 mask-with n f l h = ap (λ x. bitOr (maskOf n f) x) (mask-one n l h) ∙ mask-or n f (λ k. eqb k l)
@@ -170,12 +148,8 @@ module _ (width : ℕ) where
 
   -- `m & 1 << k != 0`
   pub test-bit : (m k : ℕ) → k < width → not (eqb (bitAnd m (1 * 2 ^ k % 2 ^ width)) 0) ≡ inMask m k
-  test-bit m k h = rw (shl-one k h, and-power) (go (bit m k) (2 ^ k) (bit-lt m k) (pow-pos k))
-    where
-      go : (d p : ℕ) → d < 2 → 0 < p → not (eqb (d * p) 0) ≡ eqb d 1
-      go zero p h q = rw zero-mul
-      go (suc zero) p h q = rw (one-mul, ne-eqb p 0 (λ e. omega arith))
-      go (suc (suc d)) p h q = absurd (omega arith)
+  test-bit m k h = rw (shl-one k h, and-power)
+      (on-digit (λ d. not (eqb (d * 2 ^ k) 0) ≡ eqb d 1) (rw zero-mul) (rw (one-mul, ne-eqb (2 ^ k) 0 (λ e. omega (arith, pow-pos k)))) (bit m k) (bit-lt m k))
 
   -- `m << s | k`: k in the s lowest digits, m above them
   pub or-below : (s m k : ℕ) → m * 2 ^ s < 2 ^ width → k < 2 ^ s → bitOr (m * 2 ^ s % 2 ^ width) k ≡ m * 2 ^ s + k
@@ -206,12 +180,7 @@ lowest-unique {m} {j} {k} a b = ⊎-elim (λ (h : j < k). absurd (omega (arith, 
     (λ (h : k ≤ j). ⊎-elim (λ (g : k < j). absurd (omega (arith, b .member, a .below k g))) (λ (g : j ≤ k). omega arith) (lt-or-le k j)) (lt-or-le j k)
 
 low-digit : (m : ℕ) → (m % 2 ≡ 0) ⊎ (m % 2 ≡ 1)
-low-digit m = go (m % 2) (omega arith)
-  where
-    go : (d : ℕ) → d < 2 → (d ≡ 0) ⊎ (d ≡ 1)
-    go zero h = inl refl
-    go (suc zero) h = inr refl
-    go (suc (suc d)) h = absurd (omega arith)
+low-digit m = on-digit (λ d. (d ≡ 0) ⊎ (d ≡ 1)) (inl refl) (inr refl) (m % 2) (omega arith)
 
 half-small : (n m : ℕ) → m < 2 ^ suc n → m / 2 < 2 ^ n
 half-small n m h = omega arith
@@ -279,12 +248,6 @@ clear-digit (suc n) m (suc k) p h =
 pub in-clear : (width m k : ℕ) → 0 < m → m < 2 ^ width → inMask (bitAnd m (m - 1)) k ≡ (inMask m k && not (eqb k (trailingZeros width m)))
 in-clear width m k p h = rw (clear-digit width m k p h) (go (eqb k (trailingZeros width m)) (bit m k))
   where
-    last : (t x : Bool) → cond t false x ≡ (x && not t)
-    last true true = refl
-    last true false = refl
-    last false true = refl
-    last false false = refl
-
     go : (t : Bool) (d : ℕ) → eqb (cond t 0 d) 1 ≡ (eqb d 1 && not t)
-    go true d = last true (eqb d 1)
-    go false d = last false (eqb d 1)
+    go true d = on-tests (λ x y. cond x false y ≡ (y && not x)) refl refl refl refl true (eqb d 1)
+    go false d = on-tests (λ x y. cond x false y ≡ (y && not x)) refl refl refl refl false (eqb d 1)
