@@ -1,5 +1,5 @@
--- Sets of numbers as masks: k is in m where digit k of m is 1. Two masks with the same digits are equal (`bit-ext`), and from that follow the laws of joins
--- and of disjoint sets.
+-- Sets of numbers as masks: k is in m where digit k of m is 1. Two masks with the same digits are equal (`bit-ext`), and from that follow the laws of
+-- joins and of disjoint sets.
 use Prim.Native.Nat.{ℕ, zero, suc, _+_, _/_, _%_, _^_, _<_, _≤_, min, max}
 use mathlib.Core.Path.{_≡_, refl, ap, sym, _∙_}
 use mathlib.Core.Logic.{_≢_, _⊎_, inl, inr, ⊎-elim}

@@ -1,5 +1,6 @@
--- Masks as sums of powers of two, and the machine's operations on them: joins, intersections, one member more, tests of membership, the lowest member, a shift with a
--- number put below it. Each follows from the digits, since two numbers with the same digits are equal (`bit-ext`). `width` is the number of digits of a machine word.
+-- Masks as sums of powers of two, and the machine's operations on them: joins, intersections, one member more, tests of membership, the lowest
+-- member, a shift with a number put below it. Each follows from the digits, since two numbers with the same digits are equal (`bit-ext`). `width` is
+-- the number of digits of a machine word.
 use Prim.Native.Nat.{ℕ, zero, suc, _+_, _-_, _*_, _/_, _%_, _^_, _<_, _≤_, min, max}
 use mathlib.Core.Bool.{Bool, true, false, not, _&&_, _||_, cond}
 use mathlib.Core.Logic.{_≢_, _⊎_, inl, inr, ⊎-elim}

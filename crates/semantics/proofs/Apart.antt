@@ -1,5 +1,5 @@
--- What the test `apart` says: any two threads of S are compatible (`Apart`). Where one thread of such a moment is replaced, the moment stays apart, or the new
--- thread is not compatible with another (`Clash`).
+-- What the test `apart` says: any two threads of S are compatible (`Apart`). Where one thread of such a moment is replaced, the moment stays apart,
+-- or the new thread is not compatible with another (`Clash`).
 use Prim.Native.Nat.{ℕ, zero, suc, _≤_, _<_}
 use mathlib.Core.List.{List, [], _∷_}
 use mathlib.Core.Bool.{Bool, not, _&&_, _||_}

@@ -1,5 +1,5 @@
--- Source 000, Proposition 2.3. Only to begin a hold of a lock that another thread holds is refused (`permitted-or-blocked`). So a set of threads is stuck just if
--- each of them is blocked by another of them (`blocked-stuck`, `stuck-blocked`).
+-- Source 000, Proposition 2.3. Only to begin a hold of a lock that another thread holds is refused (`permitted-or-blocked`). So a set of threads is
+-- stuck just if each of them is blocked by another of them (`blocked-stuck`, `stuck-blocked`).
 use Prim.Native.Nat.{ℕ, _≤_, _<_}
 use mathlib.Core.List.{List}
 use mathlib.Core.Bool.{Bool}
@@ -24,7 +24,7 @@ use Rattle.semantics.proofs.Steps.{threadAt-nth, threadAt-some, moveOf,
 abbrev pub BalancedAll : List ThreadState → Type 0
 BalancedAll ts = (t : ℕ) → t < length ts → Balanced ((nth ts t) .rest) ((nth ts t) .count)
 
--- thread t is about to begin a hold of a lock from which another thread of S blocks it
+-- thread t is about to begin a hold of a lock from which another thread of S excludes it
 pub record Blocked (S : ℕ → Bool) (ts : List ThreadState) (t : ℕ) : Type 0 where
   pub lock : ℕ
   pub inside : Block

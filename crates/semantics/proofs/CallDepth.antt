@@ -1,5 +1,5 @@
--- The depth of calls. What is computed of a procedure through its calls does not depend on the depth to which calls are followed, once that is above the
--- procedure's rank: calls go to lower ranks, so none is cut off.
+-- The depth of calls. What is computed of a procedure through its calls does not depend on the depth to which calls are followed, once that is above
+-- the procedure's rank: calls go to lower ranks, so none is cut off.
 use Prim.Native.Nat.{ℕ, zero, suc, _<_}
 use mathlib.Core.List.{List}
 use mathlib.Core.Path.{_≡_, sym, _∙_}

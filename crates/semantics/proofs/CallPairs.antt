@@ -1,5 +1,5 @@
--- Source 000, Proposition 6.2: the words of a procedure that is called with locks held, from its words with none held (`pairs-lift`, `call-pairs`). So one list for each
--- procedure is enough, and it can be computed over lock sets instead of counts (`wordsWith`, `pairs-words`).
+-- Source 000, Proposition 6.2: the words of a procedure that is called with locks held, from its words with none held (`pairs-lift`, `call-pairs`).
+-- So one list for each procedure is enough, and it can be computed over lock sets instead of counts (`wordsWith`, `pairs-words`).
 use Prim.Native.Nat.{ℕ, zero, suc, _^_, _<_}
 use mathlib.Core.List.{List, [], _∷_, _++_, append-assoc, append-nil, List·Memᴰ, List·Memᴰ·head, List·Memᴰ·tail, List·Memᴰ·not-nil, List·Memᴰ·cases-cons, List·Memᴰ·append-cases, Memᴰ·append-right}
 use mathlib.Core.Bool.{Bool, true, false, cond}
@@ -151,7 +151,8 @@ module _ (ps : List Block) (rank : ℕ → ℕ) (s : Sound ps rank) where
   pub pairs-lift : (d p : ℕ) → rank p < d → (cs : List ℕ) → length cs ≡ 32 → pairsAt d ps p cs ≡ lift (held cs) (pairs d ps p)
   pairs-lift d p h cs e = rw (pairs-words d p h) (pairs-words-at d p h cs e)
 
-  -- the same by members, as published: the pairs of a call made with the locks of cs held are those (⌊L⌋ ∪ X, ℓ) of the callee's pairs (X, ℓ) with L(ℓ) = 0
+  -- the same by members, as published: the pairs of a call made with the locks of cs held are those (⌊L⌋ ∪ X, ℓ) of the callee's pairs (X, ℓ) with
+  -- L(ℓ) = 0
   pub call-pairs : (d p : ℕ) → rank p < d → (cs : List ℕ) → length cs ≡ 32 → (w : ℕ)
       → List·Memᴰ w (pairsAt d ps p cs) ↔ ((v : ℕ) × Critical ps p v × T (freshIn (held cs) (wantOf v)) × (w ≡ wordOf (bitOr (held cs) (locksOf v)) (wantOf v)))
   call-pairs d p h cs e w = rw (pairs-lift d p h cs e) (

@@ -1,5 +1,5 @@
--- The starred plans A to I of document 01 as trees, with the answers expected. One test over the table is computed, and what it implies holds of the runs and
--- of the critical pairs themselves.
+-- The starred plans A to I of document 01 as trees, with the answers expected. One test over the table is computed, and what it implies holds of the
+-- runs and of the critical pairs themselves.
 use Prim.Native.Nat.{ℕ, zero, suc, _+_, _≤_, _<_}
 use mathlib.Core.List.{List, [], _∷_, map, List·Memᴰ, List·Memᴰ·not-nil, List·Memᴰ·cases-cons}
 use mathlib.Core.Bool.{Bool, true, false, not, _&&_}

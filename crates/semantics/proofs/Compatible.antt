@@ -1,5 +1,5 @@
--- Which counts two threads can have at once (`compatible`), from which locks a thread `Excludes` the others, and which are `fresh` to it: for counts, then for
--- sets of locks. What follows in other modules uses these laws alone, and does not look inside.
+-- Which counts two threads can have at once (`compatible`), from which locks a thread `Excludes` the others, and which are `fresh` to it: for counts,
+-- then for sets of locks. What follows in other modules uses these laws alone, and does not look inside.
 use Prim.Native.Nat.{ℕ, zero, suc, _<_, max}
 use mathlib.Core.Bool.{Bool, true, not, _&&_}
 use mathlib.Core.List.{List, [], _∷_}
@@ -58,11 +58,11 @@ pub compatible-sym : (cs ds : List ℕ) → T (compatible cs ds) → T (compatib
 compatible-sym cs ds t =
     ⊎-elim (λ r. r) (λ (r : (l : ℕ) × HasLock ds l × Excludes cs l). absurd (compatible-not-contended cs ds t (r .0) (r .2) (r .1))) (compatible-or-contended ds cs)
 
--- what another blocks, this thread does not have
+-- a thread does not hold a lock from which another excludes it
 pub excluded-not-held : (cs ds : List ℕ) → T (compatible cs ds) → (l : ℕ) → Excludes ds l → getD cs l 0 ≡ 0
 excluded-not-held cs ds t l h = ⊎-elim (λ z. z) (λ g. absurd (compatible-not-contended cs ds t l g h)) (eq-zero-or-pos (getD cs l 0))
 
--- and it is fresh to it
+-- and the lock is fresh to it
 pub excluded-fresh : (cs ds : List ℕ) → T (compatible cs ds) → (l : ℕ) → Excludes ds l → T (fresh cs l)
 excluded-fresh cs ds t l h = rw (excluded-not-held cs ds t l h) tt
 

@@ -1,4 +1,5 @@
--- A conflict is met by a run: executions of the threads in it by themselves lead to its pairs, where they are stuck, and from there the retreat leads to the start.
+-- A conflict is met by a run: executions of the threads in it by themselves lead to its pairs, where they are stuck, and from there the retreat leads
+-- to the start.
 use Prim.Native.Nat.{ℕ, _%_, _≤_, _<_}
 use mathlib.Core.List.{List, [], _∷_}
 use mathlib.Core.Bool.{Bool, true, false}
@@ -86,7 +87,7 @@ module _ (ps : List Block) (bodies : (q : ℕ) → Plain (bodyIn ps q)) (ns : Li
   there-balanced : BalancedAll there
   there-balanced = joint-balanced executions goal (λ i _. le-refl (goal i))
 
-  -- only the threads in S block anything
+  -- only the threads in S exclude anybody
   blocks-member : (i l : ℕ) → Excludes (counts there i) l → T (S i)
   blocks-member i l g =
       let b : i < length ns = subst (λ n. i < n) (length-table (length ns) (λ i. s i (goal i))) (excludes-present there i l g) in

@@ -1,5 +1,5 @@
--- Source 000, Lemma 4.2. The critical pairs are those of its Definition 4.1: a word of the language is the trace of an execution, and an execution that comes to a
--- hold can be finished, so that its trace begins a word.
+-- Source 000, Lemma 4.2. The critical pairs are those of its Definition 4.1: a word of the language is the trace of an execution, and an execution
+-- that comes to a hold can be finished, so that its trace begins a word.
 use Prim.Native.Nat.{ℕ, zero, suc, _<_}
 use mathlib.Core.List.{List, [], _∷_, _++_}
 use mathlib.Core.Path.{_≡_, refl, ap, sym, _∙_, subst}

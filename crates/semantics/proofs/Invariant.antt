@@ -1,5 +1,6 @@
--- What every run keeps (`run-keeps`): the counts of a thread are those of the ends that its remainder has, no lock is positive in two threads (source 000, Remark 2.1), and
--- only to begin a hold of a lock that another thread holds is ever refused. The first two hold at the start and each permitted step keeps them.
+-- What every run keeps (`run-keeps`): the counts of a thread are those of the ends that its remainder has, no lock is positive in two threads (source
+-- 000, Remark 2.1), and only to begin a hold of a lock that another thread holds is ever refused. The first two hold at the start and each permitted
+-- step keeps them.
 use Prim.Native.Nat.{ℕ, zero, suc, _+_, _*_, _/_, _%_, _<_}
 use mathlib.Core.List.{List, [], _∷_}
 use mathlib.Core.Logic.{⊎-elim, _≢_}

@@ -1,4 +1,5 @@
--- Threads that stand on executions of their own. A position on each execution gives a joint state; this module says what its threads, counts and steps are.
+-- Threads that stand on executions of their own. A position on each execution gives a joint state; this module says what its threads, counts and
+-- steps are.
 use Prim.Native.Nat.{ℕ, _-_, _≤_, _<_}
 use mathlib.Core.List.{List}
 use mathlib.Core.Option.{Option, some}
@@ -51,7 +52,7 @@ module _ {ps : List Block} {n : ℕ} {P : ℕ → List ℕ} {s : ℕ → ℕ →
   pub joint-balanced : (j : ℕ → ℕ) → ((i : ℕ) → i < n → j i ≤ length (P i)) → BalancedAll (joint n s j)
   joint-balanced j w i b = let c = of-joint j i b in rw (joint-at j i c) (state-balanced i (j i) c (w i c))
 
-  -- a thread at its start blocks nothing
+  -- a thread at its start excludes nobody
   pub start-excludes-none : (i l : ℕ) → i < n → Excludes ((s i 0) .count) l → ⊥
   start-excludes-none i l b h = unlocked-excludes-none l (subst (λ y. Excludes (y .count) l) ((x .runs i b) .first) h)
 

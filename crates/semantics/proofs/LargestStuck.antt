@@ -1,5 +1,6 @@
--- The largest stuck set as a fixed point: begin with the threads that are about to begin a hold, and in rounds drop those that are blocked by no other that is left.
--- Every stuck set survives each round, and after as many rounds as there are threads nothing more is dropped. What is left is stuck, unless it is empty.
+-- The largest stuck set as a fixed point: begin with the threads that are about to begin a hold, and in rounds drop those that are blocked by no
+-- other that is left. Every stuck set survives each round, and after as many rounds as there are threads nothing more is dropped. What is left is
+-- stuck, unless it is empty.
 use Prim.Native.Nat.{ℕ, zero, suc, _+_, _≤_, _<_}
 use mathlib.Core.List.{List}
 use mathlib.Core.Bool.{Bool, true, false, not, _&&_, cond}

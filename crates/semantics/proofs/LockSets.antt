@@ -1,5 +1,5 @@
--- The set of the locks that counts have (`held`) as a mask: digit l is 1 just if the count of l is positive. So it is the sum of the powers of two of those locks, and
--- to begin a hold joins its lock to it.
+-- The set of the locks that counts have (`held`) as a mask: digit l is 1 just if the count of l is positive. So it is the sum of the powers of two of
+-- those locks, and to begin a hold joins its lock to it.
 use Prim.Native.Nat.{ℕ, zero, suc, _+_, _*_, _/_, _%_, _^_, _<_, _≤_, max}
 use mathlib.Core.List.{List, [], _∷_}
 use mathlib.Core.Bool.{Bool, true, false, cond}

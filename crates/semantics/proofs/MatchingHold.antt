@@ -1,5 +1,5 @@
--- Source 000, Lemma 3.13. Where a hold ends, the thread stood before that hold at an earlier moment, with the counts that the end leaves: what the remainder
--- will end was begun before, with the same remainder after it, and the remainder settles the counts.
+-- Source 000, Lemma 3.13. Where a hold ends, the thread stood before that hold at an earlier moment, with the counts that the end leaves: what the
+-- remainder will end was begun before, with the same remainder after it, and the remainder settles the counts.
 use Prim.Native.Nat.{ℕ, zero, suc, _≤_, _<_}
 use mathlib.Core.List.{List}
 use mathlib.Core.Logic.{inl, ⊎-elim}
@@ -31,13 +31,10 @@ module _ {ps : List Block} {x : ThreadState} {cs : List ℕ} {s : ℕ → Thread
       → (h : ℕ) × (h < j) × (b : Block) × ((s h) .rest ≡ hold l b r) × ((s h) .count ≡ (s (suc j)) .count)
   unfolding WillEnd
   matching-hold l r j b e f =
-      let p = begun-earlier l r j (omega arith) (rw e (inl (refl, refl))) in (
-        p .0,
-        p .1,
-        p .2,
-        p .3,
-        balanced-unique (balanced-hold (subst (λ y. Balanced y ((s (p .0)) .count)) (p .3) (balanced-at bodies plain kept a (p .0) (omega arith)))) (subst (λ y. Balanced y ((s (suc j)) .count)) f (balanced-at bodies plain kept a (suc j) b)),
-      )
+      let p = begun-earlier l r j (omega arith) (rw e (inl (refl, refl))) in
+      let before = balanced-hold (subst (λ y. Balanced y ((s (p .0)) .count)) (p .3) (balanced-at bodies plain kept a (p .0) (omega arith))) in
+      let behind = subst (λ y. Balanced y ((s (suc j)) .count)) f (balanced-at bodies plain kept a (suc j) b) in
+      (p .0, p .1, p .2, p .3, balanced-unique before behind)
 
   -- how to find that moment: it is the last one at which the lock was not held
   module _ (l : ℕ) (r : Block) (j : ℕ) (b : j < length cs) (ended : (s j) .rest ≡ end l r) (on : (s (suc j)) .rest ≡ r) (freed : getD ((s (suc j)) .count) l 0 ≡ 0)

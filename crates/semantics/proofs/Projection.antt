@@ -1,5 +1,5 @@
--- Source 000, Remark 2.1. A thread's own steps in a run are an execution of it alone, and an execution of one thread is a run of the gateway that has only this
--- thread. So critical pairs are those of executions.
+-- Source 000, Remark 2.1. A thread's own steps in a run are an execution of it alone, and an execution of one thread is a run of the gateway that has
+-- only this thread. So critical pairs are those of executions.
 use Prim.Native.Nat.{ℕ, _*_, _/_, _%_}
 use mathlib.Core.List.{List, [], _∷_, map}
 use mathlib.Core.Bool.{true, false, cond}

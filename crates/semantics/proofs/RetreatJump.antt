@@ -1,5 +1,5 @@
--- The retreat: where no thread can go back, all jump to the begins of the holds that they have just ended (Lemma 3.13). There they have the same counts, each is
--- blocked by another, and fewer steps are left: an earlier deadlock.
+-- The retreat: where no thread can go back, all jump to the begins of the holds that they have just ended (Lemma 3.13). There they have the same
+-- counts, each is blocked by another, and fewer steps are left: an earlier deadlock.
 use Prim.Native.Nat.{ℕ, suc, _-_, _≤_, _<_}
 use mathlib.Core.List.{List, []}
 use mathlib.Core.Bool.{Bool, _&&_}
@@ -19,7 +19,7 @@ use Rattle.semantics.proofs.Balance.{balanced-plain}
 use Rattle.semantics.proofs.MatchingHold.{matching-hold}
 use Rattle.semantics.proofs.Blocked.{Blocked, blocked-stuck}
 use Rattle.semantics.proofs.Tables.{total, total-lt}
-use Rattle.semantics.proofs.JointStates.{Executions, joint, earlier, joint-at, in-joint, joint-counts, joint-absent, joint-balanced}
+use Rattle.semantics.proofs.JointStates.{Executions, joint, joint-at, in-joint, joint-counts, joint-absent, joint-balanced}
 use Rattle.semantics.proofs.RetreatStep.{Retreat}
 use Rattle.semantics.proofs.RetreatRefused.{Refusal}
 

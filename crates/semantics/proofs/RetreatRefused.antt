@@ -1,5 +1,5 @@
--- The retreat: why a thread cannot go back. Its last step ended a hold of a lock that another thread, which has taken a step too, now holds: nothing but an end makes
--- a count smaller.
+-- The retreat: why a thread cannot go back. Its last step ended a hold of a lock that another thread, which has taken a step too, now holds: nothing
+-- but an end makes a count smaller.
 use Prim.Native.Nat.{ℕ, _-_, _≤_, _<_}
 use mathlib.Core.List.{List}
 use mathlib.Core.Logic.{⊎-elim, _≢_}
@@ -16,7 +16,7 @@ use Rattle.semantics.proofs.Transitions.{move-transition}
 use Rattle.semantics.proofs.Balance.{zero-by-end}
 use Rattle.semantics.proofs.JointStates.{Executions, joint, earlier, in-joint, of-joint, joint-counts, state-balanced, start-excludes-none, last-step}
 
--- what refuses thread k's last step: that step ended a hold of a lock from which another thread blocks it, which has taken a step too
+-- what refuses thread k's last step: that step ended a hold of a lock from which another thread, which has taken a step too, excludes it
 pub record Refusal (n : ℕ) (s : ℕ → ℕ → ThreadState) (j : ℕ → ℕ) (k : ℕ) : Type 0 where
   pub lock : ℕ
   pub following : Block

@@ -1,4 +1,5 @@
--- The retreat as a whole: go back or jump until no thread has taken a step. That is the start, and the run that was put together leads from it to a stuck set.
+-- The retreat as a whole: go back or jump until no thread has taken a step. That is the start, and the run that was put together leads from it to a
+-- stuck set.
 use Prim.Native.Nat.{ℕ, zero, suc, _+_, _-_, _*_, _≤_, _<_}
 use mathlib.Core.List.{List, [], _∷_}
 use mathlib.Core.Bool.{Bool, _&&_, cond}

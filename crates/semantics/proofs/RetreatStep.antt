@@ -1,5 +1,5 @@
--- The retreat (source 000, Lemma 4.3, as an algorithm), and its first step. A joint state that is apart and leads by a run to a stuck set (`Retreat`) can be put one
--- step back at a thread, if it stays apart: the step taken back is put in front of the run.
+-- The retreat (source 000, Lemma 4.3, as an algorithm), and its first step. A joint state that is apart and leads by a run to a stuck set (`Retreat`)
+-- can be put one step back at a thread, if it stays apart: the step taken back is put in front of the run.
 use Prim.Native.Nat.{ℕ, suc, _+_, _*_, _≤_, _<_}
 use mathlib.Core.List.{List, _∷_}
 use mathlib.Core.Bool.{Bool}
@@ -55,7 +55,7 @@ module _ {ps : List Block} {n : ℕ} {P : ℕ → List ℕ} {s : ℕ → ℕ →
       let e = step-some everyone ps (joint n s j′) k c (s k (j k)) (in-joint x j′ k b) m (rw (raised-joint k j j′ b l) a) in
       rw (entry-thread k c (omega arith), entry-choice k c (omega arith)) (e ∙ ap {B = Option (List ThreadState)} some (raised-joint k j j′ b l))
 
-  -- a thread whose last step may be the last of all
+  -- thread k goes back by one step
   pub retreat-step : {bound : ℕ} {j : ℕ → ℕ} {es : List ℕ} {ts : List ThreadState} (k : ℕ) (j′ : ℕ → ℕ) → k < n → Lowered k j j′
       → T (apart everyone (earlier n s j k)) → Retreat ps n P s bound j es ts → Retreat ps n P s bound j′ ((k + 8 * getD (P k) (j′ k) 0) ∷ es) ts
   unfolding run

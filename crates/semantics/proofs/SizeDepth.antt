@@ -1,5 +1,5 @@
--- Sizes through calls. The size of a procedure does not depend on the depth to which calls are followed, once that is above its rank, so `sizeOf` meets the
--- equations of 01: a call has 1 and the size of what it calls.
+-- Sizes through calls. The size of a procedure does not depend on the depth to which calls are followed, once that is above its rank, so `sizeOf`
+-- meets the equations of 01: a call has 1 and the size of what it calls.
 use Prim.Native.Nat.{ℕ, _+_, _<_}
 use mathlib.Core.List.{List, [], _∷_}
 use mathlib.Core.Path.{_≡_, refl, ap}

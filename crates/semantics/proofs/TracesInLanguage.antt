@@ -1,5 +1,5 @@
--- Source 000, Lemma 3.7. The trace of an execution, with any word of what is left, is a word of what there was: by cases of the last step, where a word of `a ⨾ b`
--- is a word of a and a word of b.
+-- Source 000, Lemma 3.7. The trace of an execution, with any word of what is left, is a word of what there was: by cases of the last step, where a
+-- word of `a ⨾ b` is a word of a and a word of b.
 use Prim.Native.Nat.{ℕ}
 use mathlib.Core.List.{List, [], _∷_, _++_, append-assoc}
 use mathlib.Core.Option.{some, Option·some-injective}

@@ -1,4 +1,5 @@
--- The steps of a thread by itself as a relation that has each step of `move` (`move-transition`): a proof about steps has one clause for each kind of step.
+-- The steps of a thread by itself as a relation that has each step of `move` (`move-transition`): a proof about steps has one clause for each kind of
+-- step.
 use Prim.Native.Nat.{ℕ, _≤_}
 use mathlib.Core.List.{List}
 use mathlib.Core.Bool.{Bool, true, false, cond}

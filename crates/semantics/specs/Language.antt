@@ -1,5 +1,5 @@
--- Critical pairs as source 000 publishes them: by the language of traces of a block (its Definitions 3.1, 3.5 and 4.1). Theorem `critical-is-published` says that these
--- pairs are those of 01 (`Critical`).
+-- Critical pairs as source 000 publishes them: by the language of traces of a block (its Definitions 3.1, 3.5 and 4.1). Theorem
+-- `critical-is-published` says that these pairs are those of 01 (`Critical`).
 use Prim.Native.Nat.{ℕ}
 use mathlib.Core.List.{List, [], _∷_, _++_}
 use mathlib.Core.Path.{_≡_}
@@ -8,7 +8,8 @@ use Rattle.semantics.specs.Plan.{Block, done, skip, call, hold, loop, ei
 use Rattle.semantics.specs.Run.{unlocked, up, down}
 use Rattle.semantics.specs.Pairs.{wordOf, held, fresh}
 
--- Definition 3.1: "The lock alphabet Σ is defined as the union of two disjoint copies of Locks": ℓ, where the lock is acquired, and ℓ̄, where it is released.
+-- Definition 3.1: "The lock alphabet Σ is defined as the union of two disjoint copies of Locks": ℓ, where the lock is acquired, and ℓ̄, where it is
+-- released.
 pub data Action : Type 0 where
   acquire : ℕ → Action
   release : ℕ → Action
@@ -34,8 +35,8 @@ pub data InLanguage (ps : List Block) : Block → List Action → Type 0 where
   in-two : {a b r : Block} {u v : List Action} → InLanguage ps b u → InLanguage ps r v → InLanguage ps (either a b r) (u ++ v)
   in-end : {l : ℕ} {r : Block} {v : List Action} → InLanguage ps r v → InLanguage ps (end l r) (release l ∷ v)
 
--- Definition 4.1: "The set Crit(C) of critical pairs of a statement C is defined as: Crit(C) := {(⌊⟨u⟩⌋, ℓ) | ∃v. uℓv ∈ ℒ(C) and ℓ ∉ ⌊⟨u⟩⌋}", where ⌊⟨u⟩⌋ is the set of
--- the locks with a positive count after u. Here C is procedure p, u is `before`, v is `behind`, and w is the pair's word.
+-- Definition 4.1: "The set Crit(C) of critical pairs of a statement C is defined as: Crit(C) := {(⌊⟨u⟩⌋, ℓ) | ∃v. uℓv ∈ ℒ(C) and ℓ ∉ ⌊⟨u⟩⌋}", where
+-- ⌊⟨u⟩⌋ is the set of the locks with a positive count after u. Here C is procedure p, u is `before`, v is `behind`, and w is the pair's word.
 pub record PublishedCritical (ps : List Block) (p w : ℕ) : Type 0 where
   pub before : List Action
   pub lock : ℕ
