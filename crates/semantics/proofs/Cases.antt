@@ -1,9 +1,9 @@
--- The starred plans A to I of document 01 as trees, with the answers expected. One test over the table is computed, and what it implies holds of the
--- runs and of the critical pairs themselves.
+-- Every case of the table is as 01 says (`case-facts`). One test over the table is computed (`table-passes`), and what it implies holds of the runs and of the critical pairs
+-- themselves.
 use Prim.Native.Nat.{ℕ, zero, suc, _+_, _≤_, _<_}
 use mathlib.Core.List.{List, [], _∷_, map, List·Memᴰ, List·Memᴰ·not-nil, List·Memᴰ·cases-cons}
 use mathlib.Core.Bool.{Bool, true, false, not, _&&_}
-use mathlib.Core.Logic.{⊎-elim, _↔_}
+use mathlib.Core.Logic.{⊎-elim}
 use mathlib.Core.Option.{Option, none, some}
 use mathlib.Core.Path.{_≡_, refl, sym, ap₂, _∙_, subst, fun-ext}
 use native.Mathlib.Nat.{add-zero, zero-add, eq-or-lt-of-le}
@@ -12,8 +12,8 @@ use lib.ListN.{length, getD}
 use lib.Dec.{T, leb, ltb, eqb, leb→le, ltb→lt, eqb→eq, T-not}
 use Rattle.semantics.specs.Plan.{Block, done, skip, call, hold, loop, either, end, _⨾_, bodyIn, Written, WellFormed, Sound, LockPlan}
 use Rattle.semantics.specs.Run.{ThreadState, up, down, move, compatible, withAll, apart, threadAt, stepIn, step, run, start}
-use Rattle.semantics.specs.Stuck.{Largest, DeadlockFree, Schedule}
-use Rattle.semantics.specs.Pairs.{heldFrom, Critical, pairsWith, pairsAt, pairList}
+use Rattle.semantics.specs.Stuck.{Largest, Schedule}
+use Rattle.semantics.specs.Pairs.{heldFrom, pairsWith, pairsAt, pairList}
 use Rattle.semantics.specs.Sizes.{sizeWith, sizeAt, sizes, threadSizes}
 use Rattle.semantics.proofs.PairList.{pair-list-critical}
 use Rattle.laws.proofs.Tests.{same-test, T-and, lt-or-le}
@@ -25,68 +25,7 @@ use Rattle.semantics.proofs.ConflictTest.{conflicting}
 use Rattle.semantics.proofs.Characterisation.{Ranked, plan-characterisation}
 use Rattle.laws.specs.Ascending.{insert, ascending}
 use Rattle.laws.specs.Mask.{bit}
-
--- ---- the table
-
--- free, or a schedule and the threads that are stuck at its end
-pub data Answer : Type 0 where
-  free : Answer
-  deadlock : List ℕ → List ℕ → Answer
-
--- `words` lists the pair words of the first procedures, of as many as it has lists
-pub record Case : Type 0 where
-  pub plan : LockPlan
-  pub words : List (List ℕ)
-  pub answer : Answer
-
-abbrev pub oneSkip : Block
-oneSkip = skip done
-
--- l[b], and l[k] with a skip inside
-abbrev pub holdOnly : ℕ → Block → Block
-holdOnly l b = hold l b done
-
-abbrev pub nest : ℕ → ℕ → Block
-nest l k = holdOnly l (holdOnly k oneSkip)
-
--- 0[1] and 1[0]
-abbrev pub caseA : Case
-caseA = record { plan = record { procs = nest 0 1 ∷ nest 1 0 ∷ []; threads = 0 ∷ 1 ∷ [] }; words = []; answer = deadlock (0 ∷ 1 ∷ []) (0 ∷ 1 ∷ []) }
-
--- 2[0[1]] and 2[1[0]]
-abbrev pub caseB : Case
-caseB = record { plan = record { procs = holdOnly 2 (nest 0 1) ∷ holdOnly 2 (nest 1 0) ∷ []; threads = 0 ∷ 1 ∷ [] }; words = (2 ∷ 128 ∷ 161 ∷ []) ∷ (2 ∷ 129 ∷ 192 ∷ []) ∷ []; answer = free }
-
--- 0[0], by two threads
-abbrev pub caseC : Case
-caseC = record { plan = record { procs = nest 0 0 ∷ []; threads = 0 ∷ 0 ∷ [] }; words = (0 ∷ []) ∷ []; answer = free }
-
--- 1[0], 2[1] and 0[2]
-abbrev pub caseD : Case
-caseD = record { plan = record { procs = nest 1 0 ∷ nest 2 1 ∷ nest 0 2 ∷ []; threads = 0 ∷ 1 ∷ 2 ∷ [] }; words = []; answer = deadlock (0 ∷ 1 ∷ 2 ∷ []) (0 ∷ 1 ∷ 2 ∷ []) }
-
--- the first two of D
-abbrev pub caseE : Case
-caseE = record { plan = record { procs = nest 1 0 ∷ nest 2 1 ∷ []; threads = 0 ∷ 1 ∷ [] }; words = []; answer = free }
-
--- 0[1] then 1[0], by one thread
-abbrev pub caseF : Case
-caseF = record { plan = record { procs = hold 0 (holdOnly 1 oneSkip) (nest 1 0) ∷ []; threads = 0 ∷ [] }; words = []; answer = free }
-
--- 0[1 2] and 1[0 2[0]]
-abbrev pub caseG : Case
-caseG = record { plan = record { procs = holdOnly 0 (hold 1 oneSkip (holdOnly 2 oneSkip)) ∷ holdOnly 1 (hold 0 oneSkip (nest 2 0)) ∷ []; threads = 0 ∷ 1 ∷ [] }; words = []; answer = deadlock (0 ∷ 1 ∷ []) (0 ∷ 1 ∷ []) }
-
--- an either of 0[1] or skip, and 1[0]
-abbrev pub caseH : Case
-caseH = record { plan = record { procs = either (nest 0 1) oneSkip done ∷ nest 1 0 ∷ []; threads = 0 ∷ 1 ∷ [] }; words = []; answer = deadlock (8 ∷ 0 ∷ 1 ∷ []) (0 ∷ 1 ∷ []) }
-
--- a loop over hold 0, by two threads
-abbrev pub caseI : Case
-caseI = record { plan = record { procs = loop (holdOnly 0 oneSkip) done ∷ []; threads = 0 ∷ 0 ∷ [] }; words = []; answer = free }
-
-abbrev pub cases : List Case
-cases = caseA ∷ caseB ∷ caseC ∷ caseD ∷ caseE ∷ caseF ∷ caseG ∷ caseH ∷ caseI ∷ []
+use Rattle.semantics.proofs.CaseTable.{Answer, free, deadlock, Case, cases, among, AnswerHolds, CaseFacts}
 
 -- ---- the test
 
@@ -126,10 +65,6 @@ sameList (x ∷ xs) (y ∷ ys) = eqb x y && sameList xs ys
 unfoldable pub wordsFrom : List Block → ℕ → List (List ℕ) → Bool
 wordsFrom ps p [] = true
 wordsFrom ps p (ws ∷ wss) = ltb p (length ps) && (sameList (pairList ps p) ws && wordsFrom ps (suc p) wss)
-
--- the threads of a list, as a set
-abbrev pub among : List ℕ → ℕ → Bool
-among ts t = any (eqb t) ts
 
 abbrev pub agree : Bool → Bool → Bool
 agree true b = b
@@ -255,16 +190,6 @@ same-below zero S R h t b = absurd (omega arith)
 same-below (suc n) S R h t b =
     let (x, y) = T-and (agree (S n) (R n)) (sameBelow n S R) h in
     ⊎-elim (λ (e : t ≡ n). rw e (agree-is (S n) (R n) x)) (λ (l : t < n). same-below n S R y t l) (eq-or-lt-of-le (omega arith))
-
--- what an answer says
-abbrev pub AnswerHolds : LockPlan → Answer → Type 0
-AnswerHolds plan free = DeadlockFree (plan .procs) (plan .threads)
-AnswerHolds plan (deadlock es us) = Schedule plan es (among us)
-
-pub record CaseFacts (c : Case) : Type 0 where
-  pub words : (p : ℕ) → p < length (c .words) → getD (c .words) p [] ≡ pairList (c .plan .procs) p
-  pub critical : (p : ℕ) → p < length (c .words) → (w : ℕ) → List·Memᴰ w (getD (c .words) p []) ↔ Critical (c .plan .procs) p w
-  pub answer : AnswerHolds (c .plan) (c .answer)
 
 module _ (plan : LockPlan) (ranked : Ranked plan (λ p. p)) where
   abbrev ps : List Block

@@ -9,6 +9,7 @@ pub mod SizeDepth
 pub mod Remainders
 pub mod Transitions
 pub mod Balance
+pub mod HoldEnds
 pub mod Execution
 pub mod MatchingHold
 -- Threads beside each other: what a lock excludes, which steps are permitted, what every run keeps, runs and executions.
@@ -43,7 +44,10 @@ pub mod ConflictRun
 pub mod LargestStuck
 -- The test for a conflict, and the whole.
 pub mod ConflictSearch
+pub mod SearchSound
+pub mod SearchComplete
 pub mod ConflictTest
 pub mod Characterisation
 pub mod MoreThreads
+pub mod CaseTable
 pub mod Cases

@@ -11,7 +11,8 @@ use Rattle.semantics.specs.Plan.{Block, hold, end, bodyIn}
 use Rattle.semantics.specs.Run.{ThreadState}
 use Rattle.semantics.proofs.Remainders.{Plain}
 use Rattle.semantics.proofs.Transitions.{Transition}
-use Rattle.semantics.proofs.Balance.{Balanced, WillEnd, endCount, will-end-before, balanced-unique, plain-ends-nothing, balanced-hold, positive-by-begin, begin-will-end, will-end-next, will-end-positive}
+use Rattle.semantics.proofs.Balance.{Balanced, endCount, balanced-unique, balanced-hold, positive-by-begin}
+use Rattle.semantics.proofs.HoldEnds.{WillEnd, will-end-before, plain-ends-nothing, begin-will-end, will-end-next, will-end-positive}
 use Rattle.semantics.proofs.Execution.{step-at, Execution, balanced-at}
 
 module _ {ps : List Block} {x : ThreadState} {cs : List ℕ} {s : ℕ → ThreadState} (bodies : (p : ℕ) → Plain (bodyIn ps p)) (plain : Plain (x .rest)) (kept : Balanced (x .rest) (x .count))

@@ -1,6 +1,6 @@
 -- Another thread never removes a deadlock: a search that succeeds does so with one list more, wherever it is put in.
 use Prim.Native.Nat.{ℕ, _≤_, _<_}
-use mathlib.Core.Bool.{Bool, true, false, _&&_}
+use mathlib.Core.Bool.{Bool, true, false}
 use mathlib.Core.List.{List, [], _∷_, _++_, map}
 use mathlib.Core.Logic.{inl, inr, ⊎-elim}
 use mathlib.Core.Path.{_≡_, refl, ap}
@@ -12,7 +12,7 @@ use Rattle.semantics.specs.Plan.{Block, Sound}
 use Rattle.semantics.specs.Stuck.{DeadlockFree}
 use Rattle.semantics.specs.Pairs.{locksOf, pairs}
 use Rattle.laws.proofs.Tests.{T-and, and-T, T-or, or-T}
-use Rattle.semantics.proofs.ConflictSearch.{any, stillUnmet, searchFrom}
+use Rattle.semantics.proofs.ConflictSearch.{any, stillUnmet, searchFrom, takes}
 use Rattle.semantics.proofs.ConflictTest.{compatibleSets, excludesSet}
 use Rattle.semantics.proofs.Characterisation.{characterisation}
 
@@ -22,21 +22,18 @@ any-more f g h [] t = t
 any-more f g h (v ∷ vs) t = or-T (g v) (any g vs) (⊎-elim (λ a. inl (h v a)) (λ b. inr (any-more f g h vs b)) (T-or (f v) (any f vs) t))
 
 module _ (c b : ℕ → ℕ → Bool) where
-  abbrev takes : List (List ℕ) → ℕ → List ℕ → ℕ → Bool
-  takes vss m ws v = c m (locksOf v) && searchFrom c b vss (bitOr m (locksOf v)) (stillUnmet c b m v ws) true
-
   pub search-insert : (xs : List (List ℕ)) (vs : List ℕ) (ys : List (List ℕ)) (m : ℕ) (ws : List ℕ) (some : Bool)
       → T (searchFrom c b (xs ++ ys) m ws some) → T (searchFrom c b (xs ++ vs ∷ ys) m ws some)
   unfolding searchFrom
-  search-insert [] vs ys m ws some t = or-T (searchFrom c b ys m ws some) (any (takes ys m ws) vs) (inl t)
+  search-insert [] vs ys m ws some t = or-T (searchFrom c b ys m ws some) (any (takes c b ys m ws) vs) (inl t)
   search-insert (x ∷ xs) vs ys m ws some t =
-      or-T (searchFrom c b (xs ++ vs ∷ ys) m ws some) (any (takes (xs ++ vs ∷ ys) m ws) x)
+      or-T (searchFrom c b (xs ++ vs ∷ ys) m ws some) (any (takes c b (xs ++ vs ∷ ys) m ws) x)
       (⊎-elim (λ p. inl (search-insert xs vs ys m ws some p))
-      (λ p. inr (any-more (takes (xs ++ ys) m ws) (takes (xs ++ vs ∷ ys) m ws)
+      (λ p. inr (any-more (takes c b (xs ++ ys) m ws) (takes c b (xs ++ vs ∷ ys) m ws)
       (λ v q. let (k, r) = T-and (c m (locksOf v)) (searchFrom c b (xs ++ ys) (bitOr m (locksOf v)) (stillUnmet c b m v ws) true) q in
       and-T (c m (locksOf v)) (searchFrom c b (xs ++ vs ∷ ys) (bitOr m (locksOf v)) (stillUnmet c b m v ws) true) k
       (search-insert xs vs ys (bitOr m (locksOf v)) (stillUnmet c b m v ws) true r)) x p))
-      (T-or (searchFrom c b (xs ++ ys) m ws some) (any (takes (xs ++ ys) m ws) x) t))
+      (T-or (searchFrom c b (xs ++ ys) m ws some) (any (takes c b (xs ++ ys) m ws) x) t))
 
 map-++ : (f : ℕ → List ℕ) (ms ns : List ℕ) → map f (ms ++ ns) ≡ map f ms ++ map f ns
 map-++ f [] ns = refl
