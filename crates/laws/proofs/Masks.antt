@@ -6,13 +6,13 @@ use mathlib.Core.Bool.{Bool, true, false, not, _&&_, _||_, cond}
 use mathlib.Core.Logic.{_≢_, _⊎_, inl, inr, ⊎-elim}
 use mathlib.Core.Path.{_≡_, refl, sym, ap, _∙_}
 use native.Mathlib.Omega.{arith}
-use native.Mathlib.Nat.{one-mul, zero-mul, zero-add, mod-eq-of-lt, div-eq-of-lt}
+use native.Mathlib.Nat.{one-mul, zero-mul, zero-add, add-mul, mod-eq-of-lt, div-eq-of-lt}
 use native.Mathlib.Numerals.{one-add}
 use lib.Bits.{bitAnd, bitOr, and-mask, and-step, and-shr, and-self, and-high, and-le-r, or-shifted, or-zero-l, or-lt, and-lt}
 use lib.Count.{trailingZeros, under}
-use lib.Dec.{eqb, eqb·zero-suc, eqb·suc-zero, eqb·suc-suc}
-use lib.Pow.{pow-pos, pow-mono, pow-lt, shl-exact}
-use borrow.Author.Tests.{ne-eqb}
+use lib.Dec.{eqb, leb, eqb·zero-suc, eqb·suc-zero, eqb·suc-suc}
+use lib.Pow.{pow-pos, pow-mono, pow-lt, pow-add, shl-exact}
+use borrow.Author.Tests.{ne-eqb, le-leb, lt-leb}
 use Rattle.laws.specs.Mask.{bit, inMask, maskOf}
 use Rattle.laws.proofs.Bits.{bit-zero, bit-suc, bit-lt, bit-or, bit-and, bit-ext, bit-none, bit-pow, bit-pow-other}
 use Rattle.laws.proofs.Tests.{lt-or-le, eq-or-ne, eqb-cases}
@@ -111,6 +111,27 @@ pub mask-and : (n : ℕ) (f g : ℕ → Bool) → bitAnd (maskOf n f) (maskOf n 
 mask-and n f g = mask-ext n _ _ (and-lt n (maskOf n f) (maskOf n g) (mask-lt n f) (mask-lt n g)) (mask-lt n (λ k. f k && g k))
     (λ k b. rw (bit-and, mask-digit n f k b, mask-digit n g k b, mask-digit n (λ k. f k && g k) k b)
     (on-tests (λ x y. min (cond x 1 0) (cond y 1 0) ≡ cond (x && y) 1 0) refl refl refl refl (f k) (g k)))
+
+-- ---- a shift
+
+-- a set without members below n
+pub mask-none : (n : ℕ) (f : ℕ → Bool) → ((k : ℕ) → k < n → f k ≡ false) → maskOf n f ≡ 0
+unfolding maskOf
+mask-none zero f h = refl
+mask-none (suc n) f h = rw (h n (omega arith)) (zero-add (maskOf n f) ∙ mask-none n f (λ k b. h k (omega arith)))
+
+-- shifted up by s: the sum of 2 to the power k + s over the k below n that are in f
+pub mask-shift : (s n : ℕ) (f : ℕ → Bool) → maskOf n f * 2 ^ s ≡ maskOf (n + s) (λ k. leb s k && f (k - s))
+unfolding maskOf
+mask-shift s zero f = zero-mul (2 ^ s) ∙ sym (mask-none (0 + s) (λ k. leb s k && f (k - s)) (λ k b. rw (lt-leb s k (omega arith))))
+mask-shift s (suc n) f =
+    let next : suc n + s ≡ suc (n + s) = omega arith in
+    let back : n + s - s ≡ n = omega arith in
+    rw (next, le-leb s (n + s) (omega arith), back, ← mask-shift s n f) (go (f n))
+  where
+    go : (b : Bool) → (cond b (2 ^ n) 0 + maskOf n f) * 2 ^ s ≡ cond b (2 ^ (n + s)) 0 + maskOf n f * 2 ^ s
+    go true = rw (pow-add 2 n s) (add-mul (2 ^ n) (maskOf n f) (2 ^ s))
+    go false = rw (zero-add, zero-add)
 
 -- ---- one member more
 
