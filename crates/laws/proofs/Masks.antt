@@ -29,7 +29,8 @@ on-digit P a b (suc zero) h = b
 on-digit P a b (suc (suc d)) h = absurd (omega arith)
 
 on-digits : (P : ℕ → ℕ → Type 0) → P 0 0 → P 0 1 → P 1 0 → P 1 1 → (a b k : ℕ) → P (bit a k) (bit b k)
-on-digits P p q r s a b k = on-digit (λ x. P x (bit b k)) (on-digit (P 0) p q (bit b k) (bit-lt b k)) (on-digit (P 1) r s (bit b k) (bit-lt b k)) (bit a k) (bit-lt a k)
+on-digits P p q r s a b k = on-digit (λ x. P x (bit b k)) (on-digit (P 0) p q (bit b k) (bit-lt b k)) (on-digit (P 1) r s (bit b k) (bit-lt b k))
+    (bit a k) (bit-lt a k)
 
 on-tests : (P : Bool → Bool → Type 0) → P false false → P false true → P true false → P true true → (a b : Bool) → P a b
 on-tests P p q r s true true = s
@@ -171,7 +172,8 @@ module _ (width : ℕ) where
   -- `m & 1 << k != 0`
   pub test-bit : (m k : ℕ) → k < width → not (eqb (bitAnd m (1 * 2 ^ k % 2 ^ width)) 0) ≡ inMask m k
   test-bit m k h = rw (shl-one k h, and-power)
-      (on-digit (λ d. not (eqb (d * 2 ^ k) 0) ≡ eqb d 1) (rw zero-mul) (rw (one-mul, ne-eqb (2 ^ k) 0 (λ e. omega (arith, pow-pos k)))) (bit m k) (bit-lt m k))
+      (on-digit (λ d. not (eqb (d * 2 ^ k) 0) ≡ eqb d 1) (rw zero-mul) (rw (one-mul, ne-eqb (2 ^ k) 0 (λ e. omega (arith, pow-pos k)))) (bit m k)
+      (bit-lt m k))
 
   -- `m << s | k`: k in the s lowest digits, m above them
   pub or-below : (s m k : ℕ) → m * 2 ^ s < 2 ^ width → k < 2 ^ s → bitOr (m * 2 ^ s % 2 ^ width) k ≡ m * 2 ^ s + k
@@ -223,7 +225,8 @@ trailing-lowest (suc n) m p h = ⊎-elim
 
 pub trailing-lt : (width m : ℕ) → 0 < m → m < 2 ^ width → trailingZeros width m < width
 trailing-lt width m p h = ⊎-elim (λ b. b)
-    (λ (b : width ≤ trailingZeros width m). absurd (omega (arith, digit-out m width (trailingZeros width m) h b, (trailing-lowest width m p h) .member)))
+    (λ (b : width ≤ trailingZeros width m). absurd
+    (omega (arith, digit-out m width (trailingZeros width m) h b, (trailing-lowest width m p h) .member)))
     (lt-or-le (trailingZeros width m) width)
 
 -- `m & m - 1` is m without its lowest member: as a number, and by members

@@ -27,7 +27,8 @@ counts ts i = (nth ts i) .count
 
 pub excludes-present : (ts : List ThreadState) (i l : ℕ) → Excludes (counts ts i) l → i < length ts
 excludes-present ts i l h =
-    ⊎-elim (λ b. b) (λ (b : length ts ≤ i). absurd (empty-excludes-none l (subst (λ x. Excludes (x .count) l) (List·getD-eq-default ts absentThread b) h)))
+    ⊎-elim (λ b. b) (λ (b : length ts ≤ i). absurd
+    (empty-excludes-none l (subst (λ x. Excludes (x .count) l) (List·getD-eq-default ts absentThread b) h)))
     (lt-or-le i (length ts))
 
 abbrev pub Apart : (ℕ → Bool) → List ThreadState → Type 0
@@ -36,7 +37,8 @@ Apart S ts = (i j : ℕ) → i ≢ j → T (S i) → T (S j) → T (compatible (
 -- ---- the test and what it says
 
 pub compatible-empty : (cs : List ℕ) → T (compatible cs [])
-compatible-empty cs = ⊎-elim (λ t. t) (λ (r : (l : ℕ) × HasLock cs l × Excludes [] l). absurd (empty-excludes-none (r .0) (r .2))) (compatible-or-contended cs [])
+compatible-empty cs = ⊎-elim (λ t. t) (λ (r : (l : ℕ) × HasLock cs l × Excludes [] l). absurd (empty-excludes-none (r .0) (r .2)))
+    (compatible-or-contended cs [])
 
 -- a implies b
 from-or : (a b : Bool) → T (not a || b) → T a → T b
@@ -57,9 +59,11 @@ with← : (S : ℕ → Bool) (cs : List ℕ) (ts : List ThreadState) → ((j : �
 unfolding withAll
 with← S cs [] h = tt
 with← S cs (t ∷ ts) h =
-    and-T (not (S 0) || compatible cs (t .count)) (withAll (others S) cs ts) (to-or (S 0) (compatible cs (t .count)) (h 0)) (with← (others S) cs ts (λ j. h (suc j)))
+    and-T (not (S 0) || compatible cs (t .count)) (withAll (others S) cs ts) (to-or (S 0) (compatible cs (t .count)) (h 0))
+    (with← (others S) cs ts (λ j. h (suc j)))
 
-first : (S : ℕ → Bool) (t : ThreadState) (ts : List ThreadState) → T (apart S (t ∷ ts)) → (j : ℕ) → T (S 0) → T (S (suc j)) → T (compatible (t .count) (counts ts j))
+first : (S : ℕ → Bool) (t : ThreadState) (ts : List ThreadState) → T (apart S (t ∷ ts)) → (j : ℕ) → T (S 0) → T (S (suc j))
+    → T (compatible (t .count) (counts ts j))
 unfolding apart
 first S t ts a j s r =
     with→ (others S) (t .count) ts
@@ -108,15 +112,23 @@ module _ (S : ℕ → Bool) (ts : List ThreadState) (t : ℕ) (y : ThreadState) 
       let j = r .0 in
       let (s, q) = T-and (S j) (not (eqb j t) && not (compatible (y .count) (counts ts j))) (r .2) in
       let (d, n) = T-and (not (eqb j t)) (not (compatible (y .count) (counts ts j))) q in
-      inr (record { other = j; differs = λ e. T-not (eqb j t) d (subst (λ k. T (eqb j k)) e (eqb-refl j)); member = s; against = T-not (compatible (y .count) (counts ts j)) n }))
+      inr (record {
+        other = j;
+        differs = λ e. T-not (eqb j t) d (subst (λ k. T (eqb j k)) e (eqb-refl j));
+        member = s;
+        against = T-not
+            (compatible (y .count) (counts ts j)) n;
+      }))
       (λ (none : (j : ℕ) → j < length ts → T (barring j) → ⊥).
       let free : (j : ℕ) → j ≢ t → T (S j) → T (compatible (y .count) (counts ts j)) =
       λ j d s. ⊎-elim
       (λ (b : j < length ts). ⊎-elim (λ c. c)
       (λ n. absurd (none j b (and-T (S j) (not (eqb j t) && not (compatible (y .count) (counts ts j))) s
-      (and-T (not (eqb j t)) (not (compatible (y .count) (counts ts j))) (not-T (eqb j t) (λ e. d (eqb→eq j t e))) (not-T (compatible (y .count) (counts ts j)) n)))))
+      (and-T (not (eqb j t)) (not (compatible (y .count) (counts ts j))) (not-T (eqb j t) (λ e. d (eqb→eq j t e)))
+      (not-T (compatible (y .count) (counts ts j)) n)))))
       (T-dec (compatible (y .count) (counts ts j))))
-      (λ (b : length ts ≤ j). subst (λ x. T (compatible (y .count) (x .count))) (sym (List·getD-eq-default ts absentThread b)) (compatible-empty (y .count)))
+      (λ (b : length ts ≤ j). subst (λ x. T (compatible (y .count) (x .count))) (sym (List·getD-eq-default ts absentThread b))
+      (compatible-empty (y .count)))
       (lt-or-le j (length ts)) in
       inl (apart← S (set ts t y) (λ i j d s r.
       ⊎-elim

@@ -102,7 +102,8 @@ module _ (ps : List Block) (bodies : (p : ℕ) → Plain (bodyIn ps p)) where
   counts-move skips k l = k .counts l
   counts-move (calls {p} {r}) k l = k .counts l ∙ sym (end-count-⨾ l (bodyIn ps p) r (bodies p))
   counts-move (begins {l = m} {b} {r} {cs}) k l =
-      up-count l m cs (omega (arith, k .remainder .0, k .size)) ∙ ap (λ n. cond (eqb m l) 1 0 + n) (k .counts l) ∙ sym (end-count-⨾ l b (end m r) (k .remainder .1))
+      up-count l m cs (omega (arith, k .remainder .0, k .size)) ∙ ap (λ n. cond (eqb m l) 1 0 + n) (k .counts l)
+      ∙ sym (end-count-⨾ l b (end m r) (k .remainder .1))
   counts-move (ends {l = m} {r} {cs}) k l = down-count l m (endCount l r) cs (omega (arith, k .remainder .0, k .size)) (k .counts l)
   counts-move (enters {b} {r}) k l = k .counts l ∙ sym (end-count-⨾ l b (loop b r) (k .remainder .0))
   counts-move leaves k l = k .counts l
@@ -110,10 +111,16 @@ module _ (ps : List Block) (bodies : (p : ℕ) → Plain (bodyIn ps p)) where
   counts-move (takes-two {a} {b} {r}) k l = k .counts l ∙ sym (end-count-⨾ l b r (k .remainder .1))
 
   pub balanced-step : {c : ℕ} {b b′ : Block} {cs cs′ : List ℕ} → Transition ps c b cs b′ cs′ → Balanced b cs → Balanced b′ cs′
-  balanced-step m k = record { remainder = remainder-step ps AnyCall (λ p _. bodies p) m (k .remainder); size = size-move m (k .size); counts = counts-move m k }
+  balanced-step m k = record {
+    remainder = remainder-step ps AnyCall (λ p _. bodies p) m (k .remainder);
+    size = size-move m
+        (k .size);
+    counts = counts-move m k;
+  }
 
   -- only to begin a hold of a lock makes its count positive, and only to end one makes it zero
-  pub positive-by-begin : {c : ℕ} {b b′ : Block} {cs cs′ : List ℕ} → Transition ps c b cs b′ cs′ → Balanced b cs → (l : ℕ) → getD cs l 0 ≡ 0 → 0 < getD cs′ l 0
+  pub positive-by-begin : {c : ℕ} {b b′ : Block} {cs cs′ : List ℕ} → Transition ps c b cs b′ cs′ → Balanced b cs → (l : ℕ) → getD cs l 0 ≡ 0
+      → 0 < getD cs′ l 0
       → (x : Block) × (r : Block) × (b ≡ hold l x r)
   unfolding Remainder endCount
   positive-by-begin skips k l z h = absurd (omega arith)
@@ -131,7 +138,8 @@ module _ (ps : List Block) (bodies : (p : ℕ) → Plain (bodyIn ps p)) where
   positive-by-begin takes-one k l z h = absurd (omega arith)
   positive-by-begin takes-two k l z h = absurd (omega arith)
 
-  pub zero-by-end : {c : ℕ} {b b′ : Block} {cs cs′ : List ℕ} → Transition ps c b cs b′ cs′ → Balanced b cs → (l : ℕ) → 0 < getD cs l 0 → getD cs′ l 0 ≡ 0
+  pub zero-by-end : {c : ℕ} {b b′ : Block} {cs cs′ : List ℕ} → Transition ps c b cs b′ cs′ → Balanced b cs → (l : ℕ) → 0 < getD cs l 0
+      → getD cs′ l 0 ≡ 0
       → (r : Block) × (b ≡ end l r) × (b′ ≡ r)
   unfolding Remainder endCount
   zero-by-end skips k l h z = absurd (omega arith)
@@ -147,7 +155,8 @@ module _ (ps : List Block) (bodies : (p : ℕ) → Plain (bodyIn ps p)) where
   zero-by-end takes-one k l h z = absurd (omega arith)
   zero-by-end takes-two k l h z = absurd (omega arith)
 
-  pub begin-positive : {c l : ℕ} {x r b′ : Block} {cs cs′ : List ℕ} → Transition ps c (hold l x r) cs b′ cs′ → Balanced (hold l x r) cs → 0 < getD cs′ l 0
+  pub begin-positive : {c l : ℕ} {x r b′ : Block} {cs cs′ : List ℕ} → Transition ps c (hold l x r) cs b′ cs′ → Balanced (hold l x r) cs
+      → 0 < getD cs′ l 0
   unfolding Remainder
   begin-positive (begins {l} {b} {r} {cs}) k =
       let u = up-count l l cs (omega (arith, k .remainder .0, k .size)) in

@@ -66,7 +66,8 @@ lift-mem m (v ∷ ws) w i = ⊎-elim
     (λ j. let (v′, k, free, e) = lift-mem m ws w j in (v′, List·Memᴰ·tail k, free, e))
     (List·Memᴰ·append-cases (liftWord m v) i)
 
-pub mem-lift : (m : ℕ) (ws : List ℕ) (v : ℕ) → List·Memᴰ v ws → T (freshIn m (wantOf v)) → List·Memᴰ (wordOf (bitOr m (locksOf v)) (wantOf v)) (lift m ws)
+pub mem-lift : (m : ℕ) (ws : List ℕ) (v : ℕ) → List·Memᴰ v ws → T (freshIn m (wantOf v))
+    → List·Memᴰ (wordOf (bitOr m (locksOf v)) (wantOf v)) (lift m ws)
 unfolding lift liftWord
 mem-lift m [] v i free = absurd (List·Memᴰ·not-nil i)
 mem-lift m (x ∷ ws) v i free = ⊎-elim
@@ -88,7 +89,8 @@ unfoldable pub wordsAt : ℕ → List Block → ℕ → List ℕ
 wordsAt zero ps p = []
 wordsAt (suc d) ps p = wordsWith (wordsAt d ps) 0 (bodyIn ps p)
 
-pub words-agree : (C : ℕ → Type 0) (f g : ℕ → List ℕ) → ((p : ℕ) → C p → f p ≡ g p) → (m : ℕ) (b : Block) → Written C b → wordsWith f m b ≡ wordsWith g m b
+pub words-agree : (C : ℕ → Type 0) (f g : ℕ → List ℕ) → ((p : ℕ) → C p → f p ≡ g p) → (m : ℕ) (b : Block) → Written C b
+    → wordsWith f m b ≡ wordsWith g m b
 unfolding wordsWith Written
 words-agree C f g e m done w = refl
 words-agree C f g e m (skip r) w = words-agree C f g e m r w
@@ -98,9 +100,11 @@ words-agree C f g e m (loop b r) w = cc (words-agree C f g e m b (w .0), words-a
 words-agree C f g e m (either a b r) w = cc (words-agree C f g e m a (w .0), words-agree C f g e m b (w .1), words-agree C f g e m r (w .2))
 words-agree C f g e m (end l r) w = absurd w
 
-pub words-unfolds : (ps : List Block) (rank : ℕ → ℕ) → Sound ps rank → (d p : ℕ) → rank p < d → wordsAt d ps p ≡ wordsWith (wordsAt d ps) 0 (bodyIn ps p)
+pub words-unfolds : (ps : List Block) (rank : ℕ → ℕ) → Sound ps rank → (d p : ℕ) → rank p < d
+    → wordsAt d ps p ≡ wordsWith (wordsAt d ps) 0 (bodyIn ps p)
 unfolding wordsAt
-words-unfolds ps rank s = depth-unfolds ps rank s (λ g b. wordsWith g 0 b) (λ C f g e b w. words-agree C f g e 0 b w) (λ d p. wordsAt d ps p) (λ d p. refl)
+words-unfolds ps rank s = depth-unfolds ps rank s (λ g b. wordsWith g 0 b) (λ C f g e b w. words-agree C f g e 0 b w) (λ d p. wordsAt d ps p)
+    (λ d p. refl)
 
 -- Proposition 6.2, over a block
 pub words-lift : (g : ℕ → List ℕ) (m n : ℕ) (b : Block) → lift m (wordsWith g n b) ≡ wordsWith g (bitOr m n) b
@@ -154,7 +158,8 @@ module _ (ps : List Block) (rank : ℕ → ℕ) (s : Sound ps rank) where
   -- the same by members, as published: the pairs of a call made with the locks of cs held are those (⌊L⌋ ∪ X, ℓ) of the callee's pairs (X, ℓ) with
   -- L(ℓ) = 0
   pub call-pairs : (d p : ℕ) → rank p < d → (cs : List ℕ) → length cs ≡ 32 → (w : ℕ)
-      → List·Memᴰ w (pairsAt d ps p cs) ↔ ((v : ℕ) × Critical ps p v × T (freshIn (held cs) (wantOf v)) × (w ≡ wordOf (bitOr (held cs) (locksOf v)) (wantOf v)))
+      → List·Memᴰ w (pairsAt d ps p cs) ↔
+      ((v : ℕ) × Critical ps p v × T (freshIn (held cs) (wantOf v)) × (w ≡ wordOf (bitOr (held cs) (locksOf v)) (wantOf v)))
   call-pairs d p h cs e w = rw (pairs-lift d p h cs e) (
     λ m. let (v, i, free, is) = lift-mem (held cs) (pairs d ps p) w m in (v, pairs-critical ps rank s d p h v .0 i, free, is),
     λ q. rw (q .3) (mem-lift (held cs) (pairs d ps p) (q .0) (pairs-critical ps rank s d p h (q .0) .1 (q .1)) (q .2)),

@@ -1,5 +1,5 @@
--- The starred plans A to I of 01 as trees, in one table, and what 01 says of each: free of deadlocks, or a schedule and the threads that are stuck at its end; of B and C
--- the words of the pairs.
+-- The starred plans A to I of 01 as trees, in one table, and what 01 says of each: free of deadlocks, or a schedule and the threads that are stuck at
+-- its end; of B and C the words of the pairs.
 use Prim.Native.Nat.{ℕ, _<_}
 use mathlib.Core.List.{List, [], _∷_, List·Memᴰ}
 use mathlib.Core.Bool.{Bool}
@@ -23,6 +23,9 @@ pub record Case : Type 0 where
   pub words : List (List ℕ)
   pub answer : Answer
 
+abbrev pub caseOf : List Block → List ℕ → List (List ℕ) → Answer → Case
+caseOf ps ns words answer = record { plan = record { procs = ps; threads = ns }; words = words; answer = answer }
+
 abbrev pub oneSkip : Block
 oneSkip = skip done
 
@@ -35,39 +38,39 @@ nest l k = holdOnly l (holdOnly k oneSkip)
 
 -- 0[1] and 1[0]
 abbrev pub caseA : Case
-caseA = record { plan = record { procs = nest 0 1 ∷ nest 1 0 ∷ []; threads = 0 ∷ 1 ∷ [] }; words = []; answer = deadlock (0 ∷ 1 ∷ []) (0 ∷ 1 ∷ []) }
+caseA = caseOf (nest 0 1 ∷ nest 1 0 ∷ []) (0 ∷ 1 ∷ []) [] (deadlock (0 ∷ 1 ∷ []) (0 ∷ 1 ∷ []))
 
 -- 2[0[1]] and 2[1[0]]
 abbrev pub caseB : Case
-caseB = record { plan = record { procs = holdOnly 2 (nest 0 1) ∷ holdOnly 2 (nest 1 0) ∷ []; threads = 0 ∷ 1 ∷ [] }; words = (2 ∷ 128 ∷ 161 ∷ []) ∷ (2 ∷ 129 ∷ 192 ∷ []) ∷ []; answer = free }
+caseB = caseOf (holdOnly 2 (nest 0 1) ∷ holdOnly 2 (nest 1 0) ∷ []) (0 ∷ 1 ∷ []) ((2 ∷ 128 ∷ 161 ∷ []) ∷ (2 ∷ 129 ∷ 192 ∷ []) ∷ []) free
 
 -- 0[0], by two threads
 abbrev pub caseC : Case
-caseC = record { plan = record { procs = nest 0 0 ∷ []; threads = 0 ∷ 0 ∷ [] }; words = (0 ∷ []) ∷ []; answer = free }
+caseC = caseOf (nest 0 0 ∷ []) (0 ∷ 0 ∷ []) ((0 ∷ []) ∷ []) free
 
 -- 1[0], 2[1] and 0[2]
 abbrev pub caseD : Case
-caseD = record { plan = record { procs = nest 1 0 ∷ nest 2 1 ∷ nest 0 2 ∷ []; threads = 0 ∷ 1 ∷ 2 ∷ [] }; words = []; answer = deadlock (0 ∷ 1 ∷ 2 ∷ []) (0 ∷ 1 ∷ 2 ∷ []) }
+caseD = caseOf (nest 1 0 ∷ nest 2 1 ∷ nest 0 2 ∷ []) (0 ∷ 1 ∷ 2 ∷ []) [] (deadlock (0 ∷ 1 ∷ 2 ∷ []) (0 ∷ 1 ∷ 2 ∷ []))
 
 -- the first two of D
 abbrev pub caseE : Case
-caseE = record { plan = record { procs = nest 1 0 ∷ nest 2 1 ∷ []; threads = 0 ∷ 1 ∷ [] }; words = []; answer = free }
+caseE = caseOf (nest 1 0 ∷ nest 2 1 ∷ []) (0 ∷ 1 ∷ []) [] free
 
 -- 0[1] then 1[0], by one thread
 abbrev pub caseF : Case
-caseF = record { plan = record { procs = hold 0 (holdOnly 1 oneSkip) (nest 1 0) ∷ []; threads = 0 ∷ [] }; words = []; answer = free }
+caseF = caseOf (hold 0 (holdOnly 1 oneSkip) (nest 1 0) ∷ []) (0 ∷ []) [] free
 
 -- 0[1 2] and 1[0 2[0]]
 abbrev pub caseG : Case
-caseG = record { plan = record { procs = holdOnly 0 (hold 1 oneSkip (holdOnly 2 oneSkip)) ∷ holdOnly 1 (hold 0 oneSkip (nest 2 0)) ∷ []; threads = 0 ∷ 1 ∷ [] }; words = []; answer = deadlock (0 ∷ 1 ∷ []) (0 ∷ 1 ∷ []) }
+caseG = caseOf (holdOnly 0 (hold 1 oneSkip (holdOnly 2 oneSkip)) ∷ holdOnly 1 (hold 0 oneSkip (nest 2 0)) ∷ []) (0 ∷ 1 ∷ []) [] (deadlock (0 ∷ 1 ∷ []) (0 ∷ 1 ∷ []))
 
 -- an either of 0[1] or skip, and 1[0]
 abbrev pub caseH : Case
-caseH = record { plan = record { procs = either (nest 0 1) oneSkip done ∷ nest 1 0 ∷ []; threads = 0 ∷ 1 ∷ [] }; words = []; answer = deadlock (8 ∷ 0 ∷ 1 ∷ []) (0 ∷ 1 ∷ []) }
+caseH = caseOf (either (nest 0 1) oneSkip done ∷ nest 1 0 ∷ []) (0 ∷ 1 ∷ []) [] (deadlock (8 ∷ 0 ∷ 1 ∷ []) (0 ∷ 1 ∷ []))
 
 -- a loop over hold 0, by two threads
 abbrev pub caseI : Case
-caseI = record { plan = record { procs = loop (holdOnly 0 oneSkip) done ∷ []; threads = 0 ∷ 0 ∷ [] }; words = []; answer = free }
+caseI = caseOf (loop (holdOnly 0 oneSkip) done ∷ []) (0 ∷ 0 ∷ []) [] free
 
 abbrev pub cases : List Case
 cases = caseA ∷ caseB ∷ caseC ∷ caseD ∷ caseE ∷ caseF ∷ caseG ∷ caseH ∷ caseI ∷ []

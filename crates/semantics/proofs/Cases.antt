@@ -1,5 +1,5 @@
--- Every case of the table is as 01 says (`case-facts`). One test over the table is computed (`table-passes`), and what it implies holds of the runs and of the critical pairs
--- themselves.
+-- Every case of the table is as 01 says (`case-facts`). One test over the table is computed (`table-passes`), and what it implies holds of the runs
+-- and of the critical pairs themselves.
 use Prim.Native.Nat.{ℕ, zero, suc, _+_, _≤_, _<_}
 use mathlib.Core.List.{List, [], _∷_, map, List·Memᴰ, List·Memᴰ·not-nil, List·Memᴰ·cases-cons}
 use mathlib.Core.Bool.{Bool, true, false, not, _&&_}
@@ -131,7 +131,8 @@ filled-of e (either a b r) t =
     (filled-of false a x, filled-of false b y₁, filled-of true r y₂)
 filled-of e (end l r) t = t
 
-sound-from : (k : ℕ) (bs : List Block) → T (soundFrom k bs) → (p : ℕ) → Written (λ q. q < k + p) (bodyIn bs p) × (p < length bs → WellFormed false (bodyIn bs p))
+sound-from : (k : ℕ) (bs : List Block) → T (soundFrom k bs) → (p : ℕ)
+    → Written (λ q. q < k + p) (bodyIn bs p) × (p < length bs → WellFormed false (bodyIn bs p))
 unfolding soundFrom bodyIn Written
 sound-from k [] t p = (tt, λ h. absurd (omega arith))
 sound-from k (b ∷ bs) t zero =
@@ -199,7 +200,8 @@ module _ (plan : LockPlan) (ranked : Ranked plan (λ p. p)) where
   n = length (plan .threads)
 
   -- the stuck threads of a run that leads to ts are those of the list
-  stuck-are : (es us : List ℕ) → T (all (λ t. ltb t n) us) → T (stuckAre n ps us (run ps (start ps (plan .threads)) es)) → length es ≤ threadSizes plan → Schedule plan es (among us)
+  stuck-are : (es us : List ℕ) → T (all (λ t. ltb t n) us) → T (stuckAre n ps us (run ps (start ps (plan .threads)) es))
+      → length es ≤ threadSizes plan → Schedule plan es (among us)
   unfolding stuckAre
   stuck-are es us small h short = go (run ps (start ps (plan .threads)) es) refl h
     where
@@ -247,7 +249,8 @@ passes-facts c h =
       there = λ t b. ltb→lt (getD ns t 0) (length ps) (all-at (λ n. ltb n (length ps)) ns h₁ t b);
       few = leb→le (length ns) 8 h₂;
     } in
-    let listed : (p : ℕ) → p < length (c .words) → (p < length ps) × (pairList ps p ≡ getD (c .words) p []) = λ p b. rw zero-add at (words-from ps 0 (c .words) h₃ p b) in
+    let listed : (p : ℕ) → p < length (c .words)
+    → (p < length ps) × (pairList ps p ≡ getD (c .words) p []) = λ p b. rw zero-add at (words-from ps 0 (c .words) h₃ p b) in
     record {
       words = λ p b. sym (listed p b .1);
       critical = λ p b w. rw (← listed p b .1) (pair-list-critical ps (λ p. p) (ranked .sound) p (listed p b .0) w);

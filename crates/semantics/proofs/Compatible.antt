@@ -56,7 +56,8 @@ compatible-not-contended (c ∷ cs) (d ∷ ds) t (suc l) g h =
 
 pub compatible-sym : (cs ds : List ℕ) → T (compatible cs ds) → T (compatible ds cs)
 compatible-sym cs ds t =
-    ⊎-elim (λ r. r) (λ (r : (l : ℕ) × HasLock ds l × Excludes cs l). absurd (compatible-not-contended cs ds t (r .0) (r .2) (r .1))) (compatible-or-contended ds cs)
+    ⊎-elim (λ r. r) (λ (r : (l : ℕ) × HasLock ds l × Excludes cs l). absurd (compatible-not-contended cs ds t (r .0) (r .2) (r .1)))
+    (compatible-or-contended ds cs)
 
 -- a thread does not hold a lock from which another excludes it
 pub excluded-not-held : (cs ds : List ℕ) → T (compatible cs ds) → (l : ℕ) → Excludes ds l → getD cs l 0 ≡ 0
@@ -82,12 +83,14 @@ excludes-held cs l = (positive-digit cs l, digit-positive cs l)
 
 pub compatible-held : (cs ds : List ℕ) → CompatibleIn (held cs) (held ds) → T (compatible cs ds)
 compatible-held cs ds e = ⊎-elim (λ t. t)
-    (λ (r : (l : ℕ) × HasLock cs l × Excludes ds l). absurd (omega (arith, of-disjoint (held cs) (held ds) e (r .0) (positive-digit cs (r .0) (r .1)), positive-digit ds (r .0) (r .2))))
+    (λ (r : (l : ℕ) × HasLock cs l × Excludes ds l). absurd
+    (omega (arith, of-disjoint (held cs) (held ds) e (r .0) (positive-digit cs (r .0) (r .1)), positive-digit ds (r .0) (r .2))))
     (compatible-or-contended cs ds)
 
 pub held-compatible : (cs ds : List ℕ) → T (compatible cs ds) → CompatibleIn (held cs) (held ds)
 held-compatible cs ds t = disjoint (held cs) (held ds) (λ l. ⊎-elim (λ z. inl (free-digit cs l z))
-    (λ h. ⊎-elim (λ z. inr (free-digit ds l z)) (λ g. absurd (compatible-not-contended cs ds t l h g)) (eq-zero-or-pos (getD ds l 0))) (eq-zero-or-pos (getD cs l 0)))
+    (λ h. ⊎-elim (λ z. inr (free-digit ds l z)) (λ g. absurd (compatible-not-contended cs ds t l h g)) (eq-zero-or-pos (getD ds l 0)))
+    (eq-zero-or-pos (getD cs l 0)))
 
 pub fresh-held : (cs : List ℕ) (l : ℕ) → freshIn (held cs) l ≡ fresh cs l
 fresh-held cs l = same-test (freshIn (held cs) l) (fresh cs l)

@@ -54,7 +54,8 @@ module _ (ps : List Block) (bodies : (q : ℕ) → Plain (bodyIn ps q)) (ns : Li
         last = thread (hold ((c .pair i s) .lock) ((c .pair i s) .inside) ((c .pair i s) .after)) ((c .pair i s) .count);
         leads = critical-exec ps (getD ns i 0) (c .word i) (c .pair i s);
         short = omega (arith, own-length 0 ((c .pair i s) .steps), steps-len i s);
-        member = λ r. ap (λ q. thread (hold ((c .pair i q) .lock) ((c .pair i q) .inside) ((c .pair i q) .after)) ((c .pair i q) .count)) (T-prop (S i) s r);
+        member = λ r. ap (λ q. thread (hold ((c .pair i q) .lock) ((c .pair i q) .inside) ((c .pair i q) .after)) ((c .pair i q) .count))
+            (T-prop (S i) s r);
         other = λ f. absurd (f s);
       })
       (λ (f : T (S i) → ⊥). record
@@ -68,8 +69,13 @@ module _ (ps : List Block) (bodies : (q : ℕ) → Plain (bodyIn ps q)) (ns : Li
   s i a = stateAfter ps (initial ps (getD ns i 0)) (P i) a
 
   abbrev executions : Executions ps (length ns) P s
-  executions = record
-      { bodies = bodies; few = few; proc = λ i. getD ns i 0; runs = λ i _. execution ps (initial ps (getD ns i 0)) ((witness i) .last) (P i) ((witness i) .leads) }
+  executions = record {
+    bodies = bodies;
+    few = few;
+    proc = λ i. getD ns i 0;
+    runs = λ i _. execution ps (initial ps (getD ns i 0)) ((witness i) .last) (P i)
+        ((witness i) .leads);
+  }
 
   abbrev goal : ℕ → ℕ
   goal i = length (P i)
@@ -81,7 +87,8 @@ module _ (ps : List Block) (bodies : (q : ℕ) → Plain (bodyIn ps q)) (ns : Li
   at-last i b =
       nth-table (length ns) (λ i. s i (goal i)) i b ∙ exec-last ps (initial ps (getD ns i 0)) ((witness i) .last) (P i) ((witness i) .leads)
 
-  at-pair : (i : ℕ) (m : T (S i)) → nth there i ≡ thread (hold ((c .pair i m) .lock) ((c .pair i m) .inside) ((c .pair i m) .after)) ((c .pair i m) .count)
+  at-pair : (i : ℕ) (m : T (S i))
+      → nth there i ≡ thread (hold ((c .pair i m) .lock) ((c .pair i m) .inside) ((c .pair i m) .after)) ((c .pair i m) .count)
   at-pair i m = at-last i (c .present i m) ∙ (witness i) .member m
 
   there-balanced : BalancedAll there

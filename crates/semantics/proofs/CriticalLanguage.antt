@@ -51,7 +51,8 @@ completion ps C f (end l r) v = let (u, d) = completion ps C f r (v .1) in (rele
 completion-at : (ps : List Block) (rank : ℕ → ℕ) → Sound ps rank → (d p : ℕ) → rank p < d → (u : List Action) × InLanguage ps (bodyIn ps p) u
 completion-at ps rank s zero p h = absurd (omega arith)
 completion-at ps rank s (suc d) p h =
-    completion ps (λ q. rank q < d) (completion-at ps rank s d) (bodyIn ps p) (remainder-of-written _ (bodyIn ps p) (body-below ps rank s d p (omega arith)))
+    completion ps (λ q. rank q < d) (completion-at ps rank s d) (bodyIn ps p)
+    (remainder-of-written _ (bodyIn ps p) (body-below ps rank s d p (omega arith)))
 
 critical-language : (ps : List Block) (rank : ℕ → ℕ) → Sound ps rank → (p w : ℕ) → Critical ps p w → PublishedCritical ps p w
 unfolding Remainder

@@ -19,7 +19,8 @@ unfoldable pub exec : List Block → ThreadState → List ℕ → Option ThreadS
 exec ps x [] = some x
 exec ps x (c ∷ cs) = bind (move ps c (x .rest) (x .count)) (λ y. exec ps y cs)
 
-pub exec-append : (ps : List Block) (t m t′ : ThreadState) (cs ds : List ℕ) → exec ps t cs ≡ some m → exec ps m ds ≡ some t′ → exec ps t (cs ++ ds) ≡ some t′
+pub exec-append : (ps : List Block) (t m t′ : ThreadState) (cs ds : List ℕ) → exec ps t cs ≡ some m → exec ps m ds ≡ some t′
+    → exec ps t (cs ++ ds) ≡ some t′
 unfolding exec
 exec-append ps t m t′ [] ds g h = subst (λ x. exec ps x ds ≡ some t′) (sym (Option·some-injective t m g)) h
 exec-append ps t m t′ (c ∷ cs) ds g h =
@@ -27,7 +28,8 @@ exec-append ps t m t′ (c ∷ cs) ds g h =
     ap (λ o. bind o (λ y. exec ps y (cs ++ ds))) moveOrStay ∙ exec-append ps n m t′ cs ds rest h
 
 -- what each step keeps, an execution keeps
-pub exec-invariant : (ps : List Block) (P : ThreadState → Type 0) → ((c : ℕ) (t t′ : ThreadState) → Transition ps c (t .rest) (t .count) (t′ .rest) (t′ .count) → P t → P t′)
+pub exec-invariant : (ps : List Block) (P : ThreadState → Type 0)
+    → ((c : ℕ) (t t′ : ThreadState) → Transition ps c (t .rest) (t .count) (t′ .rest) (t′ .count) → P t → P t′)
     → (t : ThreadState) (cs : List ℕ) (t′ : ThreadState) → exec ps t cs ≡ some t′ → P t → P t′
 unfolding exec
 exec-invariant ps P k t [] t′ h p = subst P (Option·some-injective t t′ h) p

@@ -1,4 +1,5 @@
--- Which holds a remainder will end, and how it goes on after each (`WillEnd`). A step leaves these holds as they are, but that it begins one or ends one.
+-- Which holds a remainder will end, and how it goes on after each (`WillEnd`). A step leaves these holds as they are, but that it begins one or ends
+-- one.
 use Prim.Native.Nat.{ℕ, _<_}
 use mathlib.Core.List.{List}
 use mathlib.Core.Logic.{_⊎_, inl, inr, ⊎-elim}
@@ -60,7 +61,8 @@ plain-ends-nothing l r a w e = will-end-⨾ l r a done w (rw ⨾-done e)
 
 module _ (ps : List Block) (bodies : (p : ℕ) → Plain (bodyIn ps p)) where
   -- a hold that will end had begun before the step, or begins with it
-  pub will-end-before : {c : ℕ} {b b′ : Block} {cs cs′ : List ℕ} {l : ℕ} {r : Block} → Transition ps c b cs b′ cs′ → Remainder AnyCall b → WillEnd l r b′
+  pub will-end-before : {c : ℕ} {b b′ : Block} {cs cs′ : List ℕ} {l : ℕ} {r : Block} → Transition ps c b cs b′ cs′ → Remainder AnyCall b
+      → WillEnd l r b′
       → WillEnd l r b ⊎ ((x : Block) × (b ≡ hold l x r))
   unfolding Remainder WillEnd
   will-end-before {l = m} {r = s} skips k e = inl e

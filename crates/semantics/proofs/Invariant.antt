@@ -49,7 +49,8 @@ start-at ps (n ∷ ns) (suc t) h = start-at ps ns t (le-of-suc-le-suc h)
 module _ (ps : List Block) (bodies : (p : ℕ) → Plain (bodyIn ps p)) where
   pub start-invariant : (ns : List ℕ) → Invariant (start ps ns)
   start-invariant ns = record {
-    balanced = λ t b. let p = start-at ps ns t (subst (λ n. t < n) (start-length ps ns) b) in rw p (balanced-plain (bodyIn ps (getD ns t 0)) (bodies (getD ns t 0)));
+    balanced = λ t b. let p = start-at ps ns t (subst (λ n. t < n) (start-length ps ns) b) in rw p
+        (balanced-plain (bodyIn ps (getD ns t 0)) (bodies (getD ns t 0)));
     all-apart = apart← everyone (start ps ns) (λ i j _ _ _. ⊎-elim (λ k. k)
         (λ (q : (l : ℕ) × HasLock (counts (start ps ns) i) l × Excludes (counts (start ps ns) j) l).
         let b = subst (λ n. j < n) (start-length ps ns) (excludes-present (start ps ns) j (q .0) (q .2)) in
@@ -59,7 +60,8 @@ module _ (ps : List Block) (bodies : (p : ℕ) → Plain (bodyIn ps p)) where
 
   -- ---- one step, and a run
 
-  pub balanced-set : (ts : List ThreadState) (k : ℕ) (y : ThreadState) → BalancedAll ts → k < length ts → Balanced (y .rest) (y .count) → BalancedAll (set ts k y)
+  pub balanced-set : (ts : List ThreadState) (k : ℕ) (y : ThreadState) → BalancedAll ts → k < length ts → Balanced (y .rest) (y .count)
+      → BalancedAll (set ts k y)
   balanced-set ts k y a b h t c =
       ⊎-elim (λ (e : t ≡ k). rw (e, getD-set-same ts k y absentThread b) h)
       (λ (e : t ≢ k). rw (getD-set-other ts k t y absentThread e) (a t (subst (λ n. t < n) (length-set ts k y) c)))
@@ -69,7 +71,8 @@ module _ (ps : List Block) (bodies : (p : ℕ) → Plain (bodyIn ps p)) where
   unfolding step
   step-invariant ts ts′ e h m =
       let p = step-inv everyone ps ts (e % 8) (e / 8) ts′ h in
-      let k = balanced-step ps bodies (move-transition ps (e / 8) ((nth ts (e % 8)) .rest) ((nth ts (e % 8)) .count) (p .0) (p .2)) (m .balanced (e % 8) (p .1)) in
+      let k = balanced-step ps bodies (move-transition ps (e / 8) ((nth ts (e % 8)) .rest) ((nth ts (e % 8)) .count) (p .0) (p .2))
+      (m .balanced (e % 8) (p .1)) in
       rw (p .4) (record { balanced = balanced-set ts (e % 8) (p .0) (m .balanced) (p .1) k; all-apart = p .3 })
 
   pub run-invariant : (ts ts′ : List ThreadState) (es : List ℕ) → run ps ts es ≡ some ts′ → Invariant ts → Invariant ts′
@@ -94,7 +97,8 @@ pub record Kept (ps : List Block) (ts : List ThreadState) : Type 0 where
   pub exclusive : (t u l : ℕ) → t ≢ u → HasLock (counts ts t) l → Excludes (counts ts u) l → ⊥
   pub refused : (t c : ℕ) (y : ThreadState) → t < length ts → moveOf ps ts t c ≡ some y → stepIn everyone ps ts t c ≡ none → Blocked everyone ts t
 
-pub run-keeps : (ps : List Block) → ((p : ℕ) → Plain (bodyIn ps p)) → (ns es : List ℕ) (ts : List ThreadState) → run ps (start ps ns) es ≡ some ts → Kept ps ts
+pub run-keeps : (ps : List Block) → ((p : ℕ) → Plain (bodyIn ps p)) → (ns es : List ℕ) (ts : List ThreadState) → run ps (start ps ns) es ≡ some ts
+    → Kept ps ts
 run-keeps ps bodies ns es ts h =
     let m = run-invariant ps bodies (start ps ns) ts es h (start-invariant ps bodies ns) in
     let a = apart→ everyone ts (m .all-apart) in

@@ -47,7 +47,8 @@ module _ {ps : List Block} {n : ℕ} {P : ℕ → List ℕ} {s : ℕ → ℕ →
   joint-absent j i b = List·getD-eq-default (joint n s j) absentThread (omega (arith, length-table n (λ i. s i (j i))))
 
   pub state-balanced : (i a : ℕ) → i < n → a ≤ length (P i) → Balanced ((s i a) .rest) ((s i a) .count)
-  state-balanced i a b c = balanced-at (x .bodies) (x .bodies (x .proc i)) (balanced-plain (bodyIn ps (x .proc i)) (x .bodies (x .proc i))) (x .runs i b) a c
+  state-balanced i a b c = balanced-at (x .bodies) (x .bodies (x .proc i)) (balanced-plain (bodyIn ps (x .proc i)) (x .bodies (x .proc i)))
+      (x .runs i b) a c
 
   pub joint-balanced : (j : ℕ → ℕ) → ((i : ℕ) → i < n → j i ≤ length (P i)) → BalancedAll (joint n s j)
   joint-balanced j w i b = let c = of-joint j i b in rw (joint-at j i c) (state-balanced i (j i) c (w i c))

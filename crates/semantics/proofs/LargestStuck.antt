@@ -77,7 +77,8 @@ at-hold (hold l x r) h = (l, x, r, refl)
 first-in : (ts : List ThreadState) (t : ℕ) → T (beginsHold ts t) → t < length ts
 unfolding atHold
 first-in ts t h =
-    ⊎-elim (λ b. b) (λ (b : length ts ≤ t). absurd (subst (λ x. T (atHold (x .rest))) (List·getD-eq-default ts absentThread b) h)) (lt-or-le t (length ts))
+    ⊎-elim (λ b. b) (λ (b : length ts ≤ t). absurd (subst (λ x. T (atHold (x .rest))) (List·getD-eq-default ts absentThread b) h))
+    (lt-or-le t (length ts))
 
 blocked-begins : (S : ℕ → Bool) (ts : List ThreadState) (t : ℕ) → Blocked S ts t → T (beginsHold ts t)
 unfolding atHold
@@ -165,10 +166,12 @@ module _ (ps : List Block) (bodies : (p : ℕ) → Plain (bodyIn ps p)) (ts : Li
       ⊎-elim
       (λ (q : (t : ℕ) × (t < length ts) × T (S t && not (round ps ts S t))).
       let p = T-and (S (q .0)) (not (round ps ts S (q .0))) (q .2) in
-      inr (total-lt (length ts) (λ t. cond (round ps ts S t) 1 0) (λ t. cond (S t) 1 0) (λ t _. test-le (round ps ts S t) (S t) (round-in S t)) (q .0) (q .1)
+      inr (total-lt (length ts) (λ t. cond (round ps ts S t) 1 0) (λ t. cond (S t) 1 0) (λ t _. test-le (round ps ts S t) (S t) (round-in S t)) (q .0)
+      (q .1)
       (test-lt (round ps ts S (q .0)) (S (q .0)) (p .1) (p .0))))
       (λ (f : (t : ℕ) → t < length ts → T (S t && not (round ps ts S t)) → ⊥).
-      inl (λ t s. ⊎-elim (λ r. r) (λ (n : T (round ps ts S t) → ⊥). absurd (f t (b t s) (and-T (S t) (not (round ps ts S t)) s (not-T (round ps ts S t) n)))) (T-dec (round ps ts S t))))
+      inl (λ t s. ⊎-elim (λ r. r) (λ (n : T (round ps ts S t) → ⊥). absurd
+      (f t (b t s) (and-T (S t) (not (round ps ts S t)) s (not-T (round ps ts S t) n)))) (T-dec (round ps ts S t))))
       (search-below (length ts) (λ t. S t && not (round ps ts S t)))
 
   pub rounds-in : (k t : ℕ) → T (rounds k ps ts t) → t < length ts

@@ -48,7 +48,8 @@ module _ {ps : List Block} {x : ThreadState} {cs : List ℕ} {s : ℕ → Thread
         ⊎-elim
         (λ (d : h ≡ i).
         let f : (s i) .rest ≡ hold l x q = subst (λ m. (s m) .rest ≡ hold l x q) d e in
-        let m : Transition ps (getD cs i 0) (hold l x q) ((s i) .count) ((s (suc i)) .rest) ((s (suc i)) .count) = rw f at (step-at bodies plain kept a i (omega arith)) in
+        let m : Transition ps (getD cs i 0) (hold l x q) ((s i) .count) ((s (suc i)) .rest)
+        ((s (suc i)) .count) = rw f at (step-at bodies plain kept a i (omega arith)) in
         begin-will-end ps bodies m)
         (λ (d : h < i).
         ⊎-elim (λ (f : WillEnd l q ((s (suc i)) .rest)). f)
@@ -62,10 +63,12 @@ module _ {ps : List Block} {x : ThreadState} {cs : List ℕ} {s : ℕ → Thread
     pub matching-hold-scan : (x : Block) × ((s h) .rest ≡ hold l x r) × ((s h) .count ≡ (s (suc j)) .count)
     unfolding WillEnd endCount
     matching-hold-scan =
-        let u = positive-by-begin ps bodies (step-at bodies plain kept a h (omega arith)) (balanced-at bodies plain kept a h (omega arith)) l without (between (suc h) (omega arith) before) in
+        let u = positive-by-begin ps bodies (step-at bodies plain kept a h (omega arith)) (balanced-at bodies plain kept a h (omega arith)) l without
+        (between (suc h) (omega arith) before) in
         let f : WillEnd l (u .1) (end l r) = rw ended at (lasts (u .0) (u .1) (u .2) j before (omega arith)) in
         let k : Balanced r ((s (suc j)) .count) = rw on at (balanced-at bodies plain kept a (suc j) b) in
         let same : r ≡ u .1 =
-        ⊎-elim (λ (e : (l ≡ l) × (r ≡ u .1)). e .1) (λ (e : WillEnd l (u .1) r). absurd (omega (arith, will-end-positive l (u .1) r e, k .counts l, freed))) f in
+        ⊎-elim (λ (e : (l ≡ l) × (r ≡ u .1)). e .1)
+        (λ (e : WillEnd l (u .1) r). absurd (omega (arith, will-end-positive l (u .1) r e, k .counts l, freed))) f in
         let g : (s h) .rest ≡ hold l (u .0) r = u .2 ∙ ap (hold l (u .0)) (sym same) in
         (u .0, g, balanced-unique (balanced-hold (subst (λ y. Balanced y ((s h) .count)) g (balanced-at bodies plain kept a h (omega arith)))) k)

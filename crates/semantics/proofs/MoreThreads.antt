@@ -42,7 +42,8 @@ at-mem (n ∷ ns) zero h = List·Memᴰ·head refl
 at-mem (n ∷ ns) (suc t) h = List·Memᴰ·tail (at-mem ns t (le-of-suc-le-suc h))
 
 -- a gateway that is free of deadlocks with a thread of procedure p more is so without it (source 000, after Definition 2.2)
-pub deadlock-free-fewer : (ps : List Block) (rank : ℕ → ℕ) → Sound ps rank → (ms : List ℕ) (p : ℕ) (ns : List ℕ) (d : ℕ) → ((q : ℕ) → List·Memᴰ q (ms ++ p ∷ ns) → rank q < d)
+pub deadlock-free-fewer : (ps : List Block) (rank : ℕ → ℕ) → Sound ps rank → (ms : List ℕ) (p : ℕ) (ns : List ℕ) (d : ℕ)
+    → ((q : ℕ) → List·Memᴰ q (ms ++ p ∷ ns) → rank q < d)
     → length (ms ++ p ∷ ns) ≤ 8 → DeadlockFree ps (ms ++ p ∷ ns) → DeadlockFree ps (ms ++ ns)
 deadlock-free-fewer ps rank s ms p ns d deep few free =
     let fewer : length (ms ++ ns) ≤ 8 = rw length-append (omega (arith, rw length-append at few)) in
@@ -50,5 +51,6 @@ deadlock-free-fewer ps rank s ms p ns d deep few free =
     λ q m. ⊎-elim (λ i. Memᴰ·append-left (p ∷ ns) i) (λ i. Memᴰ·append-right ms (List·Memᴰ·tail i)) (List·Memᴰ·append-cases ms m) in
     characterisation ps rank s (ms ++ ns) fewer d (λ t b. deep (getD (ms ++ ns) t 0) (less (getD (ms ++ ns) t 0) (at-mem (ms ++ ns) t b))) .free .0
     (λ h. characterisation ps rank s (ms ++ p ∷ ns) few d (λ t b. deep (getD (ms ++ p ∷ ns) t 0) (at-mem (ms ++ p ∷ ns) t b)) .free .1 free
-    (rw (map-append (pairs d ps) ms (p ∷ ns)) (search-insert compatibleSets excludesSet (map (pairs d ps) ms) (pairs d ps p) (map (pairs d ps) ns) 0 [] false
+    (rw (map-append (pairs d ps) ms (p ∷ ns))
+    (search-insert compatibleSets excludesSet (map (pairs d ps) ms) (pairs d ps p) (map (pairs d ps) ns) 0 [] false
     (rw (map-append (pairs d ps) ms ns) at h))))

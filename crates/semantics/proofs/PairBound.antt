@@ -41,7 +41,8 @@ pairs-le-holds f h e cs (call p r) = simp length-append (omega (arith, e p cs, p
 pairs-le-holds f h e cs (hold l b r) =
     simp length-append (omega (arith, one (wordOf (held cs) l) (fresh cs l), pairs-le-holds f h e (up l cs) b, pairs-le-holds f h e cs r))
 pairs-le-holds f h e cs (loop b r) = simp length-append (omega (arith, pairs-le-holds f h e cs b, pairs-le-holds f h e cs r))
-pairs-le-holds f h e cs (either a b r) = simp length-append (omega (arith, pairs-le-holds f h e cs a, pairs-le-holds f h e cs b, pairs-le-holds f h e cs r))
+pairs-le-holds f h e cs (either a b r) = simp length-append
+    (omega (arith, pairs-le-holds f h e cs a, pairs-le-holds f h e cs b, pairs-le-holds f h e cs r))
 pairs-le-holds f h e cs (end l r) = pairs-le-holds f h e (down l cs) r
 
 pub pairs-le-holds-at : (d : ℕ) (ps : List Block) (p : ℕ) (cs : List ℕ) → length (pairsAt d ps p cs) ≤ holdsAt d ps p
@@ -66,7 +67,14 @@ holds-size h s k e (skip r) w = omega (arith, least-le e, holds-size h s k true 
 holds-size h s k e (call p r) w = omega (arith, least-le e, k p, holds-size h s k true r w)
 holds-size h s k e (hold l b r) w = omega (arith, least-le e, holds-size h s k false b (w .0), holds-size h s k true r (w .1))
 holds-size h s k e (loop b r) w = omega (arith, least-le e, holds-size h s k false b (w .0), holds-size h s k true r (w .1))
-holds-size h s k e (either a b r) w = omega (arith, least-le e, holds-size h s k false a (w .0), holds-size h s k false b (w .1), holds-size h s k true r (w .2))
+holds-size h s k e (either a b r) w = omega (
+  arith,
+  least-le e,
+  holds-size h s k false a (w .0),
+  holds-size h s k false b
+      (w .1),
+  holds-size h s k true r (w .2),
+)
 holds-size h s k e (end l r) f = absurd f
 
 module _ (ps : List Block) (rank : ℕ → ℕ) (s : Sound ps rank) where
@@ -81,7 +89,12 @@ module _ (ps : List Block) (rank : ℕ → ℕ) (s : Sound ps rank) where
   pub pairs-bound : (d p : ℕ) → p < length ps → 0 < d → 2 * length (pairs d ps p) < sizeAt d ps p
   unfolding holdsAt sizeAt
   pairs-bound zero p b z = absurd (omega arith)
-  pairs-bound (suc d) p b z = omega (arith, pairs-le-holds-at (suc d) ps p unlocked, holds-size (holdsAt d ps) (sizeAt d ps) (holds-size-at d) false (bodyIn ps p) (s .filled p b))
+  pairs-bound (suc d) p b z = omega (
+    arith,
+    pairs-le-holds-at (suc d) ps p unlocked,
+    holds-size (holdsAt d ps) (sizeAt d ps) (holds-size-at d) false
+        (bodyIn ps p) (s .filled p b),
+  )
 
   -- 2 × pairs + 1 ≤ size
   pub pair-list-bound : (p : ℕ) → p < length ps → 2 * length (pairList ps p) + 1 ≤ sizeOf ps p

@@ -26,7 +26,8 @@ projection t [] = []
 projection t (e ∷ es) = cond (eqb (e % 8) t) (e / 8 ∷ projection t es) (projection t es)
 
 -- each thread's own steps are an execution of it alone
-pub projection-execution : (ps : List Block) (ts ts′ : List ThreadState) (es : List ℕ) → run ps ts es ≡ some ts′ → (t : ℕ) → exec ps (nth ts t) (projection t es) ≡ some (nth ts′ t)
+pub projection-execution : (ps : List Block) (ts ts′ : List ThreadState) (es : List ℕ) → run ps ts es ≡ some ts′ → (t : ℕ)
+    → exec ps (nth ts t) (projection t es) ≡ some (nth ts′ t)
 unfolding run step exec projection
 projection-execution ps ts ts′ [] h t = ap {B = Option ThreadState} (λ us. some (nth us t)) (Option·some-injective ts ts′ h)
 projection-execution ps ts ts′ (e ∷ es) h t =
@@ -67,9 +68,11 @@ execution-run ps x y (c ∷ cs) h =
 pub critical-exec : (ps : List Block) (p w : ℕ) (c : Critical ps p w)
     → exec ps (initial ps p) (projection 0 (c .steps)) ≡ some (thread (hold (c .lock) (c .inside) (c .after)) (c .count))
 unfolding start
-critical-exec ps p w c = projection-execution ps (start ps (p ∷ [])) (thread (hold (c .lock) (c .inside) (c .after)) (c .count) ∷ []) (c .steps) (c .reached) 0
+critical-exec ps p w c = projection-execution ps (start ps (p ∷ [])) (thread (hold (c .lock) (c .inside) (c .after)) (c .count) ∷ []) (c .steps)
+    (c .reached) 0
 
-unfoldable pub exec-critical : (ps : List Block) (p w : ℕ) (cs : List ℕ) (l : ℕ) (b r : Block) (count : List ℕ) → exec ps (initial ps p) cs ≡ some (thread (hold l b r) count)
+unfoldable pub exec-critical : (ps : List Block) (p w : ℕ) (cs : List ℕ) (l : ℕ) (b r : Block) (count : List ℕ)
+    → exec ps (initial ps p) cs ≡ some (thread (hold l b r) count)
     → T (fresh count l) → w ≡ wordOf (held count) l → Critical ps p w
 unfolding start
 exec-critical ps p w cs l b r count h z e =

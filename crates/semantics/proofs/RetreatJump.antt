@@ -48,7 +48,8 @@ module _ {ps : List Block} {n : ℕ} {P : ℕ → List ℕ} {s : ℕ → ℕ →
   pub matching-begin : (j : ℕ → ℕ) (k : ℕ) → k < n → 0 < j k → j k ≤ length (P k) → Refusal n s j k → (h : ℕ) × MatchingBegin (s k) (j k) h
   matching-begin j k b o w r =
       let e : suc (j k - 1) ≡ j k = omega arith in
-      let q = matching-hold (x .bodies) (x .bodies (x .proc k)) (balanced-plain (bodyIn ps (x .proc k)) (x .bodies (x .proc k))) (x .runs k b) (r .lock) (r .following) (j k - 1) (omega arith)
+      let q = matching-hold (x .bodies) (x .bodies (x .proc k)) (balanced-plain (bodyIn ps (x .proc k)) (x .bodies (x .proc k))) (x .runs k b)
+      (r .lock) (r .following) (j k - 1) (omega arith)
       (r .ended) (ap (λ a. (s k a) .rest) e ∙ r .left) in (
         q .0,
         record {
@@ -93,7 +94,8 @@ module _ {ps : List Block} {n : ℕ} {P : ℕ → List ℕ} {s : ℕ → ℕ →
           other = r .other;
           differs = r .differs;
           member = is-started n j (r .other) (r .there) (r .began);
-          theirs = rw (same-counts (r .other), joint-counts x j (r .other) (r .there)) (subst (Excludes ((s (r .other) (j (r .other))) .count)) one-lock (r .theirs));
+          theirs = rw (same-counts (r .other), joint-counts x j (r .other) (r .there))
+              (subst (Excludes ((s (r .other) (j (r .other))) .count)) one-lock (r .theirs));
         }
 
     jump-within : (i : ℕ) → i < n → h i ≤ length (P i)
@@ -101,7 +103,8 @@ module _ {ps : List Block} {n : ℕ} {P : ℕ → List ℕ} {s : ℕ → ℕ →
 
     pub jump-stuck : (k : ℕ) → k < n → 0 < j k → Stuck ps (joint n s h) (started n j)
     jump-stuck k b o =
-        blocked-stuck ps (x .bodies) (started n j) (joint n s h) (joint-balanced x h jump-within) (λ t m. in-joint x h t ((started-inv n j t m) .0)) jump-blocked k (is-started n j k b o)
+        blocked-stuck ps (x .bodies) (started n j) (joint n s h) (joint-balanced x h jump-within)
+        (λ t m. in-joint x h t ((started-inv n j t m) .0)) jump-blocked k (is-started n j k b o)
 
     pub jump-total : (k : ℕ) → k < n → 0 < j k → total n h < total n j
     jump-total k b o = total-lt n h j jump-le k b ((back k b o) .earlier)

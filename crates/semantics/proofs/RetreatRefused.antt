@@ -44,10 +44,13 @@ module _ {ps : List Block} {n : ℕ} {P : ℕ → List ℕ} {s : ℕ → ℕ →
       let apart : T (compatible ((s k (j k)) .count) ((s (r .other) (j (r .other))) .count)) =
       rw (joint-counts x j k b, joint-counts x j (r .other) there) at (apart→ everyone (joint n s j) a k (r .other) (λ e. r .differs (sym e)) tt tt) in
       let z = excluded-not-held ((s k (j k)) .count) ((s (r .other) (j (r .other))) .count) apart l theirs in
-      let m = zero-by-end ps (x .bodies) (move-transition ps (getD (P k) (j k - 1) 0) ((s k (j k - 1)) .rest) ((s k (j k - 1)) .count) (s k (j k)) (last-step x j k b o (w k b)))
+      let m = zero-by-end ps (x .bodies)
+      (move-transition ps (getD (P k) (j k - 1) 0) ((s k (j k - 1)) .rest) ((s k (j k - 1)) .count) (s k (j k)) (last-step x j k b o (w k b)))
       (state-balanced x k (j k - 1) b (omega (arith, w k b))) l (q .1) z in
       let began : 0 < j (r .other) =
-      ⊎-elim (λ (e : j (r .other) ≡ 0). absurd (start-excludes-none x (r .other) l there (subst (λ a. Excludes ((s (r .other) a) .count) l) e theirs))) (λ h. h) (eq-zero-or-pos (j (r .other))) in
+      ⊎-elim (λ (e : j (r .other) ≡ 0). absurd
+      (start-excludes-none x (r .other) l there (subst (λ a. Excludes ((s (r .other) a) .count) l) e theirs))) (λ h. h)
+      (eq-zero-or-pos (j (r .other))) in
       record { lock = l; following = m .0; other = r .other; ended = m .1; left = m .2; held-before = q .1; freed = z; differs = r .differs; there = there; began = began; theirs = theirs })
       (compatible-or-contended ((s k (j k - 1)) .count) (counts (joint n s j) (r .other))))
       (apart-or-clash everyone (joint n s j) k (s k (j k - 1)) (in-joint x j k b) (apart→ everyone (joint n s j) a))

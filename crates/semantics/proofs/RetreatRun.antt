@@ -57,7 +57,8 @@ module _ {ps : List Block} {n : ℕ} {P : ℕ → List ℕ} {s : ℕ → ℕ →
 
   -- the next moment to go back to, unless no thread has taken a step
   pub retreat-next : (bound : ℕ) (j : ℕ → ℕ) (es : List ℕ) (ts : List ThreadState) → Retreat ps n P s bound j es ts
-      → ((k : ℕ) → k < n → j k ≡ 0) ⊎ ((j′ : ℕ → ℕ) × (es′ : List ℕ) × (ts′ : List ThreadState) × (total n j′ < total n j) × Retreat ps n P s bound j′ es′ ts′)
+      → ((k : ℕ) → k < n → j k ≡ 0) ⊎
+      ((j′ : ℕ → ℕ) × (es′ : List ℕ) × (ts′ : List ThreadState) × (total n j′ < total n j) × Retreat ps n P s bound j′ es′ ts′)
   retreat-next bound j es ts r =
       ⊎-elim
       (λ (q : (k : ℕ) × (k < n) × T (test j k)).
@@ -74,7 +75,8 @@ module _ {ps : List Block} {n : ℕ} {P : ℕ → List ℕ} {s : ℕ → ℕ →
       ))
       (λ (u : (k : ℕ) → k < n → T (test j k) → ⊥).
       let refused : (k : ℕ) → k < n → 0 < j k → Refusal n s j k =
-      λ k b o. retreat-refused x j k (r .within) (r .all-apart) b o (λ a. u k b (and-T (ltb 0 (j k)) (apart everyone (earlier n s j k)) (lt→ltb 0 (j k) o) a)) in
+      λ k b o. retreat-refused x j k (r .within) (r .all-apart) b o
+      (λ a. u k b (and-T (ltb 0 (j k)) (apart everyone (earlier n s j k)) (lt→ltb 0 (j k) o) a)) in
       let g = places j (r .within) refused in
       let h : ℕ → ℕ = λ i. (g i) .0 in
       let back : (k : ℕ) → k < n → 0 < j k → MatchingBegin (s k) (j k) (h k) = λ k b o. (g k) .1 b o in
@@ -107,4 +109,5 @@ module _ {ps : List Block} {n : ℕ} {P : ℕ → List ℕ} {s : ℕ → ℕ →
   retreat-run zero bound j es ts f r =
       ⊎-elim (retreat-at-start bound j es ts r) (λ q. absurd (omega (arith, q .3))) (retreat-next bound j es ts r)
   retreat-run (suc fuel) bound j es ts f r =
-      ⊎-elim (retreat-at-start bound j es ts r) (λ q. retreat-run fuel bound (q .0) (q .1) (q .2) (omega (arith, q .3)) (q .4)) (retreat-next bound j es ts r)
+      ⊎-elim (retreat-at-start bound j es ts r) (λ q. retreat-run fuel bound (q .0) (q .1) (q .2) (omega (arith, q .3)) (q .4))
+      (retreat-next bound j es ts r)

@@ -35,7 +35,8 @@ pub record Retreat (ps : List Block) (n : ℕ) (P : ℕ → List ℕ) (s : ℕ �
 module _ {ps : List Block} {n : ℕ} {P : ℕ → List ℕ} {s : ℕ → ℕ → ThreadState} (x : Executions ps n P s) where
   lowered-joint : (k : ℕ) (j j′ : ℕ → ℕ) → k < n → Lowered k j j′ → earlier n s j k ≡ joint n s j′
   lowered-joint k j j′ b l =
-      ap (λ a. set (joint n s j) k (s k a)) (omega (arith, l .one-less)) ∙ set-table n (λ i. s i (j i)) (λ i. s i (j′ i)) k b (λ i d. ap (s i) (sym (l .others i d)))
+      ap (λ a. set (joint n s j) k (s k a)) (omega (arith, l .one-less))
+      ∙ set-table n (λ i. s i (j i)) (λ i. s i (j′ i)) k b (λ i d. ap (s i) (sym (l .others i d)))
 
   raised-joint : (k : ℕ) (j j′ : ℕ → ℕ) → k < n → Lowered k j j′ → set (joint n s j′) k (s k (j k)) ≡ joint n s j
   raised-joint k j j′ b l = set-table n (λ i. s i (j′ i)) (λ i. s i (j i)) k b (λ i d. ap (s i) (l .others i d))

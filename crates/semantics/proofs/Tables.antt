@@ -37,7 +37,8 @@ pub set-table : (n : ℕ) (f g : ℕ → ThreadState) (k : ℕ) → k < n → ((
 set-table n f g k b h =
     is-table n g (set (table n f) k (g k)) (length-set (table n f) k (g k) ∙ length-table n f)
     (λ i c. ⊎-elim
-    (λ (e : i ≡ k). ap (nth (set (table n f) k (g k))) e ∙ getD-set-same (table n f) k (g k) absentThread (subst (λ m. k < m) (sym (length-table n f)) b) ∙ ap g (sym e))
+    (λ (e : i ≡ k). ap (nth (set (table n f) k (g k))) e
+    ∙ getD-set-same (table n f) k (g k) absentThread (subst (λ m. k < m) (sym (length-table n f)) b) ∙ ap g (sym e))
     (λ (d : i ≢ k). getD-set-other (table n f) k i (g k) absentThread d ∙ nth-table n f i c ∙ h i d)
     (eq-or-ne i k))
 

@@ -26,7 +26,8 @@ stepTrace (end l r) = release l ∷ []
 -- u is the trace of the execution from t to t′ by the choices es
 unfoldable pub Traces : List Block → ThreadState → List ℕ → List Action → ThreadState → Type 0
 Traces ps t [] u t′ = (u ≡ []) × (t ≡ t′)
-Traces ps t (c ∷ es) u t′ = (m : ThreadState) × (v : List Action) × (move ps c (t .rest) (t .count) ≡ some m) × (u ≡ stepTrace (t .rest) ++ v) × Traces ps m es v t′
+Traces ps t (c ∷ es) u t′ = (m : ThreadState) × (v : List Action) × (move ps c (t .rest) (t .count) ≡ some m) ×
+    (u ≡ stepTrace (t .rest) ++ v) × Traces ps m es v t′
 
 pub record TracedExecution (ps : List Block) (t : ThreadState) (u : List Action) (t′ : ThreadState) : Type 0 where
   pub steps : List ℕ
@@ -42,18 +43,21 @@ traced-by : {ps : List Block} {t m t′ : ThreadState} {v : List Action} (c : �
 unfolding Traces
 traced-by {m} {v} c e s = record { steps = c ∷ s .steps; traces = (m, v, e, refl, s .traces) }
 
-traces-then : (ps : List Block) (t m t′ : ThreadState) (es : List ℕ) (u v : List Action) → Traces ps t es u m → TracedExecution ps m v t′ → TracedExecution ps t (u ++ v) t′
+traces-then : (ps : List Block) (t m t′ : ThreadState) (es : List ℕ) (u v : List Action) → Traces ps t es u m → TracedExecution ps m v t′
+    → TracedExecution ps t (u ++ v) t′
 unfolding Traces
 traces-then ps t m t′ [] u v s q = rw (s .0, s .1) q
 traces-then ps t m t′ (c ∷ es) u v s q =
     let (n, x, e, is, rest) = s in
     rw (is, append-assoc) (traced-by c e (traces-then ps n m t′ es x v rest q))
 
-traced-then : {ps : List Block} {t m t′ : ThreadState} {u v : List Action} → TracedExecution ps t u m → TracedExecution ps m v t′ → TracedExecution ps t (u ++ v) t′
+traced-then : {ps : List Block} {t m t′ : ThreadState} {u v : List Action} → TracedExecution ps t u m → TracedExecution ps m v t′
+    → TracedExecution ps t (u ++ v) t′
 traced-then {ps} {t} {m} {t′} {u} {v} s q = traces-then ps t m t′ (s .steps) u v (s .traces) q
 
 -- a word of the block is the trace of an execution through it (Lemma 3.14)
-pub word-traced : {ps : List Block} {b : Block} {u : List Action} → InLanguage ps b u → (r : Block) (cs : List ℕ) → (cs′ : List ℕ) × TracedExecution ps (thread (b ⨾ r) cs) u (thread r cs′)
+pub word-traced : {ps : List Block} {b : Block} {u : List Action} → InLanguage ps b u → (r : Block) (cs : List ℕ)
+    → (cs′ : List ℕ) × TracedExecution ps (thread (b ⨾ r) cs) u (thread r cs′)
 unfolding _⨾_ stepTrace move
 word-traced in-done r cs = (cs, traced-none)
 word-traced (in-skip d) r cs = let (cs′, s) = word-traced d r cs in (cs′, traced-by 0 refl s)
@@ -81,7 +85,8 @@ word-traced (in-two {r = r′} d e) r cs =
 word-traced (in-end {l = l} d) r cs = let (cs′, s) = word-traced d r (down l cs) in (cs′, traced-by 0 refl s)
 
 -- the counts follow from the trace (Lemma 3.7)
-step-count : (ps : List Block) {c : ℕ} {b b′ : Block} {cs cs′ : List ℕ} → Transition ps c b cs b′ cs′ → (v : List Action) → countsAfter cs (stepTrace b ++ v) ≡ countsAfter cs′ v
+step-count : (ps : List Block) {c : ℕ} {b b′ : Block} {cs cs′ : List ℕ} → Transition ps c b cs b′ cs′ → (v : List Action)
+    → countsAfter cs (stepTrace b ++ v) ≡ countsAfter cs′ v
 unfolding stepTrace countsAfter
 step-count ps skips v = refl
 step-count ps calls v = refl
@@ -92,7 +97,8 @@ step-count ps leaves v = refl
 step-count ps takes-one v = refl
 step-count ps takes-two v = refl
 
-pub trace-counts : (ps : List Block) (t : ThreadState) (es : List ℕ) (u : List Action) (t′ : ThreadState) → Traces ps t es u t′ → countsAfter (t .count) u ≡ t′ .count
+pub trace-counts : (ps : List Block) (t : ThreadState) (es : List ℕ) (u : List Action) (t′ : ThreadState) → Traces ps t es u t′
+    → countsAfter (t .count) u ≡ t′ .count
 unfolding Traces countsAfter
 trace-counts ps t [] u t′ s = rw (s .0, s .1)
 trace-counts ps t (c ∷ es) u t′ s =
@@ -128,7 +134,8 @@ pub record AtAcquire (ps : List Block) (t : ThreadState) (x : List Action) (l : 
   pub count : List ℕ
   pub traced : TracedExecution ps t x (thread (hold l inside after) count)
 
-pub traces-at-acquire : (ps : List Block) (t : ThreadState) (es : List ℕ) (u : List Action) (t′ : ThreadState) (x : List Action) (l : ℕ) (y : List Action)
+pub traces-at-acquire : (ps : List Block) (t : ThreadState) (es : List ℕ) (u : List Action) (t′ : ThreadState) (x : List Action) (l : ℕ)
+    (y : List Action)
     → Traces ps t es u t′ → u ≡ x ++ acquire l ∷ y → AtAcquire ps t x l
 unfolding Traces
 traces-at-acquire ps t [] u t′ x l y s e = absurd (no-word x (acquire l) y (sym (s .0) ∙ e))

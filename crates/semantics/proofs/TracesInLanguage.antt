@@ -21,7 +21,8 @@ record Split (ps : List Block) (a b : Block) (u : List Action) : Type 0 where
   right : InLanguage ps b second
 
 -- a word more in front
-extend : {ps : List Block} {a b r : Block} {v : List Action} (u : List Action) → ((w : List Action) → InLanguage ps r w → InLanguage ps a (u ++ w)) → Split ps r b v → Split ps a b (u ++ v)
+extend : {ps : List Block} {a b r : Block} {v : List Action} (u : List Action) → ((w : List Action) → InLanguage ps r w → InLanguage ps a (u ++ w))
+    → Split ps r b v → Split ps a b (u ++ v)
 extend u f s = record {
   first = u ++ s .first;
   second = s .second;
@@ -30,7 +31,8 @@ extend u f s = record {
   right = s .right;
 }
 
-loop-split : {ps : List Block} {x r b rb : Block} → ((u : List Action) → InLanguage ps rb u → Split ps r b u) → {u : List Action} → InLanguage ps (loop x rb) u → Split ps (loop x r) b u
+loop-split : {ps : List Block} {x r b rb : Block} → ((u : List Action) → InLanguage ps rb u → Split ps r b u) → {u : List Action}
+    → InLanguage ps (loop x rb) u → Split ps (loop x r) b u
 loop-split below {u} (in-leave d) = extend [] (λ w e. in-leave e) (below u d)
 loop-split below (in-enter {u = u} d e) = extend u (λ w e′. in-enter d e′) (loop-split below e)
 
@@ -47,10 +49,12 @@ split (either x y r) b (in-one {u = u} d e) = extend u (λ w e′. in-one d e′
 split (either x y r) b (in-two {u = u} d e) = extend u (λ w e′. in-two d e′) (split r b e)
 split (end l r) b (in-end d) = extend (release l ∷ []) (λ w e. in-end e) (split r b d)
 
-hold-in-language : {ps : List Block} {l : ℕ} {b r : Block} {u s : List Action} → InLanguage ps b u → InLanguage ps (end l r) s → InLanguage ps (hold l b r) (acquire l ∷ (u ++ s))
+hold-in-language : {ps : List Block} {l : ℕ} {b r : Block} {u s : List Action} → InLanguage ps b u → InLanguage ps (end l r) s
+    → InLanguage ps (hold l b r) (acquire l ∷ (u ++ s))
 hold-in-language d (in-end e) = in-hold d e
 
-step-in-language : (ps : List Block) {c : ℕ} {b b′ : Block} {cs cs′ : List ℕ} → Transition ps c b cs b′ cs′ → (v : List Action) → InLanguage ps b′ v → InLanguage ps b (stepTrace b ++ v)
+step-in-language : (ps : List Block) {c : ℕ} {b b′ : Block} {cs cs′ : List ℕ} → Transition ps c b cs b′ cs′ → (v : List Action) → InLanguage ps b′ v
+    → InLanguage ps b (stepTrace b ++ v)
 unfolding stepTrace
 step-in-language ps skips v d = in-skip d
 step-in-language ps (calls {p} {r}) v d = let s = split (bodyIn ps p) r d in rw (s .is) (in-call (s .left) (s .right))
@@ -67,5 +71,9 @@ unfolding exec Traces
 exec-traces-in-language ps t [] t′ g = let e = Option·some-injective t t′ g in ([], (refl, e), λ v d. rw e d)
 exec-traces-in-language ps t (c ∷ es) t′ g =
     let (m, e, rest) = bind-inv (move ps c (t .rest) (t .count)) (λ y. exec ps y es) t′ g in
-    let (u, s, back) = exec-traces-in-language ps m es t′ rest in
-    (stepTrace (t .rest) ++ u, (m, u, e, refl, s), λ v d. rw append-assoc (step-in-language ps (move-transition ps c (t .rest) (t .count) m e) (u ++ v) (back v d)))
+    let (u, s, back) = exec-traces-in-language ps m es t′ rest in (
+      stepTrace (t .rest) ++ u,
+      (m, u, e, refl, s),
+      λ v d. rw append-assoc
+          (step-in-language ps (move-transition ps c (t .rest) (t .count) m e) (u ++ v) (back v d)),
+    )

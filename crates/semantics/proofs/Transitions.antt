@@ -42,7 +42,8 @@ module _ (ps : List Block) where
   move-transition c done cs y h = absurd (Option·none-ne-some y h)
   move-transition c (skip r) cs y h = under 0 c (skip r) cs (thread r cs) y none skips (λ e. absurd (Option·none-ne-some y e)) h
   move-transition c (call p r) cs y h = under 0 c (call p r) cs (thread (bodyIn ps p ⨾ r) cs) y none calls (λ e. absurd (Option·none-ne-some y e)) h
-  move-transition c (hold l b r) cs y h = under 0 c (hold l b r) cs (thread (b ⨾ end l r) (up l cs)) y none begins (λ e. absurd (Option·none-ne-some y e)) h
+  move-transition c (hold l b r) cs y h = under 0 c (hold l b r) cs (thread (b ⨾ end l r) (up l cs)) y none begins
+      (λ e. absurd (Option·none-ne-some y e)) h
   move-transition c (end l r) cs y h = under 0 c (end l r) cs (thread r (down l cs)) y none ends (λ e. absurd (Option·none-ne-some y e)) h
   move-transition c (loop b r) cs y h =
       under 1 c (loop b r) cs (thread (b ⨾ loop b r) cs) y (cond (eqb c 2) (some (thread r cs)) none) enters
