@@ -29,28 +29,19 @@ use Rattle.semantics.proofs.CaseTable.{Answer, free, deadlock, Case, ca
 
 -- ---- the test
 
--- Written and WellFormed, for procedures that call lower ones
-unfoldable pub written : ℕ → Block → Bool
-written p done = true
-written p (skip r) = written p r
-written p (call q r) = ltb q p && written p r
-written p (hold l b r) = ltb l 32 && (written p b && written p r)
-written p (loop b r) = written p b && written p r
-written p (either a b r) = written p a && (written p b && written p r)
-written p (end l r) = false
-
-unfoldable pub filled : Bool → Block → Bool
-filled empty done = empty
-filled empty (skip r) = filled true r
-filled empty (call p r) = filled true r
-filled empty (hold l b r) = filled false b && filled true r
-filled empty (loop b r) = filled false b && filled true r
-filled empty (either a b r) = filled false a && (filled false b && filled true r)
-filled empty (end l r) = false
+-- whether a block is Written, with calls below p, and WellFormed
+unfoldable pub written : ℕ → Bool → Block → Bool
+written p empty done = empty
+written p empty (skip r) = written p true r
+written p empty (call q r) = ltb q p && written p true r
+written p empty (hold l b r) = ltb l 32 && (written p false b && written p true r)
+written p empty (loop b r) = written p false b && written p true r
+written p empty (either a b r) = written p false a && (written p false b && written p true r)
+written p empty (end l r) = false
 
 unfoldable pub soundFrom : ℕ → List Block → Bool
 soundFrom p [] = true
-soundFrom p (b ∷ bs) = (written p b && filled false b) && soundFrom (suc p) bs
+soundFrom p (b ∷ bs) = written p false b && soundFrom (suc p) bs
 
 unfoldable pub all : (ℕ → Bool) → List ℕ → Bool
 all f [] = true
@@ -97,51 +88,48 @@ allPass [] = true
 allPass (c ∷ cs) = passes c && allPass cs
 
 table-passes : T (allPass cases)
-unfolding allPass passes answers pairList threadSizes sizes sizeAt sizeWith stuckAre sameBelow wordsFrom sameList all soundFrom written filled any unmet bit searchFrom rounds round atHold ascending insert pairsWith pairsAt heldFrom run start step stepIn threadAt apart withAll compatible move down up bodyIn _⨾_
+unfolding allPass passes answers pairList threadSizes sizes sizeAt sizeWith stuckAre sameBelow wordsFrom sameList all soundFrom written any unmet bit searchFrom rounds round atHold ascending insert pairsWith pairsAt heldFrom run start step stepIn threadAt apart withAll compatible move down up bodyIn _⨾_
 table-passes = tt
 
 -- ---- what it implies
 
-written-of : (p : ℕ) (b : Block) → T (written p b) → Written (λ q. q < p) b
-unfolding written Written
-written-of p done t = tt
-written-of p (skip r) t = written-of p r t
-written-of p (call q r) t = let (x, y) = T-and (ltb q p) (written p r) t in (ltb→lt q p x, written-of p r y)
-written-of p (hold l b r) t =
-    let (x, y) = T-and (ltb l 32) (written p b && written p r) t in
-    let (y₁, y₂) = T-and (written p b) (written p r) y in
-    (ltb→lt l 32 x, written-of p b y₁, written-of p r y₂)
-written-of p (loop b r) t = let (x, y) = T-and (written p b) (written p r) t in (written-of p b x, written-of p r y)
-written-of p (either a b r) t =
-    let (x, y) = T-and (written p a) (written p b && written p r) t in
-    let (y₁, y₂) = T-and (written p b) (written p r) y in
-    (written-of p a x, written-of p b y₁, written-of p r y₂)
-written-of p (end l r) t = t
-
-filled-of : (e : Bool) (b : Block) → T (filled e b) → WellFormed e b
-unfolding filled WellFormed
-filled-of e done t = t
-filled-of e (skip r) t = filled-of true r t
-filled-of e (call p r) t = filled-of true r t
-filled-of e (hold l b r) t = let (x, y) = T-and (filled false b) (filled true r) t in (filled-of false b x, filled-of true r y)
-filled-of e (loop b r) t = let (x, y) = T-and (filled false b) (filled true r) t in (filled-of false b x, filled-of true r y)
-filled-of e (either a b r) t =
-    let (x, y) = T-and (filled false a) (filled false b && filled true r) t in
-    let (y₁, y₂) = T-and (filled false b) (filled true r) y in
-    (filled-of false a x, filled-of false b y₁, filled-of true r y₂)
-filled-of e (end l r) t = t
+written-of : (p : ℕ) (e : Bool) (b : Block) → T (written p e b) → Written (λ q. q < p) b × WellFormed e b
+unfolding written Written WellFormed
+written-of p e done t = (tt, t)
+written-of p e (skip r) t = written-of p true r t
+written-of p e (call q r) t =
+    let (x, y) = T-and (ltb q p) (written p true r) t in
+    let (w, f) = written-of p true r y in
+    ((ltb→lt q p x, w), f)
+written-of p e (hold l b r) t =
+    let (x, y) = T-and (ltb l 32) (written p false b && written p true r) t in
+    let (y₁, y₂) = T-and (written p false b) (written p true r) y in
+    let (w₁, f₁) = written-of p false b y₁ in
+    let (w₂, f₂) = written-of p true r y₂ in
+    ((ltb→lt l 32 x, w₁, w₂), (f₁, f₂))
+written-of p e (loop b r) t =
+    let (y₁, y₂) = T-and (written p false b) (written p true r) t in
+    let (w₁, f₁) = written-of p false b y₁ in
+    let (w₂, f₂) = written-of p true r y₂ in
+    ((w₁, w₂), (f₁, f₂))
+written-of p e (either a b r) t =
+    let (x, y) = T-and (written p false a) (written p false b && written p true r) t in
+    let (y₁, y₂) = T-and (written p false b) (written p true r) y in
+    let (w₀, f₀) = written-of p false a x in
+    let (w₁, f₁) = written-of p false b y₁ in
+    let (w₂, f₂) = written-of p true r y₂ in
+    ((w₀, w₁, w₂), (f₀, f₁, f₂))
+written-of p e (end l r) t = absurd t
 
 sound-from : (k : ℕ) (bs : List Block) → T (soundFrom k bs) → (p : ℕ)
     → Written (λ q. q < k + p) (bodyIn bs p) × (p < length bs → WellFormed false (bodyIn bs p))
 unfolding soundFrom bodyIn Written
 sound-from k [] t p = (tt, λ h. absurd (omega arith))
 sound-from k (b ∷ bs) t zero =
-    let (x, _) = T-and (written k b && filled false b) (soundFrom (suc k) bs) t in
-    let (x₁, x₂) = T-and (written k b) (filled false b) x in
-    (rw add-zero (written-of k b x₁), λ _. filled-of false b x₂)
+    let (w, f) = written-of k false b (T-and (written k false b) (soundFrom (suc k) bs) t .0) in
+    (rw add-zero w, λ _. f)
 sound-from k (b ∷ bs) t (suc p) =
-    let (_, y) = T-and (written k b && filled false b) (soundFrom (suc k) bs) t in
-    let (r, f) = sound-from (suc k) bs y p in
+    let (r, f) = sound-from (suc k) bs (T-and (written k false b) (soundFrom (suc k) bs) t .1) p in
     let e : suc k + p ≡ k + suc p = omega arith in
     (subst (λ n. Written (λ q. q < n) (bodyIn bs p)) e r, λ h. f (omega arith))
 
