@@ -1,5 +1,5 @@
--- Sets of numbers as masks: k is in m where digit k of m is 1. Two masks with the same digits are equal (`bit-ext`), and from that follow the laws of joins
--- and of disjoint sets.
+-- Sets of numbers as masks: k is in m where digit k of m is 1. Two masks with the same digits are equal (`bit-ext`), and from that follow the laws of
+-- joins and of disjoint sets.
 use Prim.Native.Nat.{ℕ, zero, suc, _+_, _/_, _%_, _^_, _<_, _≤_, min, max}
 use mathlib.Core.Path.{_≡_, refl, ap, sym, _∙_}
 use mathlib.Core.Logic.{_≢_, _⊎_, inl, inr, ⊎-elim}
@@ -65,14 +65,14 @@ bit-pow-other (suc l) (suc k) n = let e : 2 ^ suc l / 2 ≡ 2 ^ l = omega arith 
 pub or-assoc : (a b c : ℕ) → bitOr (bitOr a b) c ≡ bitOr a (bitOr b c)
 or-assoc a b c = bit-ext _ _ (λ k. simp bit-or (omega arith))
 
--- two sets without a common lock
+-- two sets without a common member
 pub disjoint : (a b : ℕ) → ((k : ℕ) → bit a k ≡ 0 ⊎ bit b k ≡ 0) → bitAnd a b ≡ 0
 disjoint a b h = bit-ext _ 0 (λ k. rw (bit-and, bit-none) (⊎-elim (λ (e : bit a k ≡ 0). omega arith) (λ (e : bit b k ≡ 0). omega arith) (h k)))
 
 pub of-disjoint : (a b : ℕ) → bitAnd a b ≡ 0 → (k : ℕ) → bit a k ≡ 1 → bit b k ≡ 0
 of-disjoint a b e k one = let m : min (bit a k) (bit b k) ≡ 0 = sym (bit-and a b k) ∙ ap (λ (x : ℕ). bit x k) e ∙ bit-none k in omega arith
 
--- a lock of a join is in one of the two
+-- a member of a join is in one of the two
 pub or-cases : (a b l : ℕ) → bit (bitOr a b) l ≡ 1 → (bit a l ≡ 1) ⊎ (bit b l ≡ 1)
 or-cases a b l e =
     let x : max (bit a l) (bit b l) ≡ 1 = sym (bit-or a b l) ∙ e in
@@ -94,7 +94,7 @@ pub subset : (m w : ℕ) → ((l : ℕ) → bit w l ≡ 1 → bit m l ≡ 1) →
 subset m w h = bit-ext _ m (λ k. rw bit-or
     (⊎-elim (λ (z : bit w k ≡ 0). omega arith) (λ (g : 0 < bit w k). omega (arith, bit-lt w k, h k (omega (arith, bit-lt w k)))) (eq-zero-or-pos (bit w k))))
 
--- sets that share no lock
+-- sets that share no member
 pub apart-or : (a b c : ℕ) → bitAnd a c ≡ 0 → bitAnd b c ≡ 0 → bitAnd (bitOr a b) c ≡ 0
 apart-or a b c p q = disjoint (bitOr a b) c (λ k.
     ⊎-elim (λ (z : bit c k ≡ 0). inr z)
@@ -104,7 +104,7 @@ apart-or a b c p q = disjoint (bitOr a b) c (λ k.
     meet : (x : ℕ) → bitAnd x c ≡ 0 → (k : ℕ) → min (bit x k) (bit c k) ≡ 0
     meet x e k = sym (bit-and x c k) ∙ ap (λ y. bit y k) e ∙ bit-none k
 
--- if a lock of a is one of b, what is apart from b is apart from a
+-- where the members of a are in b, what is apart from b is apart from a
 pub apart-in : (a b c : ℕ) → ((l : ℕ) → bit a l ≡ 1 → bit b l ≡ 1) → bitAnd b c ≡ 0 → bitAnd a c ≡ 0
 apart-in a b c h e = disjoint a c (λ k.
     ⊎-elim (λ z. inl z) (λ (g : 0 < bit a k). inr (of-disjoint b c e k (h k (omega (arith, bit-lt a k))))) (eq-zero-or-pos (bit a k)))

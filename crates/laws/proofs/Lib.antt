@@ -5,4 +5,5 @@ pub mod Choices
 pub mod Folds
 pub mod Writes
 pub mod Bits
+pub mod Masks
 pub mod Ascending

@@ -1,5 +1,5 @@
--- What the test `apart` says: any two threads of S are compatible (`Apart`). Where one thread of such a moment is replaced, the moment stays apart, or the new
--- thread is not compatible with another (`Bar`).
+-- What the test `apart` says: any two threads of S are compatible (`Apart`). Where one thread of such a moment is replaced, the moment stays apart,
+-- or the new thread is not compatible with another (`Clash`).
 use Prim.Native.Nat.{ℕ, zero, suc, _≤_, _<_}
 use mathlib.Core.List.{List, [], _∷_}
 use mathlib.Core.Bool.{Bool, not, _&&_, _||_}
@@ -12,22 +12,23 @@ use lib.Seq.{getD-set-same, getD-set-other}
 use Rattle.semantics.specs.Plan.{done}
 use Rattle.semantics.specs.Run.{ThreadState, thread, compatible, others, withAll, apart}
 use Rattle.laws.proofs.Tests.{T-and, and-T, T-or, or-T, T-dec, eq-or-ne, lt-or-le, search-below}
-use Rattle.semantics.proofs.Compatible.{Has, Blocks, blocks-nothing, clash, compatible-sym}
+use Rattle.semantics.proofs.Compatible.{HasLock, Excludes, empty-excludes-none, compatible-or-contended, compatible-sym}
 
 -- thread i of a list: one with nothing to do and nothing held, where there is none
-abbrev pub nobody : ThreadState
-nobody = thread done []
+abbrev pub absentThread : ThreadState
+absentThread = thread done []
 
 abbrev pub nth : List ThreadState → ℕ → ThreadState
-nth ts i = getD ts i nobody
+nth ts i = getD ts i absentThread
 
 -- its counts
 abbrev pub counts : List ThreadState → ℕ → List ℕ
 counts ts i = (nth ts i) .count
 
-pub blocks-in : (ts : List ThreadState) (i l : ℕ) → Blocks (counts ts i) l → i < length ts
-blocks-in ts i l h =
-    ⊎-elim (λ b. b) (λ (b : length ts ≤ i). absurd (blocks-nothing l (subst (λ x. Blocks (x .count) l) (List·getD-eq-default ts nobody b) h)))
+pub excludes-present : (ts : List ThreadState) (i l : ℕ) → Excludes (counts ts i) l → i < length ts
+excludes-present ts i l h =
+    ⊎-elim (λ b. b) (λ (b : length ts ≤ i). absurd
+    (empty-excludes-none l (subst (λ x. Excludes (x .count) l) (List·getD-eq-default ts absentThread b) h)))
     (lt-or-le i (length ts))
 
 abbrev pub Apart : (ℕ → Bool) → List ThreadState → Type 0
@@ -35,8 +36,9 @@ Apart S ts = (i j : ℕ) → i ≢ j → T (S i) → T (S j) → T (compatible (
 
 -- ---- the test and what it says
 
-pub with-nothing : (cs : List ℕ) → T (compatible cs [])
-with-nothing cs = ⊎-elim (λ t. t) (λ (r : (l : ℕ) × Has cs l × Blocks [] l). absurd (blocks-nothing (r .0) (r .2))) (clash cs [])
+pub compatible-empty : (cs : List ℕ) → T (compatible cs [])
+compatible-empty cs = ⊎-elim (λ t. t) (λ (r : (l : ℕ) × HasLock cs l × Excludes [] l). absurd (empty-excludes-none (r .0) (r .2)))
+    (compatible-or-contended cs [])
 
 -- a implies b
 from-or : (a b : Bool) → T (not a || b) → T a → T b
@@ -47,7 +49,7 @@ to-or a b f = or-T (not a) b (⊎-elim (λ s. inr (f s)) (λ n. inl (not-T a n))
 
 with→ : (S : ℕ → Bool) (cs : List ℕ) (ts : List ThreadState) → T (withAll S cs ts) → (j : ℕ) → T (S j) → T (compatible cs (counts ts j))
 unfolding withAll
-with→ S cs [] h j s = with-nothing cs
+with→ S cs [] h j s = compatible-empty cs
 with→ S cs (t ∷ ts) h zero s =
     from-or (S 0) (compatible cs (t .count)) ((T-and (not (S 0) || compatible cs (t .count)) (withAll (others S) cs ts) h) .0) s
 with→ S cs (t ∷ ts) h (suc j) s =
@@ -57,9 +59,11 @@ with← : (S : ℕ → Bool) (cs : List ℕ) (ts : List ThreadState) → ((j : �
 unfolding withAll
 with← S cs [] h = tt
 with← S cs (t ∷ ts) h =
-    and-T (not (S 0) || compatible cs (t .count)) (withAll (others S) cs ts) (to-or (S 0) (compatible cs (t .count)) (h 0)) (with← (others S) cs ts (λ j. h (suc j)))
+    and-T (not (S 0) || compatible cs (t .count)) (withAll (others S) cs ts) (to-or (S 0) (compatible cs (t .count)) (h 0))
+    (with← (others S) cs ts (λ j. h (suc j)))
 
-first : (S : ℕ → Bool) (t : ThreadState) (ts : List ThreadState) → T (apart S (t ∷ ts)) → (j : ℕ) → T (S 0) → T (S (suc j)) → T (compatible (t .count) (counts ts j))
+first : (S : ℕ → Bool) (t : ThreadState) (ts : List ThreadState) → T (apart S (t ∷ ts)) → (j : ℕ) → T (S 0) → T (S (suc j))
+    → T (compatible (t .count) (counts ts j))
 unfolding apart
 first S t ts a j s r =
     with→ (others S) (t .count) ts
@@ -67,7 +71,7 @@ first S t ts a j s r =
 
 pub apart→ : (S : ℕ → Bool) (ts : List ThreadState) → T (apart S ts) → Apart S ts
 unfolding apart
-apart→ S [] a i j d s r = with-nothing []
+apart→ S [] a i j d s r = compatible-empty []
 apart→ S (t ∷ ts) a zero zero d s r = absurd (d refl)
 apart→ S (t ∷ ts) a zero (suc j) d s r = first S t ts a j s r
 apart→ S (t ∷ ts) a (suc i) zero d s r = compatible-sym (t .count) (counts ts i) (first S t ts a i r s)
@@ -85,7 +89,7 @@ apart← S (t ∷ ts) a =
 -- ---- one thread of an apart moment is replaced
 
 -- y in the place of thread t is not compatible with another thread of S
-pub record Bar (S : ℕ → Bool) (ts : List ThreadState) (t : ℕ) (y : ThreadState) : Type 0 where
+pub record Clash (S : ℕ → Bool) (ts : List ThreadState) (t : ℕ) (y : ThreadState) : Type 0 where
   pub other : ℕ
   pub differs : other ≢ t
   pub member : T (S other)
@@ -93,30 +97,38 @@ pub record Bar (S : ℕ → Bool) (ts : List ThreadState) (t : ℕ) (y : ThreadS
 
 module _ (S : ℕ → Bool) (ts : List ThreadState) (t : ℕ) (y : ThreadState) (in-ts : t < length ts) where
   same-at : counts (set ts t y) t ≡ y .count
-  same-at = ap (λ x. x .count) (getD-set-same ts t y nobody in-ts)
+  same-at = ap (λ x. x .count) (getD-set-same ts t y absentThread in-ts)
 
   other-at : (i : ℕ) → i ≢ t → counts (set ts t y) i ≡ counts ts i
-  other-at i d = ap (λ x. x .count) (getD-set-other ts t i y nobody d)
+  other-at i d = ap (λ x. x .count) (getD-set-other ts t i y absentThread d)
 
   abbrev barring : ℕ → Bool
   barring j = S j && (not (eqb j t) && not (compatible (y .count) (counts ts j)))
 
-  pub barred-or : Apart S ts → T (apart S (set ts t y)) ⊎ Bar S ts t y
-  barred-or a =
+  pub apart-or-clash : Apart S ts → T (apart S (set ts t y)) ⊎ Clash S ts t y
+  apart-or-clash a =
       ⊎-elim
       (λ (r : (j : ℕ) × (j < length ts) × T (barring j)).
       let j = r .0 in
       let (s, q) = T-and (S j) (not (eqb j t) && not (compatible (y .count) (counts ts j))) (r .2) in
       let (d, n) = T-and (not (eqb j t)) (not (compatible (y .count) (counts ts j))) q in
-      inr (record { other = j; differs = λ e. T-not (eqb j t) d (subst (λ k. T (eqb j k)) e (eqb-refl j)); member = s; against = T-not (compatible (y .count) (counts ts j)) n }))
+      inr (record {
+        other = j;
+        differs = λ e. T-not (eqb j t) d (subst (λ k. T (eqb j k)) e (eqb-refl j));
+        member = s;
+        against = T-not
+            (compatible (y .count) (counts ts j)) n;
+      }))
       (λ (none : (j : ℕ) → j < length ts → T (barring j) → ⊥).
       let free : (j : ℕ) → j ≢ t → T (S j) → T (compatible (y .count) (counts ts j)) =
       λ j d s. ⊎-elim
       (λ (b : j < length ts). ⊎-elim (λ c. c)
       (λ n. absurd (none j b (and-T (S j) (not (eqb j t) && not (compatible (y .count) (counts ts j))) s
-      (and-T (not (eqb j t)) (not (compatible (y .count) (counts ts j))) (not-T (eqb j t) (λ e. d (eqb→eq j t e))) (not-T (compatible (y .count) (counts ts j)) n)))))
+      (and-T (not (eqb j t)) (not (compatible (y .count) (counts ts j))) (not-T (eqb j t) (λ e. d (eqb→eq j t e)))
+      (not-T (compatible (y .count) (counts ts j)) n)))))
       (T-dec (compatible (y .count) (counts ts j))))
-      (λ (b : length ts ≤ j). subst (λ x. T (compatible (y .count) (x .count))) (sym (List·getD-eq-default ts nobody b)) (with-nothing (y .count)))
+      (λ (b : length ts ≤ j). subst (λ x. T (compatible (y .count) (x .count))) (sym (List·getD-eq-default ts absentThread b))
+      (compatible-empty (y .count)))
       (lt-or-le j (length ts)) in
       inl (apart← S (set ts t y) (λ i j d s r.
       ⊎-elim
@@ -131,6 +143,6 @@ module _ (S : ℕ → Bool) (ts : List ThreadState) (t : ℕ) (y : ThreadState) 
       (eq-or-ne i t))))
       (search-below (length ts) barring)
 
-  pub bar-refuses : T (S t) → Bar S ts t y → T (apart S (set ts t y)) → ⊥
-  bar-refuses s b a =
+  pub clash-not-apart : T (S t) → Clash S ts t y → T (apart S (set ts t y)) → ⊥
+  clash-not-apart s b a =
       b .against (rw (same-at, other-at (b .other) (b .differs)) at (apart→ S (set ts t y) a t (b .other) (λ e. b .differs (sym e)) s (b .member)))

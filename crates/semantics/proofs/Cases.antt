@@ -1,119 +1,47 @@
--- The starred plans A to I of document 01 as trees, with the answers expected. One test over the table is computed, and what it implies holds of the runs and
--- of the critical pairs themselves.
+-- Every case of the table is as 01 says (`case-facts`). One test over the table is computed (`table-passes`), and what it implies holds of the runs
+-- and of the critical pairs themselves.
 use Prim.Native.Nat.{ℕ, zero, suc, _+_, _≤_, _<_}
 use mathlib.Core.List.{List, [], _∷_, map, List·Memᴰ, List·Memᴰ·not-nil, List·Memᴰ·cases-cons}
 use mathlib.Core.Bool.{Bool, true, false, not, _&&_}
-use mathlib.Core.Logic.{⊎-elim, _↔_}
+use mathlib.Core.Logic.{⊎-elim}
 use mathlib.Core.Option.{Option, none, some}
 use mathlib.Core.Path.{_≡_, refl, sym, ap₂, _∙_, subst, fun-ext}
 use native.Mathlib.Nat.{add-zero, zero-add, eq-or-lt-of-le}
 use native.Mathlib.Omega.{arith}
 use lib.ListN.{length, getD}
 use lib.Dec.{T, leb, ltb, eqb, leb→le, ltb→lt, eqb→eq, T-not}
-use Rattle.semantics.specs.Plan.{Block, done, skip, call, hold, loop, either, end, _⨾_, bodyIn, Written, WellFormed, Sound}
+use Rattle.semantics.specs.Plan.{Block, done, skip, call, hold, loop, either, end, _⨾_, bodyIn, Written, WellFormed, Sound, LockPlan}
 use Rattle.semantics.specs.Run.{ThreadState, up, down, move, compatible, withAll, apart, threadAt, stepIn, step, run, start}
-use Rattle.semantics.specs.Stuck.{Largest, DeadlockFree}
-use Rattle.semantics.specs.Pairs.{heldFrom, Critical, pairsWith, pairsAt, pairs}
+use Rattle.semantics.specs.Stuck.{Largest, Schedule}
+use Rattle.semantics.specs.Pairs.{heldFrom, pairsWith, pairsAt, pairList}
+use Rattle.semantics.specs.Sizes.{sizeWith, sizeAt, sizes, threadSizes}
+use Rattle.semantics.proofs.PairList.{pair-list-critical}
 use Rattle.laws.proofs.Tests.{same-test, T-and, lt-or-le}
-use Rattle.semantics.proofs.Blocks.{plain-body}
-use Rattle.semantics.proofs.Moments.{run-moment, run-length, start-length, start-moment}
-use Rattle.laws.specs.Ascending.{Ascends, insert, ascending}
-use Rattle.laws.proofs.Ascending.{ascends, ascending-mem, mem-ascending}
-use Rattle.semantics.proofs.Complete.{complete}
-use Rattle.semantics.proofs.Reach.{sound}
-use Rattle.semantics.proofs.Largest.{atHold, round, rounds, rounds-largest, rounds-in}
+use Rattle.semantics.proofs.Remainders.{plain-body}
+use Rattle.semantics.proofs.Invariant.{run-invariant, run-length, start-length, start-invariant}
+use Rattle.semantics.proofs.LargestStuck.{atHold, round, rounds, rounds-largest, rounds-in}
+use Rattle.semantics.proofs.ConflictSearch.{any, any-is, unmet, searchFrom}
+use Rattle.semantics.proofs.ConflictTest.{conflicting}
+use Rattle.semantics.proofs.Characterisation.{Ranked, plan-characterisation}
+use Rattle.laws.specs.Ascending.{insert, ascending}
 use Rattle.laws.specs.Mask.{bit}
-use Rattle.semantics.proofs.Search.{any, any-is, unblocked, searchFrom}
-use Rattle.semantics.proofs.Crossing.{conflicting}
-use Rattle.semantics.proofs.Verdict.{verdict}
-
--- ---- the table
-
--- free, or a schedule and the threads that are stuck at its end
-pub data Answer : Type 0 where
-  free : Answer
-  deadlock : List ℕ → List ℕ → Answer
-
--- `words` lists the pair words of the first procedures, of as many as it has lists
-pub record Case : Type 0 where
-  pub procs : List Block
-  pub threads : List ℕ
-  pub words : List (List ℕ)
-  pub answer : Answer
-
-abbrev pub one-skip : Block
-one-skip = skip done
-
--- l[b], and l[k] with a skip inside
-abbrev pub only : ℕ → Block → Block
-only l b = hold l b done
-
-abbrev pub nest : ℕ → ℕ → Block
-nest l k = only l (only k one-skip)
-
--- 0[1] and 1[0]
-abbrev pub caseA : Case
-caseA = record { procs = nest 0 1 ∷ nest 1 0 ∷ []; threads = 0 ∷ 1 ∷ []; words = []; answer = deadlock (0 ∷ 1 ∷ []) (0 ∷ 1 ∷ []) }
-
--- 2[0[1]] and 2[1[0]]
-abbrev pub caseB : Case
-caseB = record { procs = only 2 (nest 0 1) ∷ only 2 (nest 1 0) ∷ []; threads = 0 ∷ 1 ∷ []; words = (2 ∷ 128 ∷ 161 ∷ []) ∷ (2 ∷ 129 ∷ 192 ∷ []) ∷ []; answer = free }
-
--- 0[0], by two threads
-abbrev pub caseC : Case
-caseC = record { procs = nest 0 0 ∷ []; threads = 0 ∷ 0 ∷ []; words = (0 ∷ []) ∷ []; answer = free }
-
--- 1[0], 2[1] and 0[2]
-abbrev pub caseD : Case
-caseD = record { procs = nest 1 0 ∷ nest 2 1 ∷ nest 0 2 ∷ []; threads = 0 ∷ 1 ∷ 2 ∷ []; words = []; answer = deadlock (0 ∷ 1 ∷ 2 ∷ []) (0 ∷ 1 ∷ 2 ∷ []) }
-
--- the first two of D
-abbrev pub caseE : Case
-caseE = record { procs = nest 1 0 ∷ nest 2 1 ∷ []; threads = 0 ∷ 1 ∷ []; words = []; answer = free }
-
--- 0[1] then 1[0], by one thread
-abbrev pub caseF : Case
-caseF = record { procs = hold 0 (only 1 one-skip) (nest 1 0) ∷ []; threads = 0 ∷ []; words = []; answer = free }
-
--- 0[1 2] and 1[0 2[0]]
-abbrev pub caseG : Case
-caseG = record { procs = only 0 (hold 1 one-skip (only 2 one-skip)) ∷ only 1 (hold 0 one-skip (nest 2 0)) ∷ []; threads = 0 ∷ 1 ∷ []; words = []; answer = deadlock (0 ∷ 1 ∷ []) (0 ∷ 1 ∷ []) }
-
--- an either of 0[1] or skip, and 1[0]
-abbrev pub caseH : Case
-caseH = record { procs = either (nest 0 1) one-skip done ∷ nest 1 0 ∷ []; threads = 0 ∷ 1 ∷ []; words = []; answer = deadlock (8 ∷ 0 ∷ 1 ∷ []) (0 ∷ 1 ∷ []) }
-
--- a loop over hold 0, by two threads
-abbrev pub caseI : Case
-caseI = record { procs = loop (only 0 one-skip) done ∷ []; threads = 0 ∷ 0 ∷ []; words = []; answer = free }
-
-abbrev pub table : List Case
-table = caseA ∷ caseB ∷ caseC ∷ caseD ∷ caseE ∷ caseF ∷ caseG ∷ caseH ∷ caseI ∷ []
+use Rattle.semantics.proofs.CaseTable.{Answer, free, deadlock, Case, cases, among, AnswerHolds, CaseFacts}
 
 -- ---- the test
 
--- Written and WellFormed, for procedures that call lower ones
-unfoldable pub written : ℕ → Block → Bool
-written p done = true
-written p (skip r) = written p r
-written p (call q r) = ltb q p && written p r
-written p (hold l b r) = ltb l 32 && (written p b && written p r)
-written p (loop b r) = written p b && written p r
-written p (either a b r) = written p a && (written p b && written p r)
-written p (end l r) = false
-
-unfoldable pub filled : Bool → Block → Bool
-filled empty done = empty
-filled empty (skip r) = filled true r
-filled empty (call p r) = filled true r
-filled empty (hold l b r) = filled false b && filled true r
-filled empty (loop b r) = filled false b && filled true r
-filled empty (either a b r) = filled false a && (filled false b && filled true r)
-filled empty (end l r) = false
+-- whether a block is Written, with calls below p, and WellFormed
+unfoldable pub written : ℕ → Bool → Block → Bool
+written p empty done = empty
+written p empty (skip r) = written p true r
+written p empty (call q r) = ltb q p && written p true r
+written p empty (hold l b r) = ltb l 32 && (written p false b && written p true r)
+written p empty (loop b r) = written p false b && written p true r
+written p empty (either a b r) = written p false a && (written p false b && written p true r)
+written p empty (end l r) = false
 
 unfoldable pub soundFrom : ℕ → List Block → Bool
 soundFrom p [] = true
-soundFrom p (b ∷ bs) = (written p b && filled false b) && soundFrom (suc p) bs
+soundFrom p (b ∷ bs) = written p false b && soundFrom (suc p) bs
 
 unfoldable pub all : (ℕ → Bool) → List ℕ → Bool
 all f [] = true
@@ -125,13 +53,9 @@ sameList [] (y ∷ ys) = false
 sameList (x ∷ xs) [] = false
 sameList (x ∷ xs) (y ∷ ys) = eqb x y && sameList xs ys
 
-unfoldable pub wordsFrom : ℕ → List Block → ℕ → List (List ℕ) → Bool
-wordsFrom d ps p [] = true
-wordsFrom d ps p (ws ∷ wss) = ltb p d && (sameList (ascending (pairs d ps p)) ws && wordsFrom d ps (suc p) wss)
-
--- the threads of a list, as a set
-abbrev pub among : List ℕ → ℕ → Bool
-among ts t = any (eqb t) ts
+unfoldable pub wordsFrom : List Block → ℕ → List (List ℕ) → Bool
+wordsFrom ps p [] = true
+wordsFrom ps p (ws ∷ wss) = ltb p (length ps) && (sameList (pairList ps p) ws && wordsFrom ps (suc p) wss)
 
 abbrev pub agree : Bool → Bool → Bool
 agree true b = b
@@ -146,66 +70,66 @@ unfoldable pub stuckAre : ℕ → List Block → List ℕ → Option (List Threa
 stuckAre n ps us none = false
 stuckAre n ps us (some ts) = sameBelow n (rounds n ps ts) (among us) && any (rounds n ps ts) us
 
-unfoldable pub answers : ℕ → List Block → List ℕ → Answer → Bool
-answers d ps ns free = not (conflicting (map (pairs d ps) ns))
-answers d ps ns (deadlock es us) =
-    conflicting (map (pairs d ps) ns) && (all (λ t. ltb t (length ns)) us && stuckAre (length ns) ps us (run ps (start ps ns) es))
+unfoldable pub answers : LockPlan → Answer → Bool
+answers plan free = not (conflicting (map (pairList (plan .procs)) (plan .threads)))
+answers plan (deadlock es us) =
+    leb (length es) (threadSizes plan)
+    && (all (λ t. ltb t (length (plan .threads))) us
+    && stuckAre (length (plan .threads)) (plan .procs) us (run (plan .procs) (start (plan .procs) (plan .threads)) es))
 
 unfoldable pub passes : Case → Bool
 passes c =
-    let d = length (c .procs) in
-    soundFrom 0 (c .procs) && (all (λ n. ltb n d) (c .threads) && (leb (length (c .threads)) 8
-    && (wordsFrom d (c .procs) 0 (c .words) && answers d (c .procs) (c .threads) (c .answer))))
+    let ps = c .plan .procs in
+    let ns = c .plan .threads in
+    soundFrom 0 ps && (all (λ n. ltb n (length ps)) ns && (leb (length ns) 8 && (wordsFrom ps 0 (c .words) && answers (c .plan) (c .answer))))
 
 unfoldable pub allPass : List Case → Bool
 allPass [] = true
 allPass (c ∷ cs) = passes c && allPass cs
 
-table-passes : T (allPass table)
-unfolding allPass passes answers stuckAre sameBelow wordsFrom sameList all soundFrom written filled any unblocked bit searchFrom rounds round atHold ascending insert pairsWith pairsAt heldFrom run start step stepIn threadAt apart withAll compatible move down up bodyIn _⨾_
+table-passes : T (allPass cases)
+unfolding allPass passes answers pairList threadSizes sizes sizeAt sizeWith stuckAre sameBelow wordsFrom sameList all soundFrom written any unmet bit searchFrom rounds round atHold ascending insert pairsWith pairsAt heldFrom run start step stepIn threadAt apart withAll compatible move down up bodyIn _⨾_
 table-passes = tt
 
 -- ---- what it implies
 
-written-of : (p : ℕ) (b : Block) → T (written p b) → Written (λ q. q < p) b
-unfolding written Written
-written-of p done t = tt
-written-of p (skip r) t = written-of p r t
-written-of p (call q r) t = let (x, y) = T-and (ltb q p) (written p r) t in (ltb→lt q p x, written-of p r y)
-written-of p (hold l b r) t =
-    let (x, y) = T-and (ltb l 32) (written p b && written p r) t in
-    let (y₁, y₂) = T-and (written p b) (written p r) y in
-    (ltb→lt l 32 x, written-of p b y₁, written-of p r y₂)
-written-of p (loop b r) t = let (x, y) = T-and (written p b) (written p r) t in (written-of p b x, written-of p r y)
-written-of p (either a b r) t =
-    let (x, y) = T-and (written p a) (written p b && written p r) t in
-    let (y₁, y₂) = T-and (written p b) (written p r) y in
-    (written-of p a x, written-of p b y₁, written-of p r y₂)
-written-of p (end l r) t = t
+written-of : (p : ℕ) (e : Bool) (b : Block) → T (written p e b) → Written (λ q. q < p) b × WellFormed e b
+unfolding written Written WellFormed
+written-of p e done t = (tt, t)
+written-of p e (skip r) t = written-of p true r t
+written-of p e (call q r) t =
+    let (x, y) = T-and (ltb q p) (written p true r) t in
+    let (w, f) = written-of p true r y in
+    ((ltb→lt q p x, w), f)
+written-of p e (hold l b r) t =
+    let (x, y) = T-and (ltb l 32) (written p false b && written p true r) t in
+    let (y₁, y₂) = T-and (written p false b) (written p true r) y in
+    let (w₁, f₁) = written-of p false b y₁ in
+    let (w₂, f₂) = written-of p true r y₂ in
+    ((ltb→lt l 32 x, w₁, w₂), (f₁, f₂))
+written-of p e (loop b r) t =
+    let (y₁, y₂) = T-and (written p false b) (written p true r) t in
+    let (w₁, f₁) = written-of p false b y₁ in
+    let (w₂, f₂) = written-of p true r y₂ in
+    ((w₁, w₂), (f₁, f₂))
+written-of p e (either a b r) t =
+    let (x, y) = T-and (written p false a) (written p false b && written p true r) t in
+    let (y₁, y₂) = T-and (written p false b) (written p true r) y in
+    let (w₀, f₀) = written-of p false a x in
+    let (w₁, f₁) = written-of p false b y₁ in
+    let (w₂, f₂) = written-of p true r y₂ in
+    ((w₀, w₁, w₂), (f₀, f₁, f₂))
+written-of p e (end l r) t = absurd t
 
-filled-of : (e : Bool) (b : Block) → T (filled e b) → WellFormed e b
-unfolding filled WellFormed
-filled-of e done t = t
-filled-of e (skip r) t = filled-of true r t
-filled-of e (call p r) t = filled-of true r t
-filled-of e (hold l b r) t = let (x, y) = T-and (filled false b) (filled true r) t in (filled-of false b x, filled-of true r y)
-filled-of e (loop b r) t = let (x, y) = T-and (filled false b) (filled true r) t in (filled-of false b x, filled-of true r y)
-filled-of e (either a b r) t =
-    let (x, y) = T-and (filled false a) (filled false b && filled true r) t in
-    let (y₁, y₂) = T-and (filled false b) (filled true r) y in
-    (filled-of false a x, filled-of false b y₁, filled-of true r y₂)
-filled-of e (end l r) t = t
-
-sound-from : (k : ℕ) (bs : List Block) → T (soundFrom k bs) → (p : ℕ) → Written (λ q. q < k + p) (bodyIn bs p) × (p < length bs → WellFormed false (bodyIn bs p))
+sound-from : (k : ℕ) (bs : List Block) → T (soundFrom k bs) → (p : ℕ)
+    → Written (λ q. q < k + p) (bodyIn bs p) × (p < length bs → WellFormed false (bodyIn bs p))
 unfolding soundFrom bodyIn Written
 sound-from k [] t p = (tt, λ h. absurd (omega arith))
 sound-from k (b ∷ bs) t zero =
-    let (x, _) = T-and (written k b && filled false b) (soundFrom (suc k) bs) t in
-    let (x₁, x₂) = T-and (written k b) (filled false b) x in
-    (rw add-zero (written-of k b x₁), λ _. filled-of false b x₂)
+    let (w, f) = written-of k false b (T-and (written k false b) (soundFrom (suc k) bs) t .0) in
+    (rw add-zero w, λ _. f)
 sound-from k (b ∷ bs) t (suc p) =
-    let (_, y) = T-and (written k b && filled false b) (soundFrom (suc k) bs) t in
-    let (r, f) = sound-from (suc k) bs y p in
+    let (r, f) = sound-from (suc k) bs (T-and (written k false b) (soundFrom (suc k) bs) t .1) p in
     let e : suc k + p ≡ k + suc p = omega arith in
     (subst (λ n. Written (λ q. q < n) (bodyIn bs p)) e r, λ h. f (omega arith))
 
@@ -230,20 +154,20 @@ unfolding sameList
 same-list [] [] t = refl
 same-list (x ∷ xs) (y ∷ ys) t = let (a, b) = T-and (eqb x y) (sameList xs ys) t in ap₂ {C = List ℕ} (λ h r. h ∷ r) (eqb→eq x y a) (same-list xs ys b)
 
-words-from : (d : ℕ) (ps : List Block) (k : ℕ) (wss : List (List ℕ)) → T (wordsFrom d ps k wss) → (p : ℕ) → p < length wss
-    → (k + p < d) × (ascending (pairs d ps (k + p)) ≡ getD wss p [])
+words-from : (ps : List Block) (k : ℕ) (wss : List (List ℕ)) → T (wordsFrom ps k wss) → (p : ℕ) → p < length wss
+    → (k + p < length ps) × (pairList ps (k + p) ≡ getD wss p [])
 unfolding wordsFrom
-words-from d ps k [] t p b = absurd (omega arith)
-words-from d ps k (ws ∷ wss) t zero b =
-    let (x, y) = T-and (ltb k d) (sameList (ascending (pairs d ps k)) ws && wordsFrom d ps (suc k) wss) t in
-    let (y₁, _) = T-and (sameList (ascending (pairs d ps k)) ws) (wordsFrom d ps (suc k) wss) y in
-    (omega (arith, ltb→lt k d x), rw add-zero (same-list (ascending (pairs d ps k)) ws y₁))
-words-from d ps k (ws ∷ wss) t (suc p) b =
-    let (_, y) = T-and (ltb k d) (sameList (ascending (pairs d ps k)) ws && wordsFrom d ps (suc k) wss) t in
-    let (_, y₂) = T-and (sameList (ascending (pairs d ps k)) ws) (wordsFrom d ps (suc k) wss) y in
+words-from ps k [] t p b = absurd (omega arith)
+words-from ps k (ws ∷ wss) t zero b =
+    let (x, y) = T-and (ltb k (length ps)) (sameList (pairList ps k) ws && wordsFrom ps (suc k) wss) t in
+    let (y₁, _) = T-and (sameList (pairList ps k) ws) (wordsFrom ps (suc k) wss) y in
+    (omega (arith, ltb→lt k (length ps) x), rw add-zero (same-list (pairList ps k) ws y₁))
+words-from ps k (ws ∷ wss) t (suc p) b =
+    let (_, y) = T-and (ltb k (length ps)) (sameList (pairList ps k) ws && wordsFrom ps (suc k) wss) t in
+    let (_, y₂) = T-and (sameList (pairList ps k) ws) (wordsFrom ps (suc k) wss) y in
     let e : suc k + p ≡ k + suc p = omega arith in
-    let (l, is) = words-from d ps (suc k) wss y₂ p (omega arith) in
-    (omega arith, subst (λ n. ascending (pairs d ps n) ≡ getD wss p []) e is)
+    let (l, is) = words-from ps (suc k) wss y₂ p (omega arith) in
+    (omega arith, subst (λ n. pairList ps n ≡ getD wss p []) e is)
 
 agree-is : (a b : Bool) → T (agree a b) → a ≡ b
 agree-is true true t = refl
@@ -256,85 +180,78 @@ same-below (suc n) S R h t b =
     let (x, y) = T-and (agree (S n) (R n)) (sameBelow n S R) h in
     ⊎-elim (λ (e : t ≡ n). rw e (agree-is (S n) (R n) x)) (λ (l : t < n). same-below n S R y t l) (eq-or-lt-of-le (omega arith))
 
--- what an answer says
-abbrev pub Holds : List Block → List ℕ → Answer → Type 0
-Holds ps ns free = DeadlockFree ps ns
-Holds ps ns (deadlock es us) = (ts : List ThreadState) × (run ps (start ps ns) es ≡ some ts) × Largest ps ts (among us)
+module _ (plan : LockPlan) (ranked : Ranked plan (λ p. p)) where
+  abbrev ps : List Block
+  ps = plan .procs
 
-pub record Facts (c : Case) : Type 0 where
-  pub words : (p : ℕ) → p < length (c .words) → Ascends (getD (c .words) p []) × ((w : ℕ) → List·Memᴰ w (getD (c .words) p []) ↔ Critical (c .procs) p w)
-  pub answer : Holds (c .procs) (c .threads) (c .answer)
+  abbrev n : ℕ
+  n = length (plan .threads)
 
-module _ (ps : List Block) (ns : List ℕ) (plan : Sound ps (λ p. p)) where
   -- the stuck threads of a run that leads to ts are those of the list
-  stuck-are : (es us : List ℕ) → T (all (λ t. ltb t (length ns)) us) → T (stuckAre (length ns) ps us (run ps (start ps ns) es))
-      → (ts : List ThreadState) × (run ps (start ps ns) es ≡ some ts) × Largest ps ts (among us)
+  stuck-are : (es us : List ℕ) → T (all (λ t. ltb t n) us) → T (stuckAre n ps us (run ps (start ps (plan .threads)) es))
+      → length es ≤ threadSizes plan → Schedule plan es (among us)
   unfolding stuckAre
-  stuck-are es us small = go (run ps (start ps ns) es) refl
+  stuck-are es us small h short = go (run ps (start ps (plan .threads)) es) refl h
     where
-      go : (o : Option (List ThreadState)) → run ps (start ps ns) es ≡ o → T (stuckAre (length ns) ps us o) → (ts : List ThreadState) × (run ps (start ps ns) es ≡ some ts) × Largest ps ts (among us)
+      go : (o : Option (List ThreadState)) → run ps (start ps (plan .threads)) es ≡ o → T (stuckAre n ps us o) → Schedule plan es (among us)
       go (some ts) e h =
-          let n = length ns in
+          let bodies = plain-body (ranked .sound) in
           let (same, one) = T-and (sameBelow n (rounds n ps ts) (among us)) (any (rounds n ps ts) us) h in
-          let m = run-moment ps (plain-body plan) (start ps ns) ts es e (start-moment ps (plain-body plan) ns) in
-          let len : length ts ≡ n = run-length ps (start ps ns) ts es e ∙ start-length ps ns in
+          let m = run-invariant ps bodies (start ps (plan .threads)) ts es e (start-invariant ps bodies (plan .threads)) in
+          let len : length ts ≡ n = run-length ps (start ps (plan .threads)) ts es e ∙ start-length ps (plan .threads) in
           let is : rounds n ps ts ≡ among us = fun-ext (λ t. ⊎-elim
           (λ (b : t < n). same-below n (rounds n ps ts) (among us) same t b)
           (λ (b : n ≤ t). same-test (rounds n ps ts t) (among us t)
-          (λ r. absurd (omega (arith, rounds-in ps (plain-body plan) ts m n t r)))
+          (λ r. absurd (omega (arith, rounds-in ps bodies ts m n t r)))
           (λ a. let (v, i, q) = any-is (eqb t) us a in absurd (omega (arith, eqb→eq t v q, ltb→lt v n (all-mem (λ t. ltb t n) us small v i)))))
           (lt-or-le t n)) in
           let (u, _, r) = any-is (rounds n ps ts) us one in
-          (ts, e, subst (Largest ps ts) is (rounds-largest ps (plain-body plan) ts m n (omega arith) u r))
+          record { there = ts; reached = e; largest = subst (Largest ps ts) is (rounds-largest ps bodies ts m n (omega arith) u r); short = short }
 
-  module _ (d : ℕ) (few : length ns ≤ 8) (deep : (t : ℕ) → t < length ns → getD ns t 0 < d) where
-    answer-holds : (a : Answer) → T (answers d ps ns a) → Holds ps ns a
-    unfolding answers
-    answer-holds free h = verdict ps (λ p. p) plan ns few d deep .free .0 (T-not (conflicting (map (pairs d ps) ns)) h)
-    answer-holds (deadlock es us) h =
-        let test = stuckAre (length ns) ps us (run ps (start ps ns) es) in
-        let (_, y) = T-and (conflicting (map (pairs d ps) ns)) (all (λ t. ltb t (length ns)) us && test) h in
-        let (small, ends) = T-and (all (λ t. ltb t (length ns)) us) test y in
-        stuck-are es us small ends
+  answer-holds : (a : Answer) → T (answers plan a) → AnswerHolds plan a
+  unfolding answers
+  answer-holds free h = plan-characterisation plan (λ p. p) ranked .free .0 (T-not (conflicting (map (pairList ps) (plan .threads))) h)
+  answer-holds (deadlock es us) h =
+      let test = stuckAre n ps us (run ps (start ps (plan .threads)) es) in
+      let (short, y) = T-and (leb (length es) (threadSizes plan)) (all (λ t. ltb t n) us && test) h in
+      let (small, ends) = T-and (all (λ t. ltb t n) us) test y in
+      stuck-are es us small ends (leb→le (length es) (threadSizes plan) short)
 
 -- a case that passes
-pub passes-facts : (c : Case) → T (passes c) → Facts c
+pub passes-facts : (c : Case) → T (passes c) → CaseFacts c
 unfolding passes
 passes-facts c h =
-    let ps = c .procs in
-    let ns = c .threads in
-    let d = length ps in
-    let t₄ = answers d ps ns (c .answer) in
-    let t₃ = wordsFrom d ps 0 (c .words) && t₄ in
+    let ps = c .plan .procs in
+    let ns = c .plan .threads in
+    let t₄ = answers (c .plan) (c .answer) in
+    let t₃ = wordsFrom ps 0 (c .words) && t₄ in
     let t₂ = leb (length ns) 8 && t₃ in
-    let t₁ = all (λ n. ltb n d) ns && t₂ in
+    let t₁ = all (λ n. ltb n (length ps)) ns && t₂ in
     let (h₀, k₁) = T-and (soundFrom 0 ps) t₁ h in
-    let (h₁, k₂) = T-and (all (λ n. ltb n d) ns) t₂ k₁ in
+    let (h₁, k₂) = T-and (all (λ n. ltb n (length ps)) ns) t₂ k₁ in
     let (h₂, k₃) = T-and (leb (length ns) 8) t₃ k₂ in
-    let (h₃, h₄) = T-and (wordsFrom d ps 0 (c .words)) t₄ k₃ in
-    let plan = plan-sound ps h₀ in
+    let (h₃, h₄) = T-and (wordsFrom ps 0 (c .words)) t₄ k₃ in
+    let ranked : Ranked (c .plan) (λ p. p) = record {
+      sound = plan-sound ps h₀;
+      ranks = λ p b. b;
+      there = λ t b. ltb→lt (getD ns t 0) (length ps) (all-at (λ n. ltb n (length ps)) ns h₁ t b);
+      few = leb→le (length ns) 8 h₂;
+    } in
+    let listed : (p : ℕ) → p < length (c .words)
+    → (p < length ps) × (pairList ps p ≡ getD (c .words) p []) = λ p b. rw zero-add at (words-from ps 0 (c .words) h₃ p b) in
     record {
-      words = λ p b.
-          let (l, is) = words-from d ps 0 (c .words) h₃ p b in
-          let e : ascending (pairs d ps p) ≡ getD (c .words) p [] = rw zero-add at is in
-          let k : p < d = omega arith in
-          rw (← e) (
-            ascends (pairs d ps p),
-            λ w. (
-              λ m. (sound ps (λ p. p) plan d p w k (mem-ascending (pairs d ps p) w m)) .0,
-              λ q. ascending-mem (pairs d ps p) w (complete ps (λ p. p) plan d p w k q),
-            ),
-          );
-      answer = answer-holds ps ns plan d (leb→le (length ns) 8 h₂) (λ t b. ltb→lt (getD ns t 0) d (all-at (λ n. ltb n d) ns h₁ t b)) (c .answer) h₄;
+      words = λ p b. sym (listed p b .1);
+      critical = λ p b w. rw (← listed p b .1) (pair-list-critical ps (λ p. p) (ranked .sound) p (listed p b .0) w);
+      answer = answer-holds (c .plan) ranked (c .answer) h₄;
     }
 
-pub cases-facts : (cs : List Case) → T (allPass cs) → (c : Case) → List·Memᴰ c cs → Facts c
+pub cases-facts : (cs : List Case) → T (allPass cs) → (c : Case) → List·Memᴰ c cs → CaseFacts c
 unfolding allPass
 cases-facts [] h c m = absurd (List·Memᴰ·not-nil m)
 cases-facts (x ∷ cs) h c m =
     let (a, b) = T-and (passes x) (allPass cs) h in
-    ⊎-elim (λ (e : c ≡ x). subst Facts (sym e) (passes-facts x a)) (λ n. cases-facts cs b c n) (List·Memᴰ·cases-cons m)
+    ⊎-elim (λ (e : c ≡ x). subst CaseFacts (sym e) (passes-facts x a)) (λ n. cases-facts cs b c n) (List·Memᴰ·cases-cons m)
 
 -- so every case of the table is as expected
-pub table-facts : (c : Case) → List·Memᴰ c table → Facts c
-table-facts = cases-facts table table-passes
+pub case-facts : (c : Case) → List·Memᴰ c cases → CaseFacts c
+case-facts = cases-facts cases table-passes

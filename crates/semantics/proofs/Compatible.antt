@@ -1,5 +1,5 @@
--- Which counts two threads can have at once (`compatible`), from which locks a thread `Blocks` the others, and which are `fresh` to it: for counts, then for
--- sets of locks. What follows in other modules uses these laws alone, and does not look inside.
+-- Which counts two threads can have at once (`compatible`), from which locks a thread `Excludes` the others, and which are `fresh` to it: for counts,
+-- then for sets of locks. What follows in other modules uses these laws alone, and does not look inside.
 use Prim.Native.Nat.{ℕ, zero, suc, _<_, max}
 use mathlib.Core.Bool.{Bool, true, not, _&&_}
 use mathlib.Core.List.{List, [], _∷_}
@@ -15,61 +15,62 @@ use Rattle.semantics.specs.Pairs.{held, fresh}
 use Rattle.laws.proofs.Tests.{T-and, and-T, T-dec, same-test}
 use Rattle.laws.specs.Mask.{bit}
 use Rattle.laws.proofs.Bits.{bit-none, bit-or, disjoint, of-disjoint}
-use Rattle.semantics.proofs.Masks.{bit-of-free, free-bit, has-bit, bit-has}
-use Rattle.semantics.proofs.Balance.{no-count}
+use Rattle.semantics.proofs.LockSets.{free-digit, digit-free, positive-digit, digit-positive}
+use Rattle.semantics.proofs.Balance.{unlocked-count}
 
-abbrev pub Has : List ℕ → ℕ → Type 0
-Has cs l = 0 < getD cs l 0
+abbrev pub HasLock : List ℕ → ℕ → Type 0
+HasLock cs l = 0 < getD cs l 0
 
 -- who has the counts cs keeps the others from beginning a hold of l
-abbrev pub Blocks : List ℕ → ℕ → Type 0
-Blocks cs l = 0 < getD cs l 0
+abbrev pub Excludes : List ℕ → ℕ → Type 0
+Excludes cs l = 0 < getD cs l 0
 
-pub blocks-nothing : (l : ℕ) → Blocks [] l → ⊥
-blocks-nothing l h = not-suc-le-zero h
+pub empty-excludes-none : (l : ℕ) → Excludes [] l → ⊥
+empty-excludes-none l h = not-suc-le-zero h
 
-pub blocks-unlocked : (l : ℕ) → Blocks unlocked l → ⊥
-blocks-unlocked l h = omega (arith, no-count l 32)
+pub unlocked-excludes-none : (l : ℕ) → Excludes unlocked l → ⊥
+unlocked-excludes-none l h = omega (arith, unlocked-count l 32)
 
 -- what is not compatible has such a lock
-pub clash : (cs ds : List ℕ) → T (compatible cs ds) ⊎ ((l : ℕ) × Has cs l × Blocks ds l)
+pub compatible-or-contended : (cs ds : List ℕ) → T (compatible cs ds) ⊎ ((l : ℕ) × HasLock cs l × Excludes ds l)
 unfolding compatible
-clash [] ds = inl tt
-clash (c ∷ cs) [] = inl tt
-clash (c ∷ cs) (d ∷ ds) =
+compatible-or-contended [] ds = inl tt
+compatible-or-contended (c ∷ cs) [] = inl tt
+compatible-or-contended (c ∷ cs) (d ∷ ds) =
     ⊎-elim
     (λ (h : T (ltb 0 c && ltb 0 d)). let (x, y) = T-and (ltb 0 c) (ltb 0 d) h in inr (0, ltb→lt 0 c x, ltb→lt 0 d y))
     (λ (n : T (ltb 0 c && ltb 0 d) → ⊥).
     ⊎-elim (λ t. inl (and-T (not (ltb 0 c && ltb 0 d)) (compatible cs ds) (not-T (ltb 0 c && ltb 0 d) n) t))
-    (λ (r : (l : ℕ) × Has cs l × Blocks ds l). inr (suc (r .0), r .1, r .2)) (clash cs ds))
+    (λ (r : (l : ℕ) × HasLock cs l × Excludes ds l). inr (suc (r .0), r .1, r .2)) (compatible-or-contended cs ds))
     (T-dec (ltb 0 c && ltb 0 d))
 
-pub compatible-says : (cs ds : List ℕ) → T (compatible cs ds) → (l : ℕ) → Has cs l → Blocks ds l → ⊥
+pub compatible-not-contended : (cs ds : List ℕ) → T (compatible cs ds) → (l : ℕ) → HasLock cs l → Excludes ds l → ⊥
 unfolding compatible
-compatible-says [] ds t l g h = not-suc-le-zero g
-compatible-says (c ∷ cs) [] t l g h = not-suc-le-zero h
-compatible-says (c ∷ cs) (d ∷ ds) t zero g h =
+compatible-not-contended [] ds t l g h = not-suc-le-zero g
+compatible-not-contended (c ∷ cs) [] t l g h = not-suc-le-zero h
+compatible-not-contended (c ∷ cs) (d ∷ ds) t zero g h =
     let (x, _) = T-and (not (ltb 0 c && ltb 0 d)) (compatible cs ds) t in
     T-not (ltb 0 c && ltb 0 d) x (and-T (ltb 0 c) (ltb 0 d) (lt→ltb 0 c g) (lt→ltb 0 d h))
-compatible-says (c ∷ cs) (d ∷ ds) t (suc l) g h =
-    compatible-says cs ds ((T-and (not (ltb 0 c && ltb 0 d)) (compatible cs ds) t) .1) l g h
+compatible-not-contended (c ∷ cs) (d ∷ ds) t (suc l) g h =
+    compatible-not-contended cs ds ((T-and (not (ltb 0 c && ltb 0 d)) (compatible cs ds) t) .1) l g h
 
 pub compatible-sym : (cs ds : List ℕ) → T (compatible cs ds) → T (compatible ds cs)
 compatible-sym cs ds t =
-    ⊎-elim (λ r. r) (λ (r : (l : ℕ) × Has ds l × Blocks cs l). absurd (compatible-says cs ds t (r .0) (r .2) (r .1))) (clash ds cs)
+    ⊎-elim (λ r. r) (λ (r : (l : ℕ) × HasLock ds l × Excludes cs l). absurd (compatible-not-contended cs ds t (r .0) (r .2) (r .1)))
+    (compatible-or-contended ds cs)
 
--- what another blocks, this thread does not have
-pub blocked-not-had : (cs ds : List ℕ) → T (compatible cs ds) → (l : ℕ) → Blocks ds l → getD cs l 0 ≡ 0
-blocked-not-had cs ds t l h = ⊎-elim (λ z. z) (λ g. absurd (compatible-says cs ds t l g h)) (eq-zero-or-pos (getD cs l 0))
+-- a thread does not hold a lock from which another excludes it
+pub excluded-not-held : (cs ds : List ℕ) → T (compatible cs ds) → (l : ℕ) → Excludes ds l → getD cs l 0 ≡ 0
+excluded-not-held cs ds t l h = ⊎-elim (λ z. z) (λ g. absurd (compatible-not-contended cs ds t l g h)) (eq-zero-or-pos (getD cs l 0))
 
--- and it is fresh to it
-pub blocked-fresh : (cs ds : List ℕ) → T (compatible cs ds) → (l : ℕ) → Blocks ds l → T (fresh cs l)
-blocked-fresh cs ds t l h = rw (blocked-not-had cs ds t l h) tt
+-- and the lock is fresh to it
+pub excluded-fresh : (cs ds : List ℕ) → T (compatible cs ds) → (l : ℕ) → Excludes ds l → T (fresh cs l)
+excluded-fresh cs ds t l h = rw (excluded-not-held cs ds t l h) tt
 
 -- ---- the same of sets of locks
 
-abbrev pub BlocksIn : ℕ → ℕ → Type 0
-BlocksIn m l = bit m l ≡ 1
+abbrev pub ExcludesIn : ℕ → ℕ → Type 0
+ExcludesIn m l = bit m l ≡ 1
 
 abbrev pub CompatibleIn : ℕ → ℕ → Type 0
 CompatibleIn m n = bitAnd m n ≡ 0
@@ -77,21 +78,23 @@ CompatibleIn m n = bitAnd m n ≡ 0
 abbrev pub freshIn : ℕ → ℕ → Bool
 freshIn m l = eqb (bit m l) 0
 
-pub blocks-held : (cs : List ℕ) (l : ℕ) → (Blocks cs l → BlocksIn (held cs) l) × (BlocksIn (held cs) l → Blocks cs l)
-blocks-held cs l = (has-bit cs l, bit-has cs l)
+pub excludes-held : (cs : List ℕ) (l : ℕ) → (Excludes cs l → ExcludesIn (held cs) l) × (ExcludesIn (held cs) l → Excludes cs l)
+excludes-held cs l = (positive-digit cs l, digit-positive cs l)
 
 pub compatible-held : (cs ds : List ℕ) → CompatibleIn (held cs) (held ds) → T (compatible cs ds)
 compatible-held cs ds e = ⊎-elim (λ t. t)
-    (λ (r : (l : ℕ) × Has cs l × Blocks ds l). absurd (omega (arith, of-disjoint (held cs) (held ds) e (r .0) (has-bit cs (r .0) (r .1)), has-bit ds (r .0) (r .2))))
-    (clash cs ds)
+    (λ (r : (l : ℕ) × HasLock cs l × Excludes ds l). absurd
+    (omega (arith, of-disjoint (held cs) (held ds) e (r .0) (positive-digit cs (r .0) (r .1)), positive-digit ds (r .0) (r .2))))
+    (compatible-or-contended cs ds)
 
 pub held-compatible : (cs ds : List ℕ) → T (compatible cs ds) → CompatibleIn (held cs) (held ds)
-held-compatible cs ds t = disjoint (held cs) (held ds) (λ l. ⊎-elim (λ z. inl (bit-of-free cs l z))
-    (λ h. ⊎-elim (λ z. inr (bit-of-free ds l z)) (λ g. absurd (compatible-says cs ds t l h g)) (eq-zero-or-pos (getD ds l 0))) (eq-zero-or-pos (getD cs l 0)))
+held-compatible cs ds t = disjoint (held cs) (held ds) (λ l. ⊎-elim (λ z. inl (free-digit cs l z))
+    (λ h. ⊎-elim (λ z. inr (free-digit ds l z)) (λ g. absurd (compatible-not-contended cs ds t l h g)) (eq-zero-or-pos (getD ds l 0)))
+    (eq-zero-or-pos (getD cs l 0)))
 
-pub fresh-in : (cs : List ℕ) (l : ℕ) → freshIn (held cs) l ≡ fresh cs l
-fresh-in cs l = same-test (freshIn (held cs) l) (fresh cs l)
-    (λ t. rw (free-bit cs l (eqb→eq (bit (held cs) l) 0 t)) tt) (λ t. rw (bit-of-free cs l (eqb→eq (getD cs l 0) 0 t)) tt)
+pub fresh-held : (cs : List ℕ) (l : ℕ) → freshIn (held cs) l ≡ fresh cs l
+fresh-held cs l = same-test (freshIn (held cs) l) (fresh cs l)
+    (λ t. rw (digit-free cs l (eqb→eq (bit (held cs) l) 0 t)) tt) (λ t. rw (free-digit cs l (eqb→eq (getD cs l 0) 0 t)) tt)
 
 pub fresh-or : (m n l : ℕ) → freshIn (bitOr m n) l ≡ (freshIn n l && freshIn m l)
 fresh-or m n l = rw bit-or (same-test (eqb (max (bit m l) (bit n l)) 0) (freshIn n l && freshIn m l)

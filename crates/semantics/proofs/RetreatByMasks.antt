@@ -11,61 +11,78 @@ use Rattle.semantics.specs.Plan.{Block, bodyIn}
 use Rattle.semantics.specs.Run.{ThreadState, compatible, apart, everyone}
 use Rattle.semantics.specs.Pairs.{held}
 use Rattle.laws.proofs.Tests.{lt-or-le}
-use Rattle.semantics.proofs.Moves.{moves}
-use Rattle.semantics.proofs.Balance.{balanced-plain, falls}
-use Rattle.semantics.proofs.Execution.{last-without}
+use Rattle.semantics.proofs.Transitions.{move-transition}
+use Rattle.semantics.proofs.Balance.{balanced-plain, zero-by-end}
+use Rattle.semantics.proofs.MatchingHold.{matching-hold-scan}
 use Rattle.semantics.proofs.Compatible.{CompatibleIn, compatible-held, held-compatible}
-use Rattle.semantics.proofs.Apart.{nth, counts, with-nothing, apart→, apart←, Bar, barred-or, bar-refuses}
-use Rattle.semantics.proofs.Retreat.{Executions, joint, earlier, Lowered, Back, joint-counts, in-joint, beyond, state-balanced, last-step}
+use Rattle.semantics.proofs.Apart.{nth, counts, compatible-empty, apart→, apart←, Clash, apart-or-clash, clash-not-apart}
+use Rattle.semantics.proofs.JointStates.{Executions, joint, earlier, joint-counts, in-joint, joint-absent, state-balanced, last-step}
+use Rattle.semantics.proofs.RetreatStep.{Lowered}
+use Rattle.semantics.proofs.RetreatJump.{MatchingBegin}
 
 -- ---- the locks that a thread holds, as a mask
 
-abbrev pub mask : ThreadState → ℕ
-mask x = held (x .count)
+abbrev pub heldMask : ThreadState → ℕ
+heldMask x = held (x .count)
 
-pub apart-of-masks : (ts : List ThreadState) → ((i k : ℕ) → i ≢ k → CompatibleIn (mask (nth ts i)) (mask (nth ts k))) → T (apart everyone ts)
+pub apart-of-masks : (ts : List ThreadState) → ((i k : ℕ) → i ≢ k → CompatibleIn (heldMask (nth ts i)) (heldMask (nth ts k))) → T (apart everyone ts)
 apart-of-masks ts h = apart← everyone ts (λ i k d _ _. compatible-held (counts ts i) (counts ts k) (h i k d))
 
-pub masks-of-apart : (ts : List ThreadState) → T (apart everyone ts) → (i k : ℕ) → i ≢ k → CompatibleIn (mask (nth ts i)) (mask (nth ts k))
+pub masks-of-apart : (ts : List ThreadState) → T (apart everyone ts) → (i k : ℕ) → i ≢ k → CompatibleIn (heldMask (nth ts i)) (heldMask (nth ts k))
 masks-of-apart ts a i k d = held-compatible (counts ts i) (counts ts k) (apart→ everyone ts a i k d tt tt)
 
 -- ---- positions in a list
 
-abbrev pub at : List ℕ → ℕ → ℕ
-at js i = getD js i 0
+abbrev pub positionOf : List ℕ → ℕ → ℕ
+positionOf js i = getD js i 0
 
-pub lowered-set : (js : List ℕ) (k : ℕ) → k < length js → 0 < at js k → Lowered k (at js) (at (set js k (at js k - 1)))
+pub lowered-set : (js : List ℕ) (k : ℕ) → k < length js → 0 < positionOf js k → Lowered k (positionOf js) (positionOf (set js k (positionOf js k - 1)))
 lowered-set js k b o = record {
-  one-less = rw (getD-set-same js k (at js k - 1) 0 b) (omega arith);
-  others = λ i d. getD-set-other js k i (at js k - 1) 0 d;
+  one-less = rw (getD-set-same js k (positionOf js k - 1) 0 b) (omega arith);
+  others = λ i d. getD-set-other js k i (positionOf js k - 1) 0 d;
 }
 
 module _ {ps : List Block} {n : ℕ} {P : ℕ → List ℕ} {s : ℕ → ℕ → ThreadState} (x : Executions ps n P s) where
   module _ (j : ℕ → ℕ) (w : (i : ℕ) → i < n → j i ≤ length (P i)) (a : T (apart everyone (joint n s j))) (k : ℕ) (b : k < n) (o : 0 < j k) where
     -- thread k may go back by a step just if what it held then is held by no other
-    pub may-go-back : ((i : ℕ) → i < n → i ≢ k → CompatibleIn (mask (s k (j k - 1))) (mask (s i (j i)))) → T (apart everyone (earlier n s j k))
-    may-go-back h =
+    pub step-back-permitted : ((i : ℕ) → i < n → i ≢ k → CompatibleIn (heldMask (s k (j k - 1))) (heldMask (s i (j i))))
+        → T (apart everyone (earlier n s j k))
+    step-back-permitted h =
         ⊎-elim (λ t. t)
-        (λ (r : Bar everyone (joint n s j) k (s k (j k - 1))).
+        (λ (r : Clash everyone (joint n s j) k (s k (j k - 1))).
         ⊎-elim
-        (λ (b : r .other < n). absurd (r .against (rw (joint-counts x j (r .other) b) (compatible-held ((s k (j k - 1)) .count) ((s (r .other) (j (r .other))) .count) (h (r .other) b (r .differs))))))
-        (λ (b : n ≤ r .other). absurd (r .against (subst (λ y. T (compatible ((s k (j k - 1)) .count) (y .count))) (sym (beyond x j (r .other) b)) (with-nothing ((s k (j k - 1)) .count)))))
+        (λ (b : r .other < n). absurd (r .against
+        (rw (joint-counts x j (r .other) b)
+        (compatible-held ((s k (j k - 1)) .count) ((s (r .other) (j (r .other))) .count) (h (r .other) b (r .differs))))))
+        (λ (b : n ≤ r .other). absurd (r .against
+        (subst (λ y. T (compatible ((s k (j k - 1)) .count) (y .count))) (sym (joint-absent x j (r .other) b))
+        (compatible-empty ((s k (j k - 1)) .count)))))
         (lt-or-le (r .other) n))
-        (barred-or everyone (joint n s j) k (s k (j k - 1)) (in-joint x j k b) (apart→ everyone (joint n s j) a))
+        (apart-or-clash everyone (joint n s j) k (s k (j k - 1)) (in-joint x j k b) (apart→ everyone (joint n s j) a))
 
-    pub may-not-go-back : (i : ℕ) → i < n → i ≢ k → (CompatibleIn (mask (s k (j k - 1))) (mask (s i (j i))) → ⊥) → T (apart everyone (earlier n s j k)) → ⊥
-    may-not-go-back i c d e t =
-        bar-refuses everyone (joint n s j) k (s k (j k - 1)) (in-joint x j k b) tt
-        (record { other = i; differs = d; member = tt; against = λ q. e (held-compatible ((s k (j k - 1)) .count) ((s i (j i)) .count) (rw (joint-counts x j i c) at q)) })
+    pub step-back-refused : (i : ℕ) → i < n → i ≢ k → (CompatibleIn (heldMask (s k (j k - 1))) (heldMask (s i (j i))) → ⊥)
+        → T (apart everyone (earlier n s j k)) → ⊥
+    step-back-refused i c d e t =
+        clash-not-apart everyone (joint n s j) k (s k (j k - 1)) (in-joint x j k b) tt
+        (record {
+          other = i;
+          differs = d;
+          member = tt;
+          against = λ q. e
+              (held-compatible ((s k (j k - 1)) .count) ((s i (j i)) .count) (rw (joint-counts x j i c) at q));
+        })
         t
 
     -- where the last step gave up lock l, the place to go back to is the last at which l was not held
-    pub scan-back : (l h : ℕ) → 0 < getD ((s k (j k - 1)) .count) l 0 → getD ((s k (j k)) .count) l 0 ≡ 0 → h < j k - 1 → getD ((s k h) .count) l 0 ≡ 0
-        → ((i : ℕ) → h < i → i < j k → 0 < getD ((s k i) .count) l 0) → Back (s k) (j k) h
-    scan-back l h g z c without between =
+    pub matching-begin-scan : (l h : ℕ) → 0 < getD ((s k (j k - 1)) .count) l 0 → getD ((s k (j k)) .count) l 0 ≡ 0 → h < j k - 1
+        → getD ((s k h) .count) l 0 ≡ 0
+        → ((i : ℕ) → h < i → i < j k → 0 < getD ((s k i) .count) l 0) → MatchingBegin (s k) (j k) h
+    matching-begin-scan l h g z c without between =
         let e : suc (j k - 1) ≡ j k = omega arith in
-        let f = falls ps (x .bodies) (moves ps (getD (P k) (j k - 1) 0) ((s k (j k - 1)) .rest) ((s k (j k - 1)) .count) (s k (j k)) (last-step x j k b o (w k b)))
+        let f = zero-by-end ps (x .bodies)
+        (move-transition ps (getD (P k) (j k - 1) 0) ((s k (j k - 1)) .rest) ((s k (j k - 1)) .count) (s k (j k)) (last-step x j k b o (w k b)))
         (state-balanced x k (j k - 1) b (omega (arith, w k b))) l g z in
-        let r = last-without (x .bodies) (x .bodies (x .proc k)) (balanced-plain (bodyIn ps (x .proc k)) (x .bodies (x .proc k))) (x .runs k b) l (f .0) (j k - 1) (omega (arith, w k b)) (f .1)
+        let r = matching-hold-scan (x .bodies) (x .bodies (x .proc k)) (balanced-plain (bodyIn ps (x .proc k)) (x .bodies (x .proc k)))
+        (x .runs k b) l (f .0) (j k - 1) (omega (arith, w k b)) (f .1)
         (ap (λ a. (s k a) .rest) e ∙ f .2) (ap (λ a. getD ((s k a) .count) l 0) e ∙ z) h c without (λ i u v. between i u (omega arith)) in
         record { earlier = omega arith; lock = l; inside = r .0; following = f .0; stands = r .1; ended = f .1; same = r .2 ∙ ap (λ a. (s k a) .count) e }

@@ -9,7 +9,7 @@ use lib.ListN.{length, set, length-set}
 use lib.Seq.{ext-getD, getD-set-same, getD-set-other}
 use Rattle.semantics.specs.Run.{ThreadState}
 use Rattle.laws.proofs.Tests.{eq-or-ne}
-use Rattle.semantics.proofs.Apart.{nth, nobody}
+use Rattle.semantics.proofs.Apart.{nth, absentThread}
 
 -- f 0, f 1, .. f (n - 1)
 unfoldable pub table : ℕ → (ℕ → ThreadState) → List ThreadState
@@ -30,15 +30,16 @@ nth-table (suc n) f (suc i) h = nth-table n (λ i. f (suc i)) i (le-of-suc-le-su
 -- a list of n threads is the table of what stands in it
 pub is-table : (n : ℕ) (f : ℕ → ThreadState) (ts : List ThreadState) → length ts ≡ n → ((i : ℕ) → i < n → nth ts i ≡ f i) → ts ≡ table n f
 is-table n f ts e h =
-    ext-getD nobody ts (table n f) (e ∙ sym (length-table n f))
+    ext-getD absentThread ts (table n f) (e ∙ sym (length-table n f))
     (λ i b. let c : i < n = subst (λ m. i < m) e b in h i c ∙ sym (nth-table n f i c))
 
 pub set-table : (n : ℕ) (f g : ℕ → ThreadState) (k : ℕ) → k < n → ((i : ℕ) → i ≢ k → f i ≡ g i) → set (table n f) k (g k) ≡ table n g
 set-table n f g k b h =
     is-table n g (set (table n f) k (g k)) (length-set (table n f) k (g k) ∙ length-table n f)
     (λ i c. ⊎-elim
-    (λ (e : i ≡ k). ap (nth (set (table n f) k (g k))) e ∙ getD-set-same (table n f) k (g k) nobody (subst (λ m. k < m) (sym (length-table n f)) b) ∙ ap g (sym e))
-    (λ (d : i ≢ k). getD-set-other (table n f) k i (g k) nobody d ∙ nth-table n f i c ∙ h i d)
+    (λ (e : i ≡ k). ap (nth (set (table n f) k (g k))) e
+    ∙ getD-set-same (table n f) k (g k) absentThread (subst (λ m. k < m) (sym (length-table n f)) b) ∙ ap g (sym e))
+    (λ (d : i ≢ k). getD-set-other (table n f) k i (g k) absentThread d ∙ nth-table n f i c ∙ h i d)
     (eq-or-ne i k))
 
 -- j 0 + .. + j (n - 1)

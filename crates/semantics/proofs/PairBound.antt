@@ -7,11 +7,10 @@ use native.Mathlib.Omega.{arith}
 use lib.ListN.{length, length-append}
 use Rattle.semantics.specs.Plan.{Block, done, skip, call, hold, loop, either, end, bodyIn, WellFormed, Sound}
 use Rattle.semantics.specs.Run.{up, down, unlocked}
-use Rattle.semantics.specs.Pairs.{wordOf, held, fresh, pairsWith, pairsAt, pairs}
-use Rattle.semantics.specs.Sizes.{sizeWith, sizeAt}
+use Rattle.semantics.specs.Pairs.{wordOf, held, fresh, pairsWith, pairsAt, pairs, pairList}
+use Rattle.semantics.specs.Sizes.{sizeWith, sizeAt, sizeOf}
 use Rattle.laws.proofs.Tests.{lt-or-le}
-use Rattle.semantics.proofs.Blocks.{absent}
-use Rattle.laws.specs.Ascending.{ascending}
+use Rattle.semantics.proofs.Remainders.{absent-body}
 use Rattle.laws.proofs.Ascending.{ascending-length}
 
 -- the number of holds, those of called procedures at each call; h p is that of procedure p
@@ -33,22 +32,23 @@ one x true = omega arith
 one x false = omega arith
 
 -- at most one word for each hold
-pub pairs-few : (f : ℕ → List ℕ → List ℕ) (h : ℕ → ℕ) → ((p : ℕ) (cs : List ℕ) → length (f p cs) ≤ h p) → (cs : List ℕ) (b : Block)
+pub pairs-le-holds : (f : ℕ → List ℕ → List ℕ) (h : ℕ → ℕ) → ((p : ℕ) (cs : List ℕ) → length (f p cs) ≤ h p) → (cs : List ℕ) (b : Block)
     → length (pairsWith f cs b) ≤ holdsWith h b
 unfolding pairsWith holdsWith
-pairs-few f h e cs done = omega arith
-pairs-few f h e cs (skip r) = pairs-few f h e cs r
-pairs-few f h e cs (call p r) = simp length-append (omega (arith, e p cs, pairs-few f h e cs r))
-pairs-few f h e cs (hold l b r) =
-    simp length-append (omega (arith, one (wordOf (held cs) l) (fresh cs l), pairs-few f h e (up l cs) b, pairs-few f h e cs r))
-pairs-few f h e cs (loop b r) = simp length-append (omega (arith, pairs-few f h e cs b, pairs-few f h e cs r))
-pairs-few f h e cs (either a b r) = simp length-append (omega (arith, pairs-few f h e cs a, pairs-few f h e cs b, pairs-few f h e cs r))
-pairs-few f h e cs (end l r) = pairs-few f h e (down l cs) r
+pairs-le-holds f h e cs done = omega arith
+pairs-le-holds f h e cs (skip r) = pairs-le-holds f h e cs r
+pairs-le-holds f h e cs (call p r) = simp length-append (omega (arith, e p cs, pairs-le-holds f h e cs r))
+pairs-le-holds f h e cs (hold l b r) =
+    simp length-append (omega (arith, one (wordOf (held cs) l) (fresh cs l), pairs-le-holds f h e (up l cs) b, pairs-le-holds f h e cs r))
+pairs-le-holds f h e cs (loop b r) = simp length-append (omega (arith, pairs-le-holds f h e cs b, pairs-le-holds f h e cs r))
+pairs-le-holds f h e cs (either a b r) = simp length-append
+    (omega (arith, pairs-le-holds f h e cs a, pairs-le-holds f h e cs b, pairs-le-holds f h e cs r))
+pairs-le-holds f h e cs (end l r) = pairs-le-holds f h e (down l cs) r
 
-pub pairs-few-at : (d : ℕ) (ps : List Block) (p : ℕ) (cs : List ℕ) → length (pairsAt d ps p cs) ≤ holdsAt d ps p
+pub pairs-le-holds-at : (d : ℕ) (ps : List Block) (p : ℕ) (cs : List ℕ) → length (pairsAt d ps p cs) ≤ holdsAt d ps p
 unfolding pairsAt holdsAt
-pairs-few-at zero ps p cs = omega arith
-pairs-few-at (suc d) ps p cs = pairs-few (pairsAt d ps) (holdsAt d ps) (pairs-few-at d ps) cs (bodyIn ps p)
+pairs-le-holds-at zero ps p cs = omega arith
+pairs-le-holds-at (suc d) ps p cs = pairs-le-holds (pairsAt d ps) (holdsAt d ps) (pairs-le-holds-at d ps) cs (bodyIn ps p)
 
 -- 1 for a block that is not empty
 abbrev least : Bool → ℕ
@@ -67,7 +67,14 @@ holds-size h s k e (skip r) w = omega (arith, least-le e, holds-size h s k true 
 holds-size h s k e (call p r) w = omega (arith, least-le e, k p, holds-size h s k true r w)
 holds-size h s k e (hold l b r) w = omega (arith, least-le e, holds-size h s k false b (w .0), holds-size h s k true r (w .1))
 holds-size h s k e (loop b r) w = omega (arith, least-le e, holds-size h s k false b (w .0), holds-size h s k true r (w .1))
-holds-size h s k e (either a b r) w = omega (arith, least-le e, holds-size h s k false a (w .0), holds-size h s k false b (w .1), holds-size h s k true r (w .2))
+holds-size h s k e (either a b r) w = omega (
+  arith,
+  least-le e,
+  holds-size h s k false a (w .0),
+  holds-size h s k false b
+      (w .1),
+  holds-size h s k true r (w .2),
+)
 holds-size h s k e (end l r) f = absurd f
 
 module _ (ps : List Block) (rank : ℕ → ℕ) (s : Sound ps rank) where
@@ -76,14 +83,20 @@ module _ (ps : List Block) (rank : ℕ → ℕ) (s : Sound ps rank) where
   holds-size-at zero p = omega arith
   holds-size-at (suc d) p =
       ⊎-elim (λ (b : p < length ps). omega (arith, holds-size (holdsAt d ps) (sizeAt d ps) (holds-size-at d) false (bodyIn ps p) (s .filled p b)))
-      (λ (b : length ps ≤ p). rw (absent ps p b) (omega arith))
+      (λ (b : length ps ≤ p). rw (absent-body ps p b) (omega arith))
       (lt-or-le p (length ps))
 
-  pub few : (d p : ℕ) → p < length ps → 0 < d → 2 * length (pairs d ps p) < sizeAt d ps p
+  pub pairs-bound : (d p : ℕ) → p < length ps → 0 < d → 2 * length (pairs d ps p) < sizeAt d ps p
   unfolding holdsAt sizeAt
-  few zero p b z = absurd (omega arith)
-  few (suc d) p b z = omega (arith, pairs-few-at (suc d) ps p unlocked, holds-size (holdsAt d ps) (sizeAt d ps) (holds-size-at d) false (bodyIn ps p) (s .filled p b))
+  pairs-bound zero p b z = absurd (omega arith)
+  pairs-bound (suc d) p b z = omega (
+    arith,
+    pairs-le-holds-at (suc d) ps p unlocked,
+    holds-size (holdsAt d ps) (sizeAt d ps) (holds-size-at d) false
+        (bodyIn ps p) (s .filled p b),
+  )
 
-  -- so a procedure of size 1,024 at most has at most 511 different words
-  pub few-distinct : (d p : ℕ) → p < length ps → 0 < d → sizeAt d ps p ≤ 1024 → length (ascending (pairs d ps p)) ≤ 511
-  few-distinct d p b z le = omega (arith, few d p b z, ascending-length (pairs d ps p))
+  -- 2 × pairs + 1 ≤ size
+  pub pair-list-bound : (p : ℕ) → p < length ps → 2 * length (pairList ps p) + 1 ≤ sizeOf ps p
+  unfolding pairList sizeOf
+  pair-list-bound p b = omega (arith, pairs-bound (length ps) p b (omega arith), ascending-length (pairs (length ps) ps p))

@@ -1,8 +1,7 @@
 -- Blocks as read and remainders of threads. A remainder is a block as read in which holds have begun, so that `end`s stand at its top level alone.
--- What is computed of a procedure through its calls does not depend on the depth, once that is above the rank (`depth-solves`).
 use Prim.Native.Nat.{ℕ, zero, suc, _+_, _-_, _<_, _≤_}
 use mathlib.Core.List.{List, [], _∷_}
-use mathlib.Core.Path.{_≡_, refl, ap, sym, _∙_}
+use mathlib.Core.Path.{_≡_, refl, ap}
 use native.Mathlib.Omega.{arith}
 use native.Mathlib.Decide.{decLt}
 use lib.ListN.{length, getD, set, length-set}
@@ -20,11 +19,11 @@ unfolding _⨾_
 ⨾-done (either a b r) = ap (either a b) (⨾-done r)
 ⨾-done (end l r) = ap (end l) (⨾-done r)
 
-pub absent : (ps : List Block) (p : ℕ) → length ps ≤ p → bodyIn ps p ≡ done
+pub absent-body : (ps : List Block) (p : ℕ) → length ps ≤ p → bodyIn ps p ≡ done
 unfolding bodyIn
-absent [] p h = refl
-absent (b ∷ ps) zero h = absurd (omega arith)
-absent (b ∷ ps) (suc p) h = absent ps p (omega arith)
+absent-body [] p h = refl
+absent-body (b ∷ ps) zero h = absurd (omega arith)
+absent-body (b ∷ ps) (suc p) h = absent-body ps p (omega arith)
 
 -- to end what was begun leaves the counts as they were
 pub down-up : (l : ℕ) (cs : List ℕ) → down l (up l cs) ≡ cs
@@ -46,18 +45,18 @@ unfolding down
 length-down l cs = simp length-set
 
 -- calls that meet C and so meet D
-pub written-to : (C D : ℕ → Type 0) → ((p : ℕ) → C p → D p) → (b : Block) → Written C b → Written D b
+pub written-weaken : (C D : ℕ → Type 0) → ((p : ℕ) → C p → D p) → (b : Block) → Written C b → Written D b
 unfolding Written
-written-to C D h done w = tt
-written-to C D h (skip r) w = written-to C D h r w
-written-to C D h (call p r) w = (h p (w .0), written-to C D h r (w .1))
-written-to C D h (hold l b r) w = (w .0, written-to C D h b (w .1), written-to C D h r (w .2))
-written-to C D h (loop b r) w = (written-to C D h b (w .0), written-to C D h r (w .1))
-written-to C D h (either a b r) w = (written-to C D h a (w .0), written-to C D h b (w .1), written-to C D h r (w .2))
-written-to C D h (end l r) w = absurd w
+written-weaken C D h done w = tt
+written-weaken C D h (skip r) w = written-weaken C D h r w
+written-weaken C D h (call p r) w = (h p (w .0), written-weaken C D h r (w .1))
+written-weaken C D h (hold l b r) w = (w .0, written-weaken C D h b (w .1), written-weaken C D h r (w .2))
+written-weaken C D h (loop b r) w = (written-weaken C D h b (w .0), written-weaken C D h r (w .1))
+written-weaken C D h (either a b r) w = (written-weaken C D h a (w .0), written-weaken C D h b (w .1), written-weaken C D h r (w .2))
+written-weaken C D h (end l r) w = absurd w
 
 pub body-below : (ps : List Block) (rank : ℕ → ℕ) → Sound ps rank → (d p : ℕ) → rank p ≤ d → Written (λ q. rank q < d) (bodyIn ps p)
-body-below ps rank s d p h = written-to (λ q. rank q < rank p) (λ q. rank q < d) (λ q k. omega arith) (bodyIn ps p) (s .body p)
+body-below ps rank s d p h = written-weaken (λ q. rank q < rank p) (λ q. rank q < d) (λ q k. omega arith) (bodyIn ps p) (s .body p)
 
 -- a remainder: as Written, and the holds that have begun end in it, outside of any other statement
 unfoldable pub Remainder : (ℕ → Type 0) → Block → Type 0
@@ -85,25 +84,11 @@ module _ (C : ℕ → Type 0) where
   remainder-of-written b w = rw (⨾-done b) at (remainder-⨾ b done w tt)
 
 -- with no demand on the calls
-abbrev pub Any : ℕ → Type 0
-Any p = Unit {0}
+abbrev pub AnyCall : ℕ → Type 0
+AnyCall p = Unit {0}
 
 abbrev pub Plain : Block → Type 0
-Plain b = Written Any b
+Plain b = Written AnyCall b
 
 pub plain-body : {ps : List Block} {rank : ℕ → ℕ} → Sound ps rank → (p : ℕ) → Plain (bodyIn ps p)
-plain-body {ps} {rank} s p = written-to (λ q. rank q < rank p) Any (λ q k. tt) (bodyIn ps p) (s .body p)
-
--- What is computed of a block by F, with calls at most d deep, does not depend on a depth d above the rank: a is a solution of F's equations there.
-module _ {A : Type 0} (ps : List Block) (rank : ℕ → ℕ) (s : Sound ps rank) (F : (ℕ → A) → Block → A)
-    (agree : (C : ℕ → Type 0) (f g : ℕ → A) → ((p : ℕ) → C p → f p ≡ g p) → (b : Block) → Written C b → F f b ≡ F g b)
-    (a : ℕ → ℕ → A) (deeper : (d p : ℕ) → a (suc d) p ≡ F (a d) (bodyIn ps p)) where
-  pub depth-free : (d e p : ℕ) → rank p < d → rank p < e → a d p ≡ a e p
-  depth-free zero e p h k = absurd (omega arith)
-  depth-free (suc d) zero p h k = absurd (omega arith)
-  depth-free (suc d) (suc e) p h k = deeper d p
-      ∙ agree (λ q. rank q < rank p) (a d) (a e) (λ q l. depth-free d e q (omega arith) (omega arith)) (bodyIn ps p) (s .body p)
-      ∙ sym (deeper e p)
-
-  pub depth-solves : (d p : ℕ) → rank p < d → a d p ≡ F (a d) (bodyIn ps p)
-  depth-solves d p h = depth-free d (suc d) p h (omega arith) ∙ deeper d p
+plain-body {ps} {rank} s p = written-weaken (λ q. rank q < rank p) AnyCall (λ q k. tt) (bodyIn ps p) (s .body p)

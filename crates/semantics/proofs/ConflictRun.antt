@@ -1,4 +1,5 @@
--- A conflict is met by a run: executions of the threads in it by themselves lead to its pairs, where they are stuck, and from there the retreat leads to the start.
+-- A conflict is met by a run: executions of the threads in it by themselves lead to its pairs, where they are stuck, and from there the retreat leads
+-- to the start.
 use Prim.Native.Nat.{ℕ, _%_, _≤_, _<_}
 use mathlib.Core.List.{List, [], _∷_}
 use mathlib.Core.Bool.{Bool, true, false}
@@ -12,18 +13,21 @@ use lib.Dec.{T, T-prop, eqb}
 use Rattle.semantics.specs.Plan.{Block, hold, bodyIn}
 use Rattle.semantics.specs.Run.{ThreadState, thread, initial, apart, everyone, run, start}
 use Rattle.laws.proofs.Tests.{T-dec, eqb-cases}
-use Rattle.semantics.proofs.Blocks.{Plain}
-use Rattle.semantics.proofs.Execution.{exec, after, execution, exec-last}
-use Rattle.semantics.proofs.Apart.{nth, counts, blocks-in, apart←}
-use Rattle.semantics.proofs.Compatible.{Has, Blocks, blocks-unlocked, clash, compatible-sym}
-use Rattle.semantics.proofs.Step.{BalancedAll, Waits, waits-stuck}
-use Rattle.semantics.proofs.Moments.{own, start-length, start-at, pair-exec}
-use Rattle.semantics.proofs.Conflict.{Conflict, conflict-apart, conflict-waits}
+use Rattle.semantics.proofs.Remainders.{Plain}
+use Rattle.semantics.proofs.Execution.{exec, stateAfter, execution, exec-last}
+use Rattle.semantics.proofs.Apart.{nth, counts, excludes-present, apart←}
+use Rattle.semantics.proofs.Compatible.{HasLock, Excludes, unlocked-excludes-none, compatible-or-contended, compatible-sym}
+use Rattle.semantics.proofs.Blocked.{BalancedAll, Blocked, blocked-stuck}
+use Rattle.semantics.proofs.Projection.{projection, critical-exec}
+use Rattle.semantics.proofs.Invariant.{start-length, start-at}
+use Rattle.semantics.proofs.Conflict.{Conflict, conflict-apart, conflict-excludes}
 use Rattle.semantics.proofs.Tables.{table, length-table, nth-table, is-table, total, total-le}
-use Rattle.semantics.proofs.Retreat.{Executions, joint, joint-balanced, Retreat, DeadlockRun, retreat}
+use Rattle.semantics.proofs.JointStates.{Executions, joint, joint-balanced}
+use Rattle.semantics.proofs.RetreatStep.{Retreat}
+use Rattle.semantics.proofs.RetreatRun.{DeadlockRun, retreat-run}
 
-own-length : (t : ℕ) (es : List ℕ) → length (own t es) ≤ length es
-unfolding own
+own-length : (t : ℕ) (es : List ℕ) → length (projection t es) ≤ length es
+unfolding projection
 own-length t [] = omega arith
 own-length t (e ∷ es) =
     ⊎-elim (λ (p : (e % 8 ≡ t) × (eqb (e % 8) t ≡ true)). rw (p .1) (omega (arith, own-length t es)))
@@ -46,11 +50,12 @@ module _ (ps : List Block) (bodies : (q : ℕ) → Plain (bodyIn ps q)) (ns : Li
   witness i =
       ⊎-elim
       (λ (s : T (S i)). record {
-        steps = own 0 ((c .pair i s) .steps);
+        steps = projection 0 ((c .pair i s) .steps);
         last = thread (hold ((c .pair i s) .lock) ((c .pair i s) .inside) ((c .pair i s) .after)) ((c .pair i s) .count);
-        leads = pair-exec ps (getD ns i 0) (c .word i) (c .pair i s);
+        leads = critical-exec ps (getD ns i 0) (c .word i) (c .pair i s);
         short = omega (arith, own-length 0 ((c .pair i s) .steps), steps-len i s);
-        member = λ r. ap (λ q. thread (hold ((c .pair i q) .lock) ((c .pair i q) .inside) ((c .pair i q) .after)) ((c .pair i q) .count)) (T-prop (S i) s r);
+        member = λ r. ap (λ q. thread (hold ((c .pair i q) .lock) ((c .pair i q) .inside) ((c .pair i q) .after)) ((c .pair i q) .count))
+            (T-prop (S i) s r);
         other = λ f. absurd (f s);
       })
       (λ (f : T (S i) → ⊥). record
@@ -61,11 +66,16 @@ module _ (ps : List Block) (bodies : (q : ℕ) → Plain (bodyIn ps q)) (ns : Li
   P i = (witness i) .steps
 
   abbrev s : ℕ → ℕ → ThreadState
-  s i a = after ps (initial ps (getD ns i 0)) (P i) a
+  s i a = stateAfter ps (initial ps (getD ns i 0)) (P i) a
 
   abbrev executions : Executions ps (length ns) P s
-  executions = record
-      { bodies = bodies; few = few; proc = λ i. getD ns i 0; runs = λ i _. execution ps (initial ps (getD ns i 0)) ((witness i) .last) (P i) ((witness i) .leads) }
+  executions = record {
+    bodies = bodies;
+    few = few;
+    proc = λ i. getD ns i 0;
+    runs = λ i _. execution ps (initial ps (getD ns i 0)) ((witness i) .last) (P i)
+        ((witness i) .leads);
+  }
 
   abbrev goal : ℕ → ℕ
   goal i = length (P i)
@@ -77,18 +87,19 @@ module _ (ps : List Block) (bodies : (q : ℕ) → Plain (bodyIn ps q)) (ns : Li
   at-last i b =
       nth-table (length ns) (λ i. s i (goal i)) i b ∙ exec-last ps (initial ps (getD ns i 0)) ((witness i) .last) (P i) ((witness i) .leads)
 
-  at-pair : (i : ℕ) (m : T (S i)) → nth there i ≡ thread (hold ((c .pair i m) .lock) ((c .pair i m) .inside) ((c .pair i m) .after)) ((c .pair i m) .count)
+  at-pair : (i : ℕ) (m : T (S i))
+      → nth there i ≡ thread (hold ((c .pair i m) .lock) ((c .pair i m) .inside) ((c .pair i m) .after)) ((c .pair i m) .count)
   at-pair i m = at-last i (c .present i m) ∙ (witness i) .member m
 
   there-balanced : BalancedAll there
   there-balanced = joint-balanced executions goal (λ i _. le-refl (goal i))
 
-  -- only the threads in S block anything
-  blocks-member : (i l : ℕ) → Blocks (counts there i) l → T (S i)
+  -- only the threads in S exclude anybody
+  blocks-member : (i l : ℕ) → Excludes (counts there i) l → T (S i)
   blocks-member i l g =
-      let b : i < length ns = subst (λ n. i < n) (length-table (length ns) (λ i. s i (goal i))) (blocks-in there i l g) in
+      let b : i < length ns = subst (λ n. i < n) (length-table (length ns) (λ i. s i (goal i))) (excludes-present there i l g) in
       ⊎-elim (λ m. m)
-      (λ (f : T (S i) → ⊥). absurd (blocks-unlocked l (subst (λ x. Blocks (x .count) l) (at-last i b ∙ (witness i) .other f) g)))
+      (λ (f : T (S i) → ⊥). absurd (unlocked-excludes-none l (subst (λ x. Excludes (x .count) l) (at-last i b ∙ (witness i) .other f) g)))
       (T-dec (S i))
 
   pair-counts : (i : ℕ) (m : T (S i)) → counts there i ≡ (c .pair i m) .count
@@ -97,18 +108,18 @@ module _ (ps : List Block) (bodies : (q : ℕ) → Plain (bodyIn ps q)) (ns : Li
   there-apart : T (apart everyone there)
   there-apart = apart← everyone there (λ i j d _ _.
       ⊎-elim (λ k. k)
-      (λ (q : (l : ℕ) × Has (counts there i) l × Blocks (counts there j) l).
+      (λ (q : (l : ℕ) × HasLock (counts there i) l × Excludes (counts there j) l).
       ⊎-elim (λ k. compatible-sym (counts there j) (counts there i) k)
-      (λ (p : (l : ℕ) × Has (counts there j) l × Blocks (counts there i) l).
+      (λ (p : (l : ℕ) × HasLock (counts there j) l × Excludes (counts there i) l).
       let m = blocks-member i (p .0) (p .2) in
       let r = blocks-member j (q .0) (q .2) in
       rw (pair-counts i m, pair-counts j r) (conflict-apart ps bodies ns S c i j m r d))
-      (clash (counts there j) (counts there i)))
-      (clash (counts there i) (counts there j)))
+      (compatible-or-contended (counts there j) (counts there i)))
+      (compatible-or-contended (counts there i) (counts there j)))
 
-  there-waits : (t : ℕ) → T (S t) → Waits S there t
-  there-waits t m =
-      let w = conflict-waits ps bodies ns S c t m in
+  there-blocked : (t : ℕ) → T (S t) → Blocked S there t
+  there-blocked t m =
+      let w = conflict-excludes ps bodies ns S c t m in
       record {
         lock = (c .pair t m) .lock;
         inside = (c .pair t m) .inside;
@@ -124,23 +135,23 @@ module _ (ps : List Block) (bodies : (q : ℕ) → Plain (bodyIn ps q)) (ns : Li
   start-table = sym (is-table (length ns) (λ i. initial ps (getD ns i 0)) (start ps ns) (start-length ps ns) (start-at ps ns))
 
   -- the run is no longer than the executions together
-  pub conflict-deadlock : DeadlockRun ps (start ps ns) (total (length ns) len)
+  pub conflict-run : DeadlockRun ps (start ps ns) (total (length ns) len)
   unfolding run
-  conflict-deadlock =
+  conflict-run =
       let bound = total (length ns) len in
       let le : total (length ns) goal ≤ bound = total-le (length ns) goal len (λ i _. (witness i) .short) in
       let member = c .member in
       let r : Retreat ps (length ns) P s bound goal [] there =
       record {
         within = λ i _. le-refl (goal i);
-        free = there-apart;
+        all-apart = there-apart;
         leads = refl;
         stuck = (
           S,
-          waits-stuck ps bodies S there there-balanced
-              (λ t m. subst (λ n. t < n) (sym (length-table (length ns) (λ i. s i (goal i)))) (c .present t m)) there-waits (member .0) (member .1),
+          blocked-stuck ps bodies S there there-balanced
+              (λ t m. subst (λ n. t < n) (sym (length-table (length ns) (λ i. s i (goal i)))) (c .present t m)) there-blocked (member .0) (member .1),
         );
         short = omega arith;
       } in
       subst (λ us. DeadlockRun ps us bound) start-table
-      (retreat executions (total (length ns) goal) bound goal [] there (le-refl (total (length ns) goal)) r)
+      (retreat-run executions (total (length ns) goal) bound goal [] there (le-refl (total (length ns) goal)) r)
