@@ -1,4 +1,4 @@
--- The rules in checking order, as three refusals: the plan's, the verdict's, the pair list's. 01, "Rules, in checking order": "A refusal returns its number and a
+-- The rules in checking order, as three refusals: the plan's, by the reader's first, the verdict's, the pair list's. 01, "Rules, in checking order": "A refusal returns its number and a
 -- line (0 where none is named) .. Each rule is tested over the whole text before the next."
 use Prim.Native.Nat.{ℕ, zero, suc, _-_}
 use mathlib.Core.Bool.{Bool}
@@ -79,29 +79,26 @@ procLineFrom line p (f ∷ fs) = elim f [
   | Two ↦ procLineFrom (suc line) p fs
 ]
 
-unfoldable pub procLine : List ℕ → ℕ → ℕ
-procLine text p = procLineFrom 1 p (formsOf text)
-
 -- the lowest of n numbers from p on that passes a test
 unfoldable pub lowestFrom : (ℕ → Bool) → ℕ → ℕ → Option ℕ
 lowestFrom test p zero = none
 lowestFrom test p (suc n) = if (test p) (some p) (lowestFrom test (suc p) n)
 
 -- "`(proc` line of the lowest such", of the procedures that pass a test
-unfoldable pub procRefusal : ℕ → List ℕ → (ℕ → Bool) → Option Refusal
-procRefusal rule text test = elim (lowestFrom test 0 (length (planOf text .procs))) [ none ↦ none | some p ↦ some (refusal rule (procLine text p)) ]
+unfoldable pub procRefusal : ℕ → List Form → (ℕ → Bool) → Option Refusal
+procRefusal rule fs test = elim (lowestFrom test 0 (length (planIn fs .procs))) [ none ↦ none | some p ↦ some (refusal rule (procLineFrom 1 p fs)) ]
 
 -- 9: "Some procedure's size exceeds 1,024"
-unfoldable pub tooLarge : List ℕ → Option Refusal
-tooLarge text = procRefusal 9 text (λ p. ltb 1024 (sizeOf (planOf text .procs) p))
+unfoldable pub tooLarge : List Form → Option Refusal
+tooLarge fs = procRefusal 9 fs (λ p. ltb 1024 (sizeOf (planIn fs .procs) p))
 
 -- 10: "Some procedure has more than 128 critical pairs"
-unfoldable pub tooManyPairs : List ℕ → Option Refusal
-tooManyPairs text = procRefusal 10 text (λ p. ltb 128 (length (pairList (planOf text .procs) p)))
+unfoldable pub tooManyPairs : List Form → Option Refusal
+tooManyPairs fs = procRefusal 10 fs (λ p. ltb 128 (length (pairList (planIn fs .procs) p)))
 
 -- the plan's rules, 2 to 10
 unfoldable pub planRefusal : List ℕ → Option Refusal
-planRefusal text = orElse (readerRefusal text) (orElse (tooLarge text) (tooManyPairs text))
+planRefusal text = orElse (readerRefusal text) (orElse (tooLarge (formsOf text)) (tooManyPairs (formsOf text)))
 
 -- the verdict's: 1, "The lent buffer is shorter than 6,144 entries for a schedule", then the plan's
 unfoldable pub verdictRefusal : List ℕ → ℕ → Option Refusal
@@ -111,7 +108,7 @@ verdictRefusal text lent = orElse (refusedIf 1 (ltb lent 6144)) (planRefusal tex
 unfoldable pub pairsRefusal : List ℕ → ℕ → ℕ → Option Refusal
 pairsRefusal text p lent = orElse (refusedIf 1 (ltb lent 128)) (orElse (planRefusal text) (refusedIf 11 (leb (length (planOf text .procs)) p)))
 
--- The cases of the reader's answer, with 01's numbers: no rule is broken, and how many forms there are; or the number of the first rule broken and its line.
+-- The cases of the reader's answer, with 01's numbers: none of its rules is broken, and how many forms there are; or the number of the first rule broken and its line.
 unfoldable pub readingOf : Option Refusal → ℕ → Reading
 readingOf none n = Accepted n
 readingOf (some r) n = Refused (r .rule) (r .line)

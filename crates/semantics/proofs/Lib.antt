@@ -49,5 +49,15 @@ pub mod SearchComplete
 pub mod ConflictTest
 pub mod Characterisation
 pub mod MoreThreads
+-- For the analyser: sizes in rounds, the path to a pair, a circle of pairs, pairs that can be dropped, the search for a circle, the way back, the stuck set by masks.
+pub mod SizeRounds
+pub mod Paths
+pub mod Joins
+pub mod Circle
+pub mod Dropping
+pub mod CircleSearch
+pub mod Closing
+pub mod RetreatMoves
+-- The reference cases.
 pub mod CaseTable
 pub mod Cases
