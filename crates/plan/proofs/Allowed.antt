@@ -14,7 +14,7 @@ use Rattle.laws.specs.Choice.{pick}
 use Rattle.text.specs.declared.Form.{Form}
 use Rattle.text.specs.declared.Form.the-variants.{Plan, Proc, Thread, Close, Skip, Call, Hold, Loop, Either, One, Two}
 use Rattle.semantics.specs.Plan.{Block, done, skip, call, hold, loop, either, end, LockPlan, bodyIn, Written}
-use Rattle.semantics.proofs.Blocks.{written-to}
+use Rattle.semantics.proofs.Remainders.{written-weaken}
 use Rattle.text.specs.Forms.{numberIn}
 use Rattle.plan.specs.declared.Counts.{Counts}
 use Rattle.plan.specs.Grammar.{blockForms, procForms, threadForms, forms, Grammatical, planIn}
@@ -108,9 +108,9 @@ procs-kept (b ∷ bs) n s fs h i w d k =
     let procs : n + suc (length bs) ≡ n + 1 + length bs = omega arith in
     let all : s + (statements b + allStatements bs) ≡ s + statements b + allStatements bs = omega arith in
     let later : (p : ℕ) → Written (λ q. q < n + 1 + p) (bodyIn bs p) =
-    λ p. written-to (λ q. q < n + suc p) (λ q. q < n + 1 + p) (λ q h. omega arith) (bodyIn bs p) (w (suc p)) in
+    λ p. written-weaken (λ q. q < n + suc p) (λ q. q < n + 1 + p) (λ q h. omega arith) (bodyIn bs p) (w (suc p)) in
     let rest = procs-kept bs (n + 1) (s + statements b) fs (omega arith) (omega arith) later (λ p. d (suc p)) (rw (procs, all) at k) in
-    let first = written-to (λ q. q < n + 0) (λ q. q + 1 < n + 1) (λ q h. omega arith) b (w 0) in (
+    let first = written-weaken (λ q. q < n + 0) (λ q. q + 1 < n + 1) (λ q h. omega arith) b (w 0) in (
       keeps (n + 1) 0 few (omega arith) Proc s 0 (omega arith) (omega arith) refl refl refl,
       block-kept (n + 1) 0 few (omega arith) b first s 0 (Close ∷ procForms bs fs) (omega arith) (omega (arith, d 0))
           (keeps (n + 1) 0 few (omega arith) Close (s + statements b) 0 (omega arith) (omega arith) refl refl refl, rest),
@@ -135,7 +135,7 @@ settled-kept plan x =
     let threads =
     threads-kept (plan .threads) (0 + n) (0 + s) 0 few small (omega (arith, x .few-threads)) (λ i h. omega (arith, x .threads-present i h)) in
     let written : (p : ℕ) → Written (λ q. q < 0 + p) (bodyIn (plan .procs) p) =
-    λ p. written-to (λ q. q < p) (λ q. q < 0 + p) (λ q h. omega arith) (bodyIn (plan .procs) p) (x .sound .body p) in (
+    λ p. written-weaken (λ q. q < p) (λ q. q < 0 + p) (λ q h. omega arith) (bodyIn (plan .procs) p) (x .sound .body p) in (
       keeps 0 0 (omega arith) (omega arith) Plan 0 0 (omega arith) (omega arith) refl refl refl,
       procs-kept (plan .procs) 0 0 (threadForms (plan .threads) (Close ∷ [])) few small written (x .few-open) threads,
     )

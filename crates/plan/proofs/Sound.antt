@@ -13,7 +13,7 @@ use Rattle.text.specs.declared.Form.{Form}
 use Rattle.text.specs.declared.Form.the-variants.{Close, Two}
 use Rattle.text.specs.Lines.{formsOf, unreadableLine}
 use Rattle.semantics.specs.Plan.{Block, done, skip, call, hold, loop, either, end, LockPlan, bodyIn, WellFormed, Written, Sound}
-use Rattle.semantics.proofs.Blocks.{written-to}
+use Rattle.semantics.proofs.Remainders.{written-weaken}
 use Rattle.plan.specs.Grammar.{blockForms, procForms, threadForms, forms, Grammatical, planIn}
 use Rattle.laws.specs.Choice.{pick}
 use Rattle.text.specs.Forms.{numberIn}
@@ -153,8 +153,8 @@ kept-procs (b ∷ bs) w n s fs k =
   where
     each-body : Written (λ q. q + 1 < n + 1) b → ((p : ℕ) → Written (λ q. q < n + 1 + p) (bodyIn bs p))
         → (p : ℕ) → Written (λ q. q < n + p) (bodyIn (b ∷ bs) p)
-    each-body w ws zero = written-to (λ q. q + 1 < n + 1) (λ q. q < n + 0) (λ q h. omega arith) b w
-    each-body w ws (suc p) = written-to (λ q. q < n + 1 + p) (λ q. q < n + suc p) (λ q h. omega arith) (bodyIn bs p) (ws p)
+    each-body w ws zero = written-weaken (λ q. q + 1 < n + 1) (λ q. q < n + 0) (λ q h. omega arith) b w
+    each-body w ws (suc p) = written-weaken (λ q. q < n + 1 + p) (λ q. q < n + suc p) (λ q h. omega arith) (bodyIn bs p) (ws p)
 
     each-nested : 0 + nesting b ≤ 16 → ((p : ℕ) → nesting (bodyIn bs p) ≤ 16) → (p : ℕ) → nesting (bodyIn (b ∷ bs) p) ≤ 16
     each-nested o os zero = omega arith
@@ -191,7 +191,7 @@ kept-settled plan g k =
     let x = kept-procs (plan .procs) (g .blocks) 0 0 (threadForms (plan .threads) (Close ∷ [])) (k .1) in
     let y = kept-threads (plan .threads) (0 + length (plan .procs)) (0 + allStatements (plan .procs)) 0 (x .later) in
     let bodies : (p : ℕ) → Written (λ q. q < p) (bodyIn (plan .procs) p) =
-    λ p. written-to (λ q. q < 0 + p) (λ q. q < p) (λ q h. omega arith) (bodyIn (plan .procs) p) (x .written p) in
+    λ p. written-weaken (λ q. q < 0 + p) (λ q. q < p) (λ q h. omega arith) (bodyIn (plan .procs) p) (x .written p) in
     record {
       sound = record { body = bodies; filled = g .blocks };
       threads-present = λ t h. omega (arith, y .present t h);
