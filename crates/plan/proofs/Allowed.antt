@@ -24,7 +24,8 @@ use Rattle.plan.proofs.Trees.{plan-of-forms}
 use Rattle.plan.proofs.Accepts.{forms-accepted}
 use Rattle.plan.proofs.Denotes.{accepted-denotes}
 use Rattle.plan.proofs.Kept.{Keeps, Kept, kept}
-use Rattle.plan.proofs.Sound.{statements, allStatements, nesting, recount, Settled, forms-settled}
+use Rattle.plan.specs.Settled.{statements, allStatements, nesting, Settled}
+use Rattle.plan.proofs.Sound.{recount, forms-settled}
 
 within : (n s t o : ℕ) → n ≤ 64 → s ≤ 1024 → t ≤ 6 → o ≤ 16 → overLimit (counts n s t o) ≡ false
 unfolding overLimit pick

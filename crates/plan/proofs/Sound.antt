@@ -18,45 +18,12 @@ use Rattle.plan.specs.Grammar.{blockForms, procForms, threadForms, forms
 use Rattle.laws.specs.Choice.{pick}
 use Rattle.text.specs.Forms.{numberIn}
 use Rattle.plan.specs.Limits.{counts, counted, testedBy, leastBad, breaks, noCounts}
+use Rattle.plan.specs.Settled.{statements, allStatements, nesting, Settled, PlanTable}
+use Rattle.plan.specs.Table.{tableForms}
 use Rattle.plan.specs.Rules.{refusedAt, tooLong, formsRefusal, readerRefusal, planOf}
 use Rattle.plan.proofs.Trees.{later-blocks}
 use Rattle.plan.proofs.Denotes.{accepted-denotes}
 use Rattle.plan.proofs.Kept.{Kept, kept, first-none, within-limits}
-
--- how many statements a block has, those within others too
-unfoldable pub statements : Block → ℕ
-statements done = 0
-statements (skip r) = 1 + statements r
-statements (call p r) = 1 + statements r
-statements (hold l b r) = 1 + statements b + statements r
-statements (loop b r) = 1 + statements b + statements r
-statements (either a b r) = 1 + statements a + statements b + statements r
-statements (end l r) = statements r
-
-unfoldable pub allStatements : List Block → ℕ
-allStatements [] = 0
-allStatements (b ∷ bs) = statements b + allStatements bs
-
--- how many "brackets of hold, loop, either, one and two" are open together somewhere in a block
-unfoldable pub nesting : Block → ℕ
-nesting done = 0
-nesting (skip r) = nesting r
-nesting (call p r) = nesting r
-nesting (hold l b r) = max (1 + nesting b) (nesting r)
-nesting (loop b r) = max (1 + nesting b) (nesting r)
-nesting (either a b r) = max (2 + nesting a) (max (2 + nesting b) (nesting r))
-nesting (end l r) = nesting r
-
--- What rules 4 to 8 settle of a plan.
-pub record Settled (plan : LockPlan) : Type 0 where
-  pub sound : Sound (plan .procs) (λ p. p)
-  pub threads-present : (t : ℕ) → t < length (plan .threads) → getD (plan .threads) t 0 < length (plan .procs)
-  pub some-proc : 0 < length (plan .procs)
-  pub some-thread : 0 < length (plan .threads)
-  pub few-procs : length (plan .procs) ≤ 64
-  pub few-statements : allStatements (plan .procs) ≤ 1024
-  pub few-threads : length (plan .threads) ≤ 6
-  pub few-open : (p : ℕ) → nesting (bodyIn (plan .procs) p) ≤ 16
 
 -- In the n-th procedure, where t threads have been read:
 module _ (n t : ℕ) where
@@ -224,3 +191,9 @@ accepted-text text h = accepted-denotes (formsOf text) (kept (formsOf text) (acc
 pub accepted-settled : (text : List ℕ) → readerRefusal text ≡ none → Settled (planOf text)
 unfolding planOf
 accepted-settled text h = forms-settled (formsOf text) (accepted-forms text h)
+
+-- the table of an accepted text
+pub accepted-table : (text ws : List ℕ) → readerRefusal text ≡ none → tableForms ws ≡ formsOf text → PlanTable ws
+unfolding planOf
+accepted-table text ws h e =
+    record { written = rw e (accepted-text text h); settled = rw e (accepted-settled text h) }

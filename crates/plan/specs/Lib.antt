@@ -4,3 +4,4 @@ pub mod Structure
 pub mod Limits
 pub mod Rules
 pub mod Table
+pub mod Settled

@@ -1,0 +1,52 @@
+-- What rules 4 to 8 settle of a plan's tree: exactly this (theorem `rules-plan`). Later crates rest on it.
+use Prim.Native.Nat.{ℕ, _+_, _<_, _≤_, max}
+use mathlib.Core.List.{List, [], _∷_}
+use mathlib.Core.Path.{_≡_}
+use lib.ListN.{length, getD}
+use Rattle.semantics.specs.Plan.{Block, done, skip, call, hold, loop, either, end, LockPlan, bodyIn, Sound}
+use Rattle.plan.specs.Grammar.{forms, planIn}
+use Rattle.plan.specs.Table.{tableForms}
+
+-- how many statements a block has, those within others too
+unfoldable pub statements : Block → ℕ
+statements done = 0
+statements (skip r) = 1 + statements r
+statements (call p r) = 1 + statements r
+statements (hold l b r) = 1 + statements b + statements r
+statements (loop b r) = 1 + statements b + statements r
+statements (either a b r) = 1 + statements a + statements b + statements r
+statements (end l r) = statements r
+
+unfoldable pub allStatements : List Block → ℕ
+allStatements [] = 0
+allStatements (b ∷ bs) = statements b + allStatements bs
+
+-- how many "brackets of hold, loop, either, one and two" are open together somewhere in a block
+unfoldable pub nesting : Block → ℕ
+nesting done = 0
+nesting (skip r) = nesting r
+nesting (call p r) = nesting r
+nesting (hold l b r) = max (1 + nesting b) (nesting r)
+nesting (loop b r) = max (1 + nesting b) (nesting r)
+nesting (either a b r) = max (2 + nesting a) (max (2 + nesting b) (nesting r))
+nesting (end l r) = nesting r
+
+-- What rules 4 to 8 settle of a plan.
+pub record Settled (plan : LockPlan) : Type 0 where
+  pub sound : Sound (plan .procs) (λ p. p)
+  pub threads-present : (t : ℕ) → t < length (plan .threads) → getD (plan .threads) t 0 < length (plan .procs)
+  pub some-proc : 0 < length (plan .procs)
+  pub some-thread : 0 < length (plan .threads)
+  pub few-procs : length (plan .procs) ≤ 64
+  pub few-statements : allStatements (plan .procs) ≤ 1024
+  pub few-threads : length (plan .threads) ≤ 6
+  pub few-open : (p : ℕ) → nesting (bodyIn (plan .procs) p) ≤ 16
+
+-- the plan of a table of forms
+abbrev pub tablePlan : List ℕ → LockPlan
+tablePlan ws = planIn (tableForms ws)
+
+-- a table that holds the forms of a plan within rules 4 to 8: what `read_plan` leaves of an accepted text (theorem `accepted-table`)
+pub record PlanTable (ws : List ℕ) : Type 0 where
+  pub written : tableForms ws ≡ forms (tablePlan ws)
+  pub settled : Settled (tablePlan ws)
