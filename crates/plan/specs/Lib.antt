@@ -5,3 +5,4 @@ pub mod Limits
 pub mod Rules
 pub mod Table
 pub mod Settled
+pub mod Starts
