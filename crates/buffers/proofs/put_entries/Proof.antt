@@ -1,0 +1,74 @@
+use borrow.Author.Needs.{needs}
+use Prim.Native.Nat.{_-_, _*_, _≤_}
+use mathlib.Core.Path.{_≡_}
+use native.Mathlib.Omega.{arith}
+use denote.Ref.{now}
+use lib.ListN.{length, drop}
+use Rattle.buffers.specs.LittleEndian.{listBytes}
+use Rattle.buffers.proofs.Filled.{Filled, list-none, list-more, list-done}
+use Rattle.buffers.proofs.put_entries.Statement.{statement}
+use Rattle.buffers.proofs.put_entries.Tie as tie
+
+abbrev Inv-loop : tie.InvT-loop
+Inv-loop entries out₀ i₀ out i = (i ≤ length entries) × (length entries * 2 ≤ length out₀) × Filled out out₀ (listBytes 2 entries) (listBytes 2 (drop i entries)) (i * 2)
+
+abbrev μ-loop : tie.MeasureT-loop
+μ-loop entries out₀ i₀ out i = length entries - i
+
+loop-holds : tie.Need-loop-holds Inv-loop μ-loop
+loop-holds c = search (list-none, needs)
+
+mul-put-number : tie.Need-mul-put-number Inv-loop μ-loop
+mul-put-number c = search needs
+
+mul-widen : tie.Need-mul-widen Inv-loop μ-loop
+mul-widen c = search needs
+
+shared-slice-read-widen : tie.Need-shared-slice-read-widen Inv-loop μ-loop
+shared-slice-read-widen c = search needs
+
+widen-requires : tie.Need-widen-requires Inv-loop μ-loop
+widen-requires c κs = search needs
+
+put-number-requires : tie.Need-put-number-requires Inv-loop μ-loop
+put-number-requires c κs = search needs
+
+add-i : tie.Need-add-i Inv-loop μ-loop
+add-i c = search needs
+
+loop-less : tie.Need-loop-less Inv-loop μ-loop
+loop-less c = search needs
+
+loop-again : tie.Need-loop-again Inv-loop μ-loop
+loop-again c =
+    let l = c .before .before .before .before .before .before .before .loop in
+    let a = c .before .before .before .before .before .before .before .before .before .before .args in (
+      search needs,
+      search needs,
+      list-more 2 (now (a .entries)) (l .out) (now (a .out)) (l .i) (c .before .before .put-number .last .0) (c .before .before .before .widen .result)
+          (c .before .before .before .widen .ensures) (omega arith) (l .inv .1) (c .before .before .put-number .ensures) (l .inv .2),
+    )
+
+same-length : tie.Need-same-length Inv-loop μ-loop
+same-length c = search needs
+
+returns : tie.Need-returns Inv-loop μ-loop
+returns c = search (list-done, needs)
+
+pub put-entries-spec : {M : Type 1} → statement M
+put-entries-spec =
+    tie.close
+    (tie.spec
+    Inv-loop
+    μ-loop
+    loop-holds
+    mul-put-number
+    mul-widen
+    shared-slice-read-widen
+    widen-requires
+    put-number-requires
+    add-i
+    loop-less
+    loop-again
+    same-length
+    returns)
