@@ -1,0 +1,20 @@
+-- The cases of each answer with 01's numbers and values, and the 64-bit number that carries them to C (docs/ANSWERS.md).
+use Prim.Native.Nat.{ℕ, _+_, _*_}
+use mathlib.Core.Option.{Option, none, some}
+use Rattle.plan.specs.Rules.{Refusal}
+use Rattle.lockplan.specs.declared.Listing.{Listing}
+use Rattle.lockplan.specs.declared.Listing.the-variants.{Pairs, Refused}
+
+-- the pair list: "its count is returned", or "A refusal returns its number and a line"
+unfoldable pub listingOf : Option Refusal → ℕ → Listing
+listingOf none n = Pairs n
+listingOf (some r) n = Refused (r .rule) (r .line)
+
+-- "one 64-bit number that carries all the numbers above": kind + 256 × a + 65,536 × b
+abbrev pub answerNumber : ℕ → ℕ → ℕ → ℕ
+answerNumber kind a b = kind + 256 * a + 65536 * b
+
+-- kind 0: b is the number of pairs; kind 2, refused: a is the rule, b the line
+unfoldable pub listingNumber : Listing → ℕ
+listingNumber (Pairs n) = answerNumber 0 0 n
+listingNumber (Refused r l) = answerNumber 2 r l

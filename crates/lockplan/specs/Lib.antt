@@ -1,0 +1,3 @@
+-- The promises of the public calls, and the 64-bit answers for C.
+pub mod Answers
+pub mod Promises

@@ -1,0 +1,57 @@
+-- What each public call promises, of its answer and of the buffers that it was lent. 01, "Pairs, verdict, schedule" and "What a reader may rely on".
+use Prim.Native.Nat.{ℕ, _*_, _/_}
+use mathlib.Core.Bool.{Bool, true, false, _&&_}
+use mathlib.Core.List.{List, [], _∷_, _++_, List·Memᴰ}
+use mathlib.Core.Logic.{_↔_}
+use mathlib.Core.Option.{Option, none, some}
+use mathlib.Core.Path.{_≡_}
+use lib.Dec.{ltb}
+use lib.ListN.{length, drop}
+use Rattle.laws.specs.Choice.{if}
+use Rattle.laws.specs.Ascending.{Ascends}
+use Rattle.text.specs.Lines.{textOf}
+use Rattle.semantics.specs.Plan.{bodyIn}
+use Rattle.semantics.specs.Pairs.{Critical, pairList}
+use Rattle.plan.specs.Grammar.{procForms}
+use Rattle.plan.specs.Rules.{Refusal, planOf, planRefusal, pairsRefusal}
+use Rattle.buffers.specs.LittleEndian.{listBytes}
+use Rattle.lockplan.specs.declared.Listing.{Listing}
+use Rattle.lockplan.specs.Answers.{listingOf, listingNumber}
+
+-- the words of the critical pairs of procedure p of a text's plan
+abbrev pub pairsOf : List ℕ → ℕ → List ℕ
+pairsOf text p = pairList (planOf text .procs) p
+
+-- "A refusal .. writes nothing"; otherwise what is written fills the buffer's start and "the rest of the buffer" is "kept"
+abbrev pub written : Option Refusal → List ℕ → List ℕ → List ℕ
+written none given before = given ++ drop (length given) before
+written (some r) given before = before
+
+-- demand 2: "For each procedure the listed pairs are exactly the critical pairs of the published definition, none missing and none added", "ascending without
+-- repeats"
+pub record Exact (text : List ℕ) (p : ℕ) : Type 0 where
+  pub critical : (w : ℕ) → List·Memᴰ w (pairsOf text p) ↔ Critical (planOf text .procs) p w
+  pub ascending : Ascends (pairsOf text p)
+
+-- The pair list of procedure p: the answer and the buffer of words, and where it is given, that it is exact.
+pub record Listed (text : List ℕ) (p : ℕ) (before : List ℕ) (r : Listing) (after : List ℕ) : Type 0 where
+  pub answer : r ≡ listingOf (pairsRefusal text p (length before)) (length (pairsOf text p))
+  pub buffer : after ≡ written (pairsRefusal text p (length before)) (pairsOf text p) before
+  pub exact : pairsRefusal text p (length before) ≡ none → Exact text p
+
+-- The same on a buffer of bytes, "each entry or word lowest byte first, the lengths of rule 1 counted in whole ones".
+pub record ListedBytes (text : List ℕ) (p : ℕ) (before : List ℕ) (r : ℕ) (after : List ℕ) : Type 0 where
+  pub answer : r ≡ listingNumber (listingOf (pairsRefusal text p (length before / 8)) (length (pairsOf text p)))
+  pub buffer : after ≡ written (pairsRefusal text p (length before / 8)) (listBytes 8 (pairsOf text p)) before
+  pub exact : pairsRefusal text p (length before / 8) ≡ none → Exact text p
+
+-- where no rule about the plan refuses it, and the procedure is there
+abbrev pub partOf : Option Refusal → Bool → List ℕ → List ℕ
+partOf none true part = part
+partOf none false part = []
+partOf (some r) there part = []
+
+-- "The text call answers with the part of the caller's text from the `(proc` line to its closing line, line end included; with an empty part and no number if a rule
+-- about the plan (here 2 to 10) refuses it or the procedure is absent."
+unfoldable pub procText : List ℕ → ℕ → List ℕ
+procText text p = partOf (planRefusal text) (ltb p (length (planOf text .procs))) (textOf (procForms (bodyIn (planOf text .procs) p ∷ []) []))

@@ -1,0 +1,198 @@
+-- The part of a text that `proc_part` finds is the procedure's lines (`proc-part-text`). A text is its forms' lines, none of which has a byte 10 within, so lines can be
+-- counted in forms; and within a procedure stands no form that begins another thing.
+use Prim.Native.Nat.{ℕ, zero, suc, _+_, _-_, _<_, _≤_}
+use native.Mathlib.Numerals.{add-one}
+use native.Mathlib.Omega.{arith}
+use mathlib.Core.Path.{_≡_, refl, sym, ap, subst, _∙_}
+use mathlib.Core.Bool.{Bool, true, false}
+use mathlib.Core.List.{List, [], _∷_, _++_, append-assoc, List·Memᴰ, List·Memᴰ·head, List·Memᴰ·tail}
+use mathlib.Core.Option.{none}
+use lib.ListN.{length, take, drop, length-append, take-append-drop}
+use lib.Seq.{take-at, drop-at, take-add, drop-drop}
+use lib.Dec.{eqb, eqb·suc-zero}
+use borrow.Author.Tests.{ne-eqb}
+use Rattle.laws.specs.Choice.{if}
+use Rattle.text.specs.declared.Form.{Form}
+use Rattle.text.specs.declared.Form.the-variants.{Plan, Proc, Thread, Close, Skip, Call, Hold, Loop, Either, One, Two}
+use Rattle.text.specs.Forms.{write}
+use Rattle.text.specs.Lines.{textOf, formsOf, unreadableLine}
+use Rattle.text.proofs.Written.{write-unbroken}
+use Rattle.semantics.specs.Plan.{Block, done, skip, call, hold, loop, either, end, LockPlan, bodyIn}
+use Rattle.plan.specs.Grammar.{blockForms, procForms, threadForms, forms}
+use Rattle.plan.specs.Rules.{procLineFrom}
+use Rattle.parts.specs.Parts.{leftAfter, skipLines, linesPart, beginsOther, formsBefore}
+
+-- ---- lines counted in forms
+
+skip-none : (l : List ℕ) → skipLines 0 l ≡ 0
+unfolding skipLines
+skip-none [] = refl
+skip-none (b ∷ bs) = refl
+
+skip-line : (l rest : List ℕ) (k : ℕ) → (List·Memᴰ 10 l → ⊥) → skipLines (suc k) (l ++ 10 ∷ rest) ≡ suc (length l) + skipLines k rest
+unfolding skipLines leftAfter
+skip-line [] rest k h = let e : suc k - 1 ≡ k = omega arith in rw (eqb·suc-zero k, e) (omega arith)
+skip-line (b ∷ l) rest k h =
+    let n : b ≡ 10 → ⊥ = λ e. h (List·Memᴰ·head (sym e)) in
+    rw (eqb·suc-zero k, ne-eqb b 10 n) (omega (arith, skip-line l rest k (λ m. h (List·Memᴰ·tail m))))
+
+length-line : (f : Form) (l : List ℕ) → length (write f ++ 10 ∷ l) ≡ suc (length (write f)) + length l
+length-line f l = rw length-append (omega arith)
+
+skip-forms : (fs : List Form) (k : ℕ) → skipLines k (textOf fs) ≡ length (textOf (take k fs))
+unfolding textOf skipLines
+skip-forms [] zero = refl
+skip-forms [] (suc k) = refl
+skip-forms (f ∷ fs) zero = skip-none (write f ++ 10 ∷ textOf fs)
+skip-forms (f ∷ fs) (suc k) =
+    skip-line (write f) (textOf fs) k (write-unbroken f) ∙ ap (λ n. suc (length (write f)) + n) (skip-forms fs k) ∙ sym (length-line f (textOf (take k fs)))
+
+text-append : (xs ys : List Form) → textOf (xs ++ ys) ≡ textOf xs ++ textOf ys
+unfolding textOf
+text-append [] ys = refl
+text-append (x ∷ xs) ys = ap (λ l. write x ++ 10 ∷ l) (text-append xs ys) ∙ sym (append-assoc (write x) (10 ∷ textOf xs) (textOf ys))
+
+lines-forms : (fs : List Form) (a n : ℕ) → linesPart (textOf fs) a (a + n) ≡ textOf (take n (drop a fs))
+unfolding linesPart
+lines-forms fs a n =
+    let x = textOf (take a fs) in
+    let y = textOf (take n (drop a fs)) in
+    let whole : textOf fs ≡ x ++ textOf (drop a fs) = ap textOf (sym (take-append-drop a fs)) ∙ text-append (take a fs) (drop a fs) in
+    let later : textOf (drop a fs) ≡ y ++ textOf (drop n (drop a fs)) =
+    ap textOf (sym (take-append-drop n (drop a fs))) ∙ text-append (take n (drop a fs)) (drop n (drop a fs)) in
+    let upTo : length (textOf (take (a + n) fs)) ≡ length x + length y =
+    ap (λ l. length (textOf l)) (take-add a n fs) ∙ ap length (text-append (take a fs) (take n (drop a fs))) ∙ length-append x y in
+    let size : length x + length y - length x ≡ length y = omega arith in
+    rw (skip-forms fs a, skip-forms fs (a + n), upTo, size)
+    (ap (take (length y)) (ap (drop (length x)) whole ∙ drop-at x (textOf (drop a fs)) (length x) refl ∙ later) ∙ take-at y (textOf (drop n (drop a fs))) (length y) refl)
+
+-- ---- the forms of a procedure
+
+-- up to the first form that begins another thing
+before-block : (b : Block) (fs : List Form) → take (formsBefore (blockForms b fs)) (blockForms b fs) ≡ blockForms b (take (formsBefore fs) fs)
+unfolding blockForms formsBefore beginsOther
+before-block done fs = refl
+before-block (skip r) fs = ap (λ l. Skip ∷ l) (before-block r fs)
+before-block (call n r) fs = ap (λ l. Call n ∷ l) (before-block r fs)
+before-block (hold l b r) fs = ap (λ x. Hold l ∷ x) (before-block b (Close ∷ blockForms r fs) ∙ ap (λ x. blockForms b (Close ∷ x)) (before-block r fs))
+before-block (loop b r) fs = ap (λ x. Loop ∷ x) (before-block b (Close ∷ blockForms r fs) ∙ ap (λ x. blockForms b (Close ∷ x)) (before-block r fs))
+before-block (either a b r) fs =
+    ap (λ x. Either ∷ One ∷ x) (before-block a (Close ∷ Two ∷ blockForms b (Close ∷ Close ∷ blockForms r fs))
+    ∙ ap (λ x. blockForms a (Close ∷ Two ∷ x)) (before-block b (Close ∷ Close ∷ blockForms r fs) ∙ ap (λ x. blockForms b (Close ∷ Close ∷ x)) (before-block r fs)))
+before-block (end l r) fs = before-block r fs
+
+-- m forms on: where the lines of procedures are counted, and what stands there
+record Passes (p : ℕ) (xs fs : List Form) : Type 0 where
+  forms-on : ℕ
+  counted : (n : ℕ) → procLineFrom n p xs ≡ procLineFrom (n + forms-on) p fs
+  there : drop forms-on xs ≡ fs
+
+passes-none : (p : ℕ) (fs : List Form) → Passes p fs fs
+passes-none p fs = record { forms-on = 0; counted = λ n. ap (λ k. procLineFrom k p fs) (omega arith); there = refl }
+
+-- one form that begins no procedure, then others
+passes-more : (p : ℕ) (f : Form) (xs fs : List Form) → ((n : ℕ) → procLineFrom n p (f ∷ xs) ≡ procLineFrom (suc n) p xs) → Passes p xs fs → Passes p (f ∷ xs) fs
+passes-more p f xs fs h m = record {
+  forms-on = suc (m .forms-on);
+  counted = λ n. h n ∙ m .counted (suc n) ∙ ap (λ k. procLineFrom k p fs) (omega arith);
+  there = m .there;
+}
+
+passes-then : (p : ℕ) (xs ys fs : List Form) → Passes p xs ys → Passes p ys fs → Passes p xs fs
+passes-then p xs ys fs a b = record {
+  forms-on = a .forms-on + b .forms-on;
+  counted = λ n. a .counted n ∙ b .counted (n + a .forms-on) ∙ ap (λ k. procLineFrom k p fs) (omega arith);
+  there = sym (drop-drop (b .forms-on) (a .forms-on) xs) ∙ ap (drop (b .forms-on)) (a .there) ∙ b .there;
+}
+
+passes-block : (p : ℕ) (b : Block) (fs : List Form) → Passes p (blockForms b fs) fs
+unfolding blockForms procLineFrom
+passes-block p done fs = passes-none p fs
+passes-block p (skip r) fs = passes-more p Skip (blockForms r fs) fs (λ n. refl) (passes-block p r fs)
+passes-block p (call q r) fs = passes-more p (Call q) (blockForms r fs) fs (λ n. refl) (passes-block p r fs)
+passes-block p (hold l b r) fs =
+    let gs = blockForms r fs in
+    passes-more p (Hold l) (blockForms b (Close ∷ gs)) fs (λ n. refl)
+    (passes-then p (blockForms b (Close ∷ gs)) (Close ∷ gs) fs (passes-block p b (Close ∷ gs)) (passes-more p Close gs fs (λ n. refl) (passes-block p r fs)))
+passes-block p (loop b r) fs =
+    let gs = blockForms r fs in
+    passes-more p Loop (blockForms b (Close ∷ gs)) fs (λ n. refl)
+    (passes-then p (blockForms b (Close ∷ gs)) (Close ∷ gs) fs (passes-block p b (Close ∷ gs)) (passes-more p Close gs fs (λ n. refl) (passes-block p r fs)))
+passes-block p (either a b r) fs =
+    let gs = blockForms r fs in
+    let hs = blockForms b (Close ∷ Close ∷ gs) in
+    let xs = blockForms a (Close ∷ Two ∷ hs) in
+    let after-b = passes-more p Close (Close ∷ gs) fs (λ n. refl) (passes-more p Close gs fs (λ n. refl) (passes-block p r fs)) in
+    let from-b = passes-then p hs (Close ∷ Close ∷ gs) fs (passes-block p b (Close ∷ Close ∷ gs)) after-b in
+    let after-a = passes-more p Close (Two ∷ hs) fs (λ n. refl) (passes-more p Two hs fs (λ n. refl) from-b) in
+    passes-more p Either (One ∷ xs) fs (λ n. refl) (passes-more p One xs fs (λ n. refl)
+    (passes-then p xs (Close ∷ Two ∷ hs) fs (passes-block p a (Close ∷ Two ∷ hs)) after-a))
+passes-block p (end l r) fs = passes-block p r fs
+
+-- where procedure p stands among the forms, with no form of it behind
+record ProcAt (n : ℕ) (p : ℕ) (ps : List Block) (xs : List Form) : Type 0 where
+  place : ℕ
+  line : procLineFrom n p xs ≡ n + place
+  later : List Form
+  there : drop place xs ≡ Proc ∷ blockForms (bodyIn ps p) (Close ∷ later)
+  ends : formsBefore later ≡ 0
+
+begins-procs : (ps : List Block) (gs : List Form) → formsBefore gs ≡ 0 → formsBefore (procForms ps gs) ≡ 0
+unfolding procForms formsBefore beginsOther
+begins-procs [] gs h = h
+begins-procs (b ∷ ps) gs h = refl
+
+later-line : (p n : ℕ) (xs : List Form) → procLineFrom n (suc p) (Proc ∷ xs) ≡ procLineFrom (suc n) p xs
+unfolding procLineFrom
+later-line p n xs = let q : suc p - 1 ≡ p = omega arith in rw (eqb·suc-zero p, q)
+
+regroup : (n a b : ℕ) → suc n + a + b ≡ n + suc (a + b)
+regroup n a b = omega arith
+
+proc-at : (ps : List Block) (gs : List Form) (p n : ℕ) → p < length ps → formsBefore gs ≡ 0 → ProcAt n p ps (procForms ps gs)
+unfolding procForms procLineFrom bodyIn
+proc-at [] gs p n h e = absurd (omega arith)
+proc-at (b ∷ ps) gs zero n h e = record { place = 0; line = omega arith; later = procForms ps gs; there = refl; ends = begins-procs ps gs e }
+proc-at (b ∷ ps) gs (suc p) n h e =
+    let fs = procForms ps gs in
+    let x = passes-more p Close fs fs (λ k. refl) (passes-none p fs) in
+    let m = passes-then p (blockForms b (Close ∷ fs)) (Close ∷ fs) fs (passes-block p b (Close ∷ fs)) x in
+    let r = proc-at ps gs p (suc n + m .forms-on) (omega arith) e in
+    record {
+      place = suc (m .forms-on + r .place);
+      line = later-line p n (blockForms b (Close ∷ fs)) ∙ m .counted (suc n) ∙ r .line ∙ regroup n (m .forms-on) (r .place);
+      later = r .later;
+      there = sym (drop-drop (r .place) (m .forms-on) (blockForms b (Close ∷ fs))) ∙ ap (drop (r .place)) (m .there) ∙ r .there;
+      ends = r .ends;
+    }
+
+begins-threads : (ns : List ℕ) (fs : List Form) → 0 < length ns → formsBefore (threadForms ns fs) ≡ 0
+unfolding threadForms formsBefore beginsOther
+begins-threads [] fs h = absurd (omega arith)
+begins-threads (n ∷ ns) fs h = refl
+
+-- a closing line is the last
+closing : (later : List Form) → formsBefore later ≡ 0 → take (formsBefore (Close ∷ later)) (Close ∷ later) ≡ Close ∷ []
+unfolding formsBefore beginsOther
+closing later z = rw z
+
+-- the lines from a procedure's first line to its last
+pub proc-part-forms : (plan : LockPlan) (p : ℕ) → p < length (plan .procs) → 0 < length (plan .threads)
+    → (line : ℕ) → line ≡ procLineFrom 1 p (forms plan)
+    → (1 ≤ line) × (linesPart (textOf (forms plan)) (line - 1) (line + formsBefore (drop line (forms plan))) ≡ textOf (procForms (bodyIn (plan .procs) p ∷ []) []))
+unfolding forms procLineFrom procForms
+proc-part-forms plan p h t line e =
+    let gs = threadForms (plan .threads) (Close ∷ []) in
+    let fs = procForms (plan .procs) gs in
+    let r = proc-at (plan .procs) gs p 2 h (begins-threads (plan .threads) (Close ∷ []) t) in
+    let b = bodyIn (plan .procs) p in
+    let at : line ≡ suc (suc (r .place)) = e ∙ r .line ∙ omega arith in
+    let inside : drop line (Plan ∷ fs) ≡ blockForms b (Close ∷ r .later) =
+    rw at (ap (λ n. drop n fs) (sym (add-one (r .place))) ∙ sym (drop-drop 1 (r .place) fs) ∙ ap (drop 1) (r .there)) in
+    let n = formsBefore (blockForms b (Close ∷ r .later)) in
+    let back : line - 1 ≡ suc (r .place) = omega arith in
+    let to : line + n ≡ suc (r .place) + suc n = omega arith in (
+      omega arith,
+      rw (inside, back, to) (lines-forms (Plan ∷ fs) (suc (r .place)) (suc n)
+          ∙ ap (λ l. textOf (take (suc n) l)) (r .there) ∙ ap (λ l. textOf (Proc ∷ l)) (before-block b (Close ∷ r .later) ∙ ap (blockForms b) (closing (r .later) (r .ends)))),
+    )
