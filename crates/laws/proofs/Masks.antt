@@ -8,8 +8,8 @@ use mathlib.Core.Path.{_≡_, refl, sym, ap, _∙_}
 use native.Mathlib.Omega.{arith}
 use native.Mathlib.Nat.{one-mul, zero-mul, zero-add, add-mul, mod-eq-of-lt, div-eq-of-lt}
 use native.Mathlib.Numerals.{one-add}
-use lib.Bits.{bitAnd, bitOr, and-mask, and-step, and-shr, and-self, and-high, and-le-r, or-shifted, or-zero-l, or-lt, and-lt}
-use lib.Count.{trailingZeros, under}
+use lib.Bits.{bitAnd, bitOr, and-mask, and-step, and-self, and-high, and-le-r, or-shifted, or-zero-l, or-lt, and-lt}
+use lib.Count.{trailingZeros}
 use lib.Dec.{eqb, leb, eqb·zero-suc, eqb·suc-zero, eqb·suc-suc}
 use lib.Pow.{pow-pos, pow-mono, pow-lt, pow-add, shl-exact}
 use borrow.Author.Tests.{ne-eqb, le-leb, lt-leb}

@@ -58,6 +58,5 @@ pub mod Dropping
 pub mod CircleSearch
 pub mod Closing
 pub mod RetreatMoves
--- The reference cases.
-pub mod CaseTable
-pub mod Cases
+-- A computed test of cases.
+pub mod CaseTest
