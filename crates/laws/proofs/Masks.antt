@@ -10,7 +10,7 @@ use native.Mathlib.Nat.{one-mul, zero-mul, zero-add, add-mul, mod-eq-of-lt, div-
 use native.Mathlib.Numerals.{one-add}
 use lib.Bits.{bitAnd, bitOr, and-mask, and-step, and-self, and-high, and-le-r, or-shifted, or-zero-l, or-lt, and-lt}
 use lib.Count.{trailingZeros}
-use lib.Dec.{eqb, leb, eqb·zero-suc, eqb·suc-zero, eqb·suc-suc}
+use lib.Dec.{T, eqb, leb, eqb→eq, eqb·zero-suc, eqb·suc-zero, eqb·suc-suc}
 use lib.Pow.{pow-pos, pow-mono, pow-lt, pow-add, shl-exact}
 use borrow.Author.Tests.{ne-eqb, le-leb, lt-leb}
 use Rattle.laws.specs.Mask.{bit, inMask, maskOf}
@@ -85,6 +85,15 @@ mask-digit (suc n) f k b = rw (mask-join n f, bit-or)
 
 pub mask-member : (n : ℕ) (f : ℕ → Bool) (k : ℕ) → k < n → inMask (maskOf n f) k ≡ f k
 mask-member n f k b = rw (mask-digit n f k b) (test-digit (f k))
+
+-- its members are those of f below n
+pub in-mask-of : (n : ℕ) (f : ℕ → Bool) (k : ℕ) → k < n → T (f k) → T (inMask (maskOf n f) k)
+in-mask-of n f k b t = rw (mask-member n f k b) t
+
+pub mask-of-in : (n : ℕ) (f : ℕ → Bool) (k : ℕ) → T (inMask (maskOf n f) k) → (k < n) × T (f k)
+mask-of-in n f k t =
+    ⊎-elim (λ (b : k < n). (b, rw (mask-member n f k b) at t))
+    (λ (b : n ≤ k). let e : bit (maskOf n f) k ≡ 1 = eqb→eq (bit (maskOf n f) k) 1 t in absurd (omega (arith, mask-out n f k b))) (lt-or-le k n)
 
 -- two masks of n digits are equal where their members are
 pub mask-ext : (n a b : ℕ) → a < 2 ^ n → b < 2 ^ n → ((k : ℕ) → k < n → bit a k ≡ bit b k) → a ≡ b

@@ -13,13 +13,13 @@ use native.Mathlib.Omega.{arith}
 use lib.Bits.{bitAnd, and-comm}
 use lib.ListN.{length, getD, set, length-set}
 use lib.Seq.{getD-set-same}
-use lib.Dec.{T, eqb, eqb→eq, eqb-refl, T-not, not-T}
+use lib.Dec.{T, eqb, eqb→eq, eqb-refl, T-not}
 use Rattle.laws.specs.Mask.{bit, inMask}
 use Rattle.laws.proofs.Tests.{T-dec, T-true, T-false, eq-or-ne, lt-or-le}
 use Rattle.laws.proofs.Bits.{bit-and, bit-none, bit-lt, disjoint, of-disjoint, apart-in}
 use Rattle.semantics.specs.Plan.{Block, hold, bodyIn, LockPlan, Sound}
 use Rattle.semantics.specs.Run.{ThreadState, initial, unlocked, apart, everyone, run, start}
-use Rattle.semantics.specs.Sizes.{sizeAt, sizeOf, sizes, threadSizes}
+use Rattle.semantics.specs.Sizes.{sizeOf, threadSizes}
 use Rattle.semantics.specs.Stuck.{Stuck, Schedule}
 use Rattle.semantics.specs.Pairs.{heldFrom, held, locksOf, wantOf}
 use Rattle.semantics.proofs.Remainders.{Plain}
@@ -30,14 +30,14 @@ use Rattle.semantics.proofs.Execution.{Execution, exec, stateAfter, exe
 use Rattle.semantics.proofs.Compatible.{CompatibleIn}
 use Rattle.semantics.proofs.Apart.{nth, counts}
 use Rattle.semantics.proofs.Invariant.{start-length, start-at}
+use Rattle.semantics.proofs.SizeDepth.{thread-sizes}
 use Rattle.semantics.proofs.Tables.{is-table, total, total-le, total-lt}
 use Rattle.semantics.proofs.JointStates.{Executions, joint, joint-at, in-joint, of-joint, joint-absent, state-balanced, joint-balanced, last-step}
 use Rattle.semantics.proofs.RetreatStep.{Retreat, retreat-step}
 use Rattle.semantics.proofs.RetreatRefused.{Refusal, retreat-refused}
 use Rattle.semantics.proofs.RetreatJump.{MatchingBegin, retreat-jump, jump-total}
 use Rattle.semantics.proofs.RetreatByMasks.{heldMask, positionOf, apart-of-masks, masks-of-apart, lowered-set, step-back-permitted, step-back-refused, matching-begin-scan}
-use Rattle.semantics.proofs.Joins.{joinBelow, in-join, join-in}
-use Rattle.semantics.proofs.Dropping.{otherThan}
+use Rattle.semantics.proofs.Joins.{joinBelow, otherThan, other-than, in-join, join-in}
 use Rattle.semantics.proofs.Closing.{wishOf, wish-hold, WishesAt, stuckRounds, AllWait, ContainsAll, closing-masks, closing-contains}
 use Rattle.semantics.proofs.Circle.{WordConflict, Circle, CircleChoice, circle-choice}
 use Rattle.semantics.proofs.Blocked.{Blocked, blocked-stuck}
@@ -212,7 +212,7 @@ module _ {ps : List Block} {ns : List ℕ} {P : ℕ → List ℕ} {s : ℕ → �
   unfolding othersAt
   apart-others js k m e i b d =
       and-comm m (getD (M i) (positionOf js i) 0) ∙ apart-in (getD (M i) (positionOf js i) 0) (othersAt n M js k) m
-      (λ l h. in-join (otherThan k) (λ i. getD (M i) (positionOf js i) 0) l n i b (not-T (eqb i k) (λ t. d (eqb→eq i k t))) h)
+      (λ l h. in-join (otherThan k) (λ i. getD (M i) (positionOf js i) 0) l n i b (other-than k i d) h)
       (and-comm (othersAt n M js k) m ∙ e)
 
   in-others : (js : List ℕ) (k l : ℕ) → bit (othersAt n M js k) l ≡ 1 → (i : ℕ) × (i < n) × (i ≢ k) × (bit (getD (M i) (positionOf js i) 0) l ≡ 1)
@@ -452,17 +452,11 @@ module _ {ps : List Block} {ns : List ℕ} {P : ℕ → List ℕ} {s : ℕ → �
         short = omega (arith, g .retreat .short);
       }
 
-threads-total : (d : ℕ) (ps : List Block) (ns : List ℕ) → total (length ns) (λ t. sizeAt d ps (getD ns t 0)) ≡ sizes d ps ns
-unfolding total sizes
-threads-total d ps [] = refl
-threads-total d ps (n ∷ ns) = ap (λ k. sizeAt d ps n + k) (threads-total d ps ns)
-
 -- positions that are no higher than the threads' sizes are together no more than the plan asks of a schedule
 pub paths-short : (plan : LockPlan) (js : List ℕ) → ((t : ℕ) → t < length (plan .threads) → positionOf js t ≤ sizeOf (plan .procs) (getD (plan .threads) t 0))
     → total (length (plan .threads)) (positionOf js) ≤ threadSizes plan
-unfolding threadSizes sizeOf
 paths-short plan js h =
-    subst (λ b. total (length (plan .threads)) (positionOf js) ≤ b) (threads-total (length (plan .procs)) (plan .procs) (plan .threads))
+    subst (λ b. total (length (plan .threads)) (positionOf js) ≤ b) (thread-sizes plan)
     (total-le (length (plan .threads)) (positionOf js) (λ t. sizeOf (plan .procs) (getD (plan .threads) t 0)) h)
 
 -- what the way back ends with is a schedule, its set computed by masks
