@@ -21,14 +21,14 @@ abbrev pub example : List ℕ → Outcome → Example
 example t o = record { text = t; outcome = o }
 
 -- a text that no rule refuses, and what its row says of its plan
-pub record Accepts (text : List ℕ) (words : List (List ℕ)) (a : Answer) : Type 0 where
+pub record AcceptedWith (text : List ℕ) (words : List (List ℕ)) (a : Answer) : Type 0 where
   pub kept : planRefusal text ≡ none
   pub facts : CaseFacts (planOf text) words a
 
 -- what an outcome says of a text
 abbrev pub Gives : List ℕ → Outcome → Type 0
 Gives text (refusedBy r l) = planRefusal text ≡ some (refusal r l)
-Gives text (accepted words a) = Accepts text words a
+Gives text (accepted words a) = AcceptedWith text words a
 
 -- ---- texts
 

@@ -89,6 +89,6 @@ unfoldable pub behind : List Form → Behind
 behind [] = record { blocks = []; procs = []; threads = [] }
 behind (f ∷ fs) = inFront f (behind fs)
 
--- the tree that forms denote: p where they are the forms of p (theorem `plan-of-forms`)
+-- the tree that forms denote: p where they are the forms of a grammatical p (theorem `plan-of-forms`)
 unfoldable pub planIn : List Form → LockPlan
 planIn fs = record { procs = behind fs .procs; threads = behind fs .threads }

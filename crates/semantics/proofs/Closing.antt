@@ -11,9 +11,9 @@ use native.Mathlib.Nat.{eq-zero-or-pos}
 use native.Mathlib.Omega.{arith}
 use lib.Bits.{bitAnd, and-zero-l, and-comm}
 use lib.ListN.{length, getD}
-use lib.Dec.{T, eqb, ltb, eqb→eq, eqb-refl, ltb→lt, lt→ltb, T-not, not-T}
+use lib.Dec.{T, eqb, ltb, eqb→eq, ltb→lt, lt→ltb, T-not, not-T}
 use Rattle.laws.specs.Mask.{bit, inMask, maskOf}
-use Rattle.laws.proofs.Tests.{T-and, and-T, same-test, eq-or-ne}
+use Rattle.laws.proofs.Tests.{T-and, and-T, same-test, eq-or-ne, eq→eqb}
 use Rattle.laws.proofs.Masks.{in-mask-of, mask-of-in}
 use Rattle.laws.proofs.Bits.{bit-pow, bit-pow-other, bit-lt, some-bit, disjoint, of-disjoint, apart-in}
 use Rattle.semantics.specs.Plan.{Block, done, skip, call, hold, loop, either, end, bodyIn, LockPlan, Sound}
@@ -27,7 +27,7 @@ use Rattle.semantics.proofs.Apart.{nth, counts, excludes-present, apart
 use Rattle.semantics.proofs.Blocked.{Blocked, stuck-blocked, stuck-present}
 use Rattle.semantics.proofs.Invariant.{Invariant, run-invariant, run-length, start-length, start-invariant}
 use Rattle.semantics.proofs.LargestStuck.{atHold, beginsHold, round, rounds, Covers, blocked-more, blocked-round, round-blocked, round-in, rounds-in, rounds-cover, fixed-largest, rounds-largest}
-use Rattle.semantics.proofs.Joins.{joinBelow, in-join, join-in}
+use Rattle.semantics.proofs.Joins.{joinBelow, other-than, in-join, join-in}
 
 -- the lock that a remainder is about to hold, as a mask: none where it does not begin with a hold
 unfoldable pub wishOf : Block → ℕ
@@ -140,7 +140,7 @@ module _ (n : ℕ) (wishes masks : List ℕ) where
       let (b, w) = f t s in
       in-mask-of n (λ t. ltb 0 (getD wishes t 0)) t b
       (⊎-elim (λ (z : getD wishes t 0 ≡ 0). absurd (T-not (eqb (meeting m′ t) 0) w
-      (subst (λ x. T (eqb x 0)) (sym (ap (λ x. bitAnd x (heldByMembers n masks m′ t)) z ∙ and-zero-l (heldByMembers n masks m′ t))) tt)))
+      (eq→eqb (meeting m′ t) 0 (ap (λ x. bitAnd x (heldByMembers n masks m′ t)) z ∙ and-zero-l (heldByMembers n masks m′ t)))))
       (λ h. lt→ltb 0 (getD wishes t 0) h) (eq-zero-or-pos (getD wishes t 0)))
 
   -- and so does what is left of m without a thread whose wanted lock no other member holds
@@ -164,7 +164,7 @@ module _ (ps : List Block) (bodies : (p : ℕ) → Plain (bodyIn ps p)) (ts : Li
       let c : u < n = excludes-present ts u (w .lock) (w .theirs) in
       let e : getD wishes t 0 ≡ 2 ^ (w .lock) = a .wish t b ∙ wish-hold ((nth ts t) .rest) (w .lock) (w .inside) (w .following) (w .stands) in
       let h : bit (getD masks u 0) (w .lock) ≡ 1 = ap (λ x. bit x (w .lock)) (a .mask u c) ∙ positive-digit (counts ts u) (w .lock) (w .theirs) in
-      let s : T (member n wishes masks m t u) = and-T (inMask m u) (not (eqb u t)) (w .member) (not-T (eqb u t) (λ z. w .differs (eqb→eq u t z))) in
+      let s : T (member n wishes masks m t u) = and-T (inMask m u) (not (eqb u t)) (w .member) (other-than t u (w .differs)) in
       let g : bit (heldByMembers n masks m t) (w .lock) ≡ 1 = in-join (member n wishes masks m t) (λ u. getD masks u 0) (w .lock) n u c s h in
       not-T (eqb (bitAnd (getD wishes t 0) (heldByMembers n masks m t)) 0)
       (λ z. meet (w .lock) (heldByMembers n masks m t) g (sym (ap (λ x. bitAnd x (heldByMembers n masks m t)) e) ∙ eqb→eq
@@ -176,8 +176,8 @@ module _ (ps : List Block) (bodies : (p : ℕ) → Plain (bodyIn ps p)) (ts : Li
       ⊎-elim
       (λ (z : wishOf ((nth ts t) .rest) ≡ 0).
       absurd (T-not (eqb (bitAnd (getD wishes t 0) (heldByMembers n masks m t)) 0) h
-      (subst (λ x. T (eqb (bitAnd x (heldByMembers n masks m t)) 0)) (sym (a .wish t b ∙ z))
-      (subst (λ x. T (eqb x 0)) (sym (and-zero-l (heldByMembers n masks m t))) tt))))
+      (eq→eqb (bitAnd (getD wishes t 0) (heldByMembers n masks m t)) 0
+      (ap (λ x. bitAnd x (heldByMembers n masks m t)) (a .wish t b ∙ z) ∙ and-zero-l (heldByMembers n masks m t)))))
       (λ (q : (l : ℕ) × (x : Block) × (r : Block) × ((nth ts t) .rest ≡ hold l x r)).
       let e : getD wishes t 0 ≡ 2 ^ (q .0) = a .wish t b ∙ wish-hold ((nth ts t) .rest) (q .0) (q .1) (q .2) (q .3) in
       let g : bit (heldByMembers n masks m t) (q .0) ≡ 1 =
@@ -190,7 +190,7 @@ module _ (ps : List Block) (bodies : (p : ℕ) → Plain (bodyIn ps p)) (ts : Li
         following = q .2;
         stands = q .3;
         other = u;
-        differs = λ z. T-not (eqb u t) d (rw z (eqb-refl t));
+        differs = λ z. T-not (eqb u t) d (eq→eqb u t z);
         member = i;
         theirs = digit-positive (counts ts u) (q .0) (subst (λ x. bit x (q .0) ≡ 1) (a .mask u c) f);
       })

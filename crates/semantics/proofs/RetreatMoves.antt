@@ -13,9 +13,9 @@ use native.Mathlib.Omega.{arith}
 use lib.Bits.{bitAnd, and-comm}
 use lib.ListN.{length, getD, set, length-set}
 use lib.Seq.{getD-set-same}
-use lib.Dec.{T, eqb, eqb→eq, eqb-refl, T-not}
+use lib.Dec.{T, eqb, eqb→eq, T-not}
 use Rattle.laws.specs.Mask.{bit, inMask}
-use Rattle.laws.proofs.Tests.{T-dec, T-true, T-false, eq-or-ne, lt-or-le}
+use Rattle.laws.proofs.Tests.{T-dec, T-true, T-false, eq-or-ne, lt-or-le, eq→eqb}
 use Rattle.laws.proofs.Bits.{bit-and, bit-none, bit-lt, disjoint, of-disjoint, apart-in}
 use Rattle.semantics.specs.Plan.{Block, hold, bodyIn, LockPlan, Sound}
 use Rattle.semantics.specs.Run.{ThreadState, initial, unlocked, apart, everyone, run, start}
@@ -219,7 +219,7 @@ module _ {ps : List Block} {ns : List ℕ} {P : ℕ → List ℕ} {s : ℕ → �
   unfolding othersAt
   in-others js k l e =
       let (i, b, d, h) = join-in (otherThan k) (λ i. getD (M i) (positionOf js i) 0) l n e in
-      (i, b, (λ z. T-not (eqb i k) d (subst (λ y. T (eqb y k)) (sym z) (eqb-refl k))), h)
+      (i, b, (λ z. T-not (eqb i k) d (eq→eqb i k z)), h)
 
   -- ---- one step back
 
