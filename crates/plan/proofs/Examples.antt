@@ -13,7 +13,8 @@ use Rattle.laws.specs.Choice.{pick}
 use Rattle.laws.specs.Mask.{bit}
 use Rattle.laws.proofs.Tests.{T-and}
 use Rattle.text.specs.Forms.{numberIn}
-use Rattle.text.specs.Kinds.{kindOf, planKind, twoKind, threadKind, callKind, holdKind, numbered, wordKind, betweenWord, afterWord, numberOf, appendDigit, leadingOf, digitOf}
+use Rattle.text.specs.Kinds.{kindOf, planKind, twoKind, threadKind, callKind, holdKind, numbered, wordKind}
+use Rattle.text.specs.Kinds.{betweenWord, afterWord, numberOf, appendDigit, leadingOf, digitOf}
 use Rattle.text.specs.Lines.{split, formsIn, formsOf, unreadable, unreadableLine}
 use Rattle.semantics.specs.Plan.{bodyIn, _⨾_}
 use Rattle.semantics.specs.Sizes.{sizeWith, sizeAt, sizeOf, sizes, threadSizes}
@@ -26,8 +27,10 @@ use Rattle.semantics.proofs.CaseTest.{written, soundFrom, all, sameList, wordsF
 use Rattle.plan.specs.Grammar.{inFront, behind, planIn}
 use Rattle.plan.specs.Structure.{among, only, closeBlock, onClose, advanceOf, misplaced, misplacedLine}
 use Rattle.plan.specs.Limits.{counted, overLimit, testedBy, leastBad, breaks, breaking, breakingLine}
-use Rattle.plan.specs.Rules.{Refusal, refusal, tooLong, formsRefusal, readerRefusal, planOf, procLineFrom, lowestFrom, procRefusal, tooLarge, tooManyPairs, planRefusal}
-use Rattle.plan.specs.Examples.{Outcome, refusedBy, accepted, Example, Gives, copies, loops, eithers, rule3, rule4, rule5, rule678, rule9, to8, to9, reference, limits}
+use Rattle.plan.specs.Rules.{Refusal, refusal, tooLong, formsRefusal, readerRefusal, planOf, procLineFrom}
+use Rattle.plan.specs.Rules.{lowestFrom, procRefusal, tooLarge, tooManyPairs, planRefusal}
+use Rattle.plan.specs.Examples.{Outcome, refusedBy, accepted, Example, Gives, copies, loops, eithers}
+use Rattle.plan.specs.Examples.{rule3, rule4, rule5, rule678, rule9, to8, to9, reference, limits}
 
 -- ---- the test
 

@@ -26,7 +26,8 @@ use Rattle.semantics.proofs.LockSets.{positive-digit, digit-positive}
 use Rattle.semantics.proofs.Apart.{nth, counts, excludes-present, apart→}
 use Rattle.semantics.proofs.Blocked.{Blocked, stuck-blocked, stuck-present}
 use Rattle.semantics.proofs.Invariant.{Invariant, run-invariant, run-length, start-length, start-invariant}
-use Rattle.semantics.proofs.LargestStuck.{atHold, beginsHold, round, rounds, Covers, blocked-more, blocked-round, round-blocked, round-in, rounds-in, rounds-cover, fixed-largest, rounds-largest}
+use Rattle.semantics.proofs.LargestStuck.{atHold, beginsHold, round, rounds, Covers, blocked-more, blocked-round, round-blocked}
+use Rattle.semantics.proofs.LargestStuck.{round-in, rounds-in, rounds-cover, fixed-largest, rounds-largest}
 use Rattle.semantics.proofs.Joins.{joinBelow, other-than, in-join, join-in}
 
 -- the lock that a remainder is about to hold, as a mask: none where it does not begin with a hold

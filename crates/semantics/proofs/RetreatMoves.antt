@@ -1,5 +1,6 @@
 -- The way back (source 000, Lemma 4.3) as a program carries it (`GoingBack`): positions and entries as lists, the locks held as masks, and what each thread wants
--- and holds at the target that the entries lead to. One law for each of its moves: the first target, a step back, the jump, and the end, where the entries are a run from the start.
+-- and holds at the target that the entries lead to. One law for each of its moves: the first target, a step back, the jump, and the end, where the entries are a
+-- run from the start.
 -- A step back leaves the target as it was, so what is wanted there does not change. A jump makes the present places the target, each thread that has stepped moved
 -- before the hold of the lock that its last step gave up: it wants that lock, and holds what it held. A thread at its start wants what its block begins with.
 use Prim.Native.Nat.{ℕ, zero, suc, _+_, _-_, _*_, _^_, _≤_, _<_}
@@ -36,7 +37,8 @@ use Rattle.semantics.proofs.JointStates.{Executions, joint, joint-at, i
 use Rattle.semantics.proofs.RetreatStep.{Retreat, retreat-step}
 use Rattle.semantics.proofs.RetreatRefused.{Refusal, retreat-refused}
 use Rattle.semantics.proofs.RetreatJump.{MatchingBegin, retreat-jump, jump-total}
-use Rattle.semantics.proofs.RetreatByMasks.{heldMask, positionOf, apart-of-masks, masks-of-apart, lowered-set, step-back-permitted, step-back-refused, matching-begin-scan}
+use Rattle.semantics.proofs.RetreatByMasks.{heldMask, positionOf, apart-of-masks, masks-of-apart, lowered-set}
+use Rattle.semantics.proofs.RetreatByMasks.{step-back-permitted, step-back-refused, matching-begin-scan}
 use Rattle.semantics.proofs.Joins.{joinBelow, otherThan, other-than, in-join, join-in}
 use Rattle.semantics.proofs.Closing.{wishOf, wish-hold, WishesAt, stuckRounds, AllWait, ContainsAll, closing-masks, closing-contains}
 use Rattle.semantics.proofs.Circle.{WordConflict, Circle, CircleChoice, circle-choice}
@@ -158,7 +160,9 @@ pub record AtCircle (n : ℕ) (s : ℕ → ℕ → ThreadState) (M : ℕ → Lis
   pub others : (t : ℕ) → t < n → ((i : ℕ) → i < k → thread i ≢ t) → (positionOf js t ≡ 0) × (getD wishes t 0 ≡ getD begin t 0)
   pub mask : (t : ℕ) → t < n → getD masks t 0 ≡ getD (M t) (positionOf js t) 0
 
-at-words : {n : ℕ} {s : ℕ → ℕ → ThreadState} {M : ℕ → List ℕ} {begin : List ℕ} {vss : List (List ℕ)} {k : ℕ} {thread word : ℕ → ℕ} {js wishes masks : List ℕ} → (q : CircleChoice vss k thread word) → AtCircle n s M begin k thread word js wishes masks → AtWords n s M begin (q .members) (q .choice) js wishes masks
+at-words : {n : ℕ} {s : ℕ → ℕ → ThreadState} {M : ℕ → List ℕ} {begin : List ℕ} {vss : List (List ℕ)} {k : ℕ} {thread word : ℕ → ℕ} {js wishes masks : List ℕ}
+    → (q : CircleChoice vss k thread word) → AtCircle n s M begin k thread word js wishes masks
+    → AtWords n s M begin (q .members) (q .choice) js wishes masks
 at-words {n} {s} {M} {begin} {thread = thread} {word} {js} {wishes} q a = record {
   size = a .size;
   present = λ t m. let (i, b, e, f) = q .is-member t m in subst (λ u. u < n) e (a .present i b);
@@ -241,7 +245,8 @@ module _ {ps : List Block} {ns : List ℕ} {P : ℕ → List ℕ} {s : ℕ → �
         there = g .there;
       }
 
-  pub step-total : (js : List ℕ) (k : ℕ) → length js ≡ n → k < n → 0 < positionOf js k → total n (positionOf (set js k (positionOf js k - 1))) < total n (positionOf js)
+  pub step-total : (js : List ℕ) (k : ℕ) → length js ≡ n → k < n → 0 < positionOf js k
+      → total n (positionOf (set js k (positionOf js k - 1))) < total n (positionOf js)
   step-total js k e b o =
       let c : k < length js = subst (λ m. k < m) (sym e) b in
       let l = lowered-set js k c o in
@@ -321,7 +326,8 @@ module _ {ps : List Block} {ns : List ℕ} {P : ℕ → List ℕ} {s : ℕ → �
       -- it wants l there
       wants : getD ws k 0 ≡ wishOf ((s k (positionOf hs k)) .rest)
       wants =
-          let f = zero-by-end ps (x .bodies) (move-transition ps (getD (P k) (positionOf js k - 1) 0) ((s k (positionOf js k - 1)) .rest) ((s k (positionOf js k - 1)) .count) (s k (positionOf js k))
+          let f = zero-by-end ps (x .bodies) (move-transition ps (getD (P k) (positionOf js k - 1) 0)
+          ((s k (positionOf js k - 1)) .rest) ((s k (positionOf js k - 1)) .count) (s k (positionOf js k))
           (last-step executions (positionOf js) k b o (within k b)))
           (state-balanced executions k (positionOf js k - 1) b (omega (arith, within k b))) l (digit-positive ((s k (positionOf js k - 1)) .count) l had)
           (digit-free ((s k (positionOf js k)) .count) l gone) in
@@ -340,7 +346,8 @@ module _ {ps : List Block} {ns : List ℕ} {P : ℕ → List ℕ} {s : ℕ → �
     mask-there : (k : ℕ) → k < n → getD ms k 0 ≡ heldMask (s k (positionOf hs k))
     mask-there k b =
         ⊎-elim (λ (e : positionOf js k ≡ 0). held-there k b ∙ mask-at k (positionOf js k) b (omega arith) ∙ ap (λ a. heldMask (s k a)) (e ∙ sym (still-at k b e)))
-        (λ (o : 0 < positionOf js k). held-there k b ∙ mask-at k (positionOf js k) b (omega arith) ∙ sym (ap held ((back k b o) .same))) (eq-zero-or-pos (positionOf js k))
+        (λ (o : 0 < positionOf js k). held-there k b ∙ mask-at k (positionOf js k) b (omega arith) ∙ sym (ap held ((back k b o) .same)))
+        (eq-zero-or-pos (positionOf js k))
 
     pub jump-back : (k : ℕ) → k < n → 0 < positionOf js k → GoingBack ps n P s bound hs [] ws ms × (total n (positionOf hs) < total n (positionOf js))
     jump-back k b o = (

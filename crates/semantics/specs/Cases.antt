@@ -1,4 +1,4 @@
--- What a table of cases says of a plan: the words of its first procedures' pairs, and whether it is free of deadlocks or which schedule leads to which stuck threads.
+-- What a table of cases says of a plan: the words of its first procedures' pairs, and that it is free of deadlocks or which schedule leads to which stuck threads.
 use Prim.Native.Nat.{ℕ, _<_}
 use mathlib.Core.Bool.{Bool, false, _||_}
 use mathlib.Core.List.{List, [], _∷_, List·Memᴰ}
