@@ -1,8 +1,8 @@
 -- The table of texts is right: one test over it is computed (`examples-right`), and what it implies holds of the refusals, of the critical pairs and of the runs
--- themselves (`examples-facts`).
+-- themselves (`examples-facts`; of the starred plans alone `reference-facts`).
 use Prim.Native.Nat.{ℕ}
 use mathlib.Core.Bool.{Bool, true, false, _&&_}
-use mathlib.Core.List.{List, [], _∷_, _++_, List·Memᴰ, List·Memᴰ·not-nil, List·Memᴰ·cases-cons}
+use mathlib.Core.List.{List, [], _∷_, _++_, List·Memᴰ, List·Memᴰ·not-nil, List·Memᴰ·cases-cons, Memᴰ·append-left}
 use mathlib.Core.Logic.{⊎-elim}
 use mathlib.Core.Option.{Option, none, some}
 use mathlib.Core.Path.{_≡_, refl, sym, ap₂, subst}
@@ -88,6 +88,10 @@ all-come-out (x ∷ es) h e m =
 -- every row, of the starred plans and of the texts at the limits, gives what it says
 pub examples-facts : (e : Example) → List·Memᴰ e (reference ++ limits) → Gives (e .text) (e .outcome)
 examples-facts = all-come-out (reference ++ limits) examples-right
+
+-- "The starred cases are shown from the definitions as one table with one fact about it."
+pub reference-facts : (e : Example) → List·Memᴰ e reference → Gives (e .text) (e .outcome)
+reference-facts e m = examples-facts e (Memᴰ·append-left limits m)
 
 -- "procedure 8 has size 766", procedure 9 "size 1,534"
 pub doubling-sizes : (sizeOf (planOf to8 .procs) 8 ≡ 766) × (sizeOf (planOf to9 .procs) 9 ≡ 1534)
