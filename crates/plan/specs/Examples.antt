@@ -1,5 +1,6 @@
 -- The plans of 01's reference shelf as texts, each with the refusal, or with the pair words and the verdict, that it gets: the starred ones A to K (`reference`),
--- and texts at the limits of each rule (`limits`). That each gives what its row says is the theorem `examples-facts` (of `reference` alone `reference-facts`). 01, "Plans on the reference shelf".
+-- and texts at the limits of each rule (`limits`). That each gives what its row says is the theorem `examples-facts`, of the starred ones alone
+-- `reference-facts`. 01, "Plans on the reference shelf".
 use Prim.Native.Nat.{ℕ, zero, suc}
 use mathlib.Core.List.{List, [], _∷_, _++_}
 use mathlib.Core.Option.{none, some}
