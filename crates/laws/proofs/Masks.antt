@@ -7,8 +7,8 @@ use mathlib.Core.Logic.{_≢_, _⊎_, inl, inr, ⊎-elim}
 use mathlib.Core.Path.{_≡_, refl, sym, ap, _∙_}
 use native.Mathlib.Omega.{arith}
 use native.Mathlib.Nat.{one-mul, zero-mul, zero-add, add-mul, mod-eq-of-lt, div-eq-of-lt}
-use native.Mathlib.Numerals.{one-add}
-use lib.Bits.{bitAnd, bitOr, and-mask, and-step, and-self, and-high, and-le-r, or-shifted, or-zero-l, or-lt, and-lt}
+use native.Mathlib.Numerals.{one-add, add-one}
+use lib.Bits.{bitAnd, bitOr, and-mask, and-step, and-self, and-high, and-le-r, or-shifted, or-zero-l, or-comm, or-lt, and-lt}
 use lib.Count.{trailingZeros}
 use lib.Dec.{T, eqb, leb, eqb→eq, eqb·zero-suc, eqb·suc-zero, eqb·suc-suc}
 use lib.Pow.{pow-pos, pow-mono, pow-lt, pow-add, shl-exact}
@@ -64,6 +64,10 @@ mask-join n f = go (f n)
     go : (b : Bool) → cond b (2 ^ n) 0 + maskOf n f ≡ bitOr (cond b (2 ^ n) 0) (maskOf n f)
     go true = sym (rw one-mul at (or-shifted 1 n (maskOf n f) (mask-lt n f)))
     go false = zero-add (maskOf n f) ∙ sym (or-zero-l (maskOf n f))
+
+-- as a pass that joins one member after another
+pub mask-more : (f : ℕ → Bool) (i r x : ℕ) → r ≡ maskOf i f → x ≡ cond (f i) (2 ^ i) 0 → bitOr r x ≡ maskOf (i + 1) f
+mask-more f i r x e h = rw (e, h, add-one) (or-comm (maskOf i f) (cond (f i) (2 ^ i) 0) ∙ sym (mask-join i f))
 
 power-digit : (b : Bool) (n : ℕ) → bit (cond b (2 ^ n) 0) n ≡ cond b 1 0
 power-digit true n = bit-pow n
