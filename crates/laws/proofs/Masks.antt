@@ -7,10 +7,10 @@ use mathlib.Core.Logic.{_≢_, _⊎_, inl, inr, ⊎-elim}
 use mathlib.Core.Path.{_≡_, refl, sym, ap, _∙_}
 use native.Mathlib.Omega.{arith}
 use native.Mathlib.Nat.{one-mul, zero-mul, zero-add, add-mul, mod-eq-of-lt, div-eq-of-lt}
-use native.Mathlib.Numerals.{one-add}
-use lib.Bits.{bitAnd, bitOr, and-mask, and-step, and-shr, and-self, and-high, and-le-r, or-shifted, or-zero-l, or-lt, and-lt}
-use lib.Count.{trailingZeros, under}
-use lib.Dec.{eqb, leb, eqb·zero-suc, eqb·suc-zero, eqb·suc-suc}
+use native.Mathlib.Numerals.{one-add, add-one}
+use lib.Bits.{bitAnd, bitOr, and-mask, and-step, and-self, and-high, and-le-r, or-shifted, or-zero-l, or-comm, or-lt, and-lt}
+use lib.Count.{trailingZeros}
+use lib.Dec.{T, eqb, leb, eqb→eq, eqb·zero-suc, eqb·suc-zero, eqb·suc-suc}
 use lib.Pow.{pow-pos, pow-mono, pow-lt, pow-add, shl-exact}
 use borrow.Author.Tests.{ne-eqb, le-leb, lt-leb}
 use Rattle.laws.specs.Mask.{bit, inMask, maskOf}
@@ -65,6 +65,10 @@ mask-join n f = go (f n)
     go true = sym (rw one-mul at (or-shifted 1 n (maskOf n f) (mask-lt n f)))
     go false = zero-add (maskOf n f) ∙ sym (or-zero-l (maskOf n f))
 
+-- as a pass that joins one member after another
+pub mask-more : (f : ℕ → Bool) (i r x : ℕ) → r ≡ maskOf i f → x ≡ cond (f i) (2 ^ i) 0 → bitOr r x ≡ maskOf (i + 1) f
+mask-more f i r x e h = rw (e, h, add-one) (or-comm (maskOf i f) (cond (f i) (2 ^ i) 0) ∙ sym (mask-join i f))
+
 power-digit : (b : Bool) (n : ℕ) → bit (cond b (2 ^ n) 0) n ≡ cond b 1 0
 power-digit true n = bit-pow n
 power-digit false n = bit-none n
@@ -85,6 +89,15 @@ mask-digit (suc n) f k b = rw (mask-join n f, bit-or)
 
 pub mask-member : (n : ℕ) (f : ℕ → Bool) (k : ℕ) → k < n → inMask (maskOf n f) k ≡ f k
 mask-member n f k b = rw (mask-digit n f k b) (test-digit (f k))
+
+-- its members are those of f below n
+pub in-mask-of : (n : ℕ) (f : ℕ → Bool) (k : ℕ) → k < n → T (f k) → T (inMask (maskOf n f) k)
+in-mask-of n f k b t = rw (mask-member n f k b) t
+
+pub mask-of-in : (n : ℕ) (f : ℕ → Bool) (k : ℕ) → T (inMask (maskOf n f) k) → (k < n) × T (f k)
+mask-of-in n f k t =
+    ⊎-elim (λ (b : k < n). (b, rw (mask-member n f k b) at t))
+    (λ (b : n ≤ k). let e : bit (maskOf n f) k ≡ 1 = eqb→eq (bit (maskOf n f) k) 1 t in absurd (omega (arith, mask-out n f k b))) (lt-or-le k n)
 
 -- two masks of n digits are equal where their members are
 pub mask-ext : (n a b : ℕ) → a < 2 ^ n → b < 2 ^ n → ((k : ℕ) → k < n → bit a k ≡ bit b k) → a ≡ b

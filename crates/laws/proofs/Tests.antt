@@ -33,15 +33,18 @@ same-test true false f g = absurd (f tt)
 same-test false true f g = absurd (g tt)
 same-test false false f g = refl
 
+pub eq→eqb : (a b : ℕ) → a ≡ b → T (eqb a b)
+eq→eqb a b e = subst (λ n. T (eqb a n)) e (eqb-refl a)
+
 pub eq-or-ne : (a b : ℕ) → (a ≡ b) ⊎ (a ≢ b)
-eq-or-ne a b = ⊎-elim (λ t. inl (eqb→eq a b t)) (λ f. inr (λ e. f (subst (λ n. T (eqb a n)) e (eqb-refl a)))) (T-dec (eqb a b))
+eq-or-ne a b = ⊎-elim (λ t. inl (eqb→eq a b t)) (λ f. inr (λ e. f (eq→eqb a b e))) (T-dec (eqb a b))
 
 pub lt-or-le : (a b : ℕ) → (a < b) ⊎ (b ≤ a)
 lt-or-le a b = ⊎-elim (λ t. inl (ltb→lt a b t)) (λ f. inr (nltb→le a b (not-T (ltb a b) f))) (T-dec (ltb a b))
 
 pub eqb-cases : (a b : ℕ) → ((a ≡ b) × (eqb a b ≡ true)) ⊎ ((a ≢ b) × (eqb a b ≡ false))
 eqb-cases a b =
-    ⊎-elim (λ t. inl (eqb→eq a b t, T-true (eqb a b) t)) (λ f. inr (λ e. f (subst (λ n. T (eqb a n)) e (eqb-refl a)), T-false (eqb a b) f)) (T-dec (eqb a b))
+    ⊎-elim (λ t. inl (eqb→eq a b t, T-true (eqb a b) t)) (λ f. inr (λ e. f (eq→eqb a b e), T-false (eqb a b) f)) (T-dec (eqb a b))
 
 pub T-or : (a b : Bool) → T (a || b) → T a ⊎ T b
 T-or true b t = inl tt

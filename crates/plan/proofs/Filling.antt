@@ -1,8 +1,8 @@
 -- The table while it is filled: its first n words are the forms of the lines read so far, and with the forms of the lines that are left they are the text's.
-use Prim.Native.Nat.{ℕ, suc, _+_, _-_, _*_, _<_, _≤_}
+use Prim.Native.Nat.{ℕ, _+_, _-_, _*_, _<_, _≤_}
 use native.Mathlib.Numerals.{add-one}
 use native.Mathlib.Omega.{arith}
-use mathlib.Core.Path.{_≡_, refl, sym, ap, ap₂, _∙_}
+use mathlib.Core.Path.{_≡_, refl, sym, ap, _∙_}
 use mathlib.Core.List.{List, [], _∷_, _++_, map, append-nil}
 use mathlib.Core.Option.{Option, none, some, Option·none-ne-some}
 use borrow.Author.Tests.{lt-ltb, le-ltb}
@@ -15,7 +15,8 @@ use Rattle.text.specs.declared.Line.the-variants as line
 use Rattle.text.specs.Lines.{lineAt, formsOf, unreadableLine}
 use Rattle.laws.specs.Choice.{orElse}
 use Rattle.text.proofs.Splits.{few-forms}
-use Rattle.text.proofs.Reading.{formsFrom, unreadableFrom, next-forms, next-unreadable, next-later, next-within, next-small, refused-rule, refused-line, ended-forms, ended-readable}
+use Rattle.text.proofs.Reading.{formsFrom, unreadableFrom, next-forms, next-unreadable, next-later, next-within}
+use Rattle.text.proofs.Reading.{next-small, refused-rule, refused-line, ended-forms, ended-readable}
 use Rattle.plan.specs.declared.Reading.{Reading}
 use Rattle.plan.specs.declared.Reading.the-variants.{Accepted, Refused}
 use Rattle.plan.specs.Table.{codeOf, formAt, tableForms}
@@ -39,7 +40,8 @@ map-append f [] ys = refl
 map-append f (x ∷ xs) ys = ap (λ l. f x ∷ l) (map-append f xs ys)
 
 module _ (text table : List ℕ) (at n : ℕ) (q : Line) (s : Filling text table at n) (e : q ≡ lineAt text at (n + 1)) where
-  pub filling-more : (f : Form) (next w : ℕ) (table₀ : List ℕ) → q ≡ Read f next → w ≡ codeOf f → length text ≤ 32768 → 16384 ≤ length table₀ → length table ≡ length table₀
+  pub filling-more : (f : Form) (next w : ℕ) (table₀ : List ℕ) → q ≡ Read f next → w ≡ codeOf f
+      → length text ≤ 32768 → 16384 ≤ length table₀ → length table ≡ length table₀
       → at < length text → Filling text (set table n w) next (n + 1)
   filling-more f next w table₀ g k a b c h =
       let room : n < length table = omega arith in
@@ -64,7 +66,8 @@ module _ (text table : List ℕ) (at n : ℕ) (q : Line) (s : Filling text table
         forms = λ none-refused. absurd (Option·none-ne-some _ (sym (rw (← u) at none-refused)));
       }
 
-pub filling-done : (text table table₀ : List ℕ) (at n : ℕ) → Filling text table at n → length text ≤ at → length text ≤ 32768 → 16384 ≤ length table₀ → length table ≡ length table₀
+pub filling-done : (text table table₀ : List ℕ) (at n : ℕ) → Filling text table at n → length text ≤ at → length text ≤ 32768
+    → 16384 ≤ length table₀ → length table ≡ length table₀
     → Tabled (refusedAt 3 (unreadableLine text)) text (Accepted n) table
 unfolding readingOf
 filling-done text table table₀ at n s h a b c =
@@ -127,7 +130,8 @@ module _ (text table : List ℕ) (q : Reading) (t : Tabled (refusedAt 3 (unreada
         → Tabled (readerRefusal text) text r table
     plan-readable r e =
         let z : n - 0 ≡ length (formsOf text) = omega (arith, plan-count) in
-        let none-refused : refusedAt 3 (unreadableLine text) ≡ none = accepted-none (refusedAt 3 (unreadableLine text)) (length (formsOf text)) n (sym (t .answer) ∙ g) in
+        let none-refused : refusedAt 3 (unreadableLine text) ≡ none =
+        accepted-none (refusedAt 3 (unreadableLine text)) (length (formsOf text)) n (sym (t .answer) ∙ g) in
         let fs : tableForms (take (n - 0) table) ≡ formsOf text = rw z (t .forms none-refused) in
         let len : length (take (n - 0) table) ≡ length (formsOf text) = sym (length-map (take (n - 0) table) formAt) ∙ ap length fs in
         record { answer = rw (from-rule-3 text h, none-refused) (e ∙ rw (fs, len)); forms = λ _. t .forms none-refused }

@@ -4,7 +4,7 @@ use native.Mathlib.Numerals.{add-one}
 use native.Mathlib.Omega.{arith}
 use mathlib.Core.Path.{_≡_, refl, sym, ap, _∙_}
 use mathlib.Core.Bool.{Bool, true, false}
-use mathlib.Core.List.{List, [], _∷_, map}
+use mathlib.Core.List.{List, _∷_, map}
 use mathlib.Core.Option.{Option, none, some}
 use native.Mathlib.Nat.{le-refl}
 use lib.Dec.{eqb, leb}
@@ -48,7 +48,8 @@ pub count-close : (f : Form) (c : Counts) (n : ℕ) → f ≡ Close → n ≡ c 
 unfolding counted
 count-close f c n e h = ap (counts (c .procs) (c .statements) (c .threads)) h ∙ ap (counted c) (sym e)
 
-pub breaks-number : (rule t a b : ℕ) (c : Counts) (f : Form) → (rule ≡ 5 → ⊥) → t ≡ testedBy f → t ≡ rule → a ≡ leastBad rule c → b ≡ numberIn f → leb a b ≡ breaks rule c f
+pub breaks-number : (rule t a b : ℕ) (c : Counts) (f : Form) → (rule ≡ 5 → ⊥)
+    → t ≡ testedBy f → t ≡ rule → a ≡ leastBad rule c → b ≡ numberIn f → leb a b ≡ breaks rule c f
 unfolding breaks pick
 breaks-number rule t a b c f n e h p q = rw (ne-eqb rule 5 n, ← e, eq-eqb t rule h, ← p, ← q)
 
@@ -94,10 +95,12 @@ module _ (table : List ℕ) (mode d i : ℕ) (stack : List ℕ) (r : Option ℕ)
   unfolding misplaced
   turn f top q h e t g = rw (drop-cons table i 0 h, g, t, e, ← line-next i, add-one)
 
-  module _ (f : Form) (top : ℕ) (q : Advance) (h : i < length table) (e : f ≡ formAt (getD table i 0)) (t : top ≡ innermost (stackOf stack d)) (g : q ≡ advanceOf mode top f)
+  module _ (f : Form) (top : ℕ) (q : Advance) (h : i < length table) (e : f ≡ formAt (getD table i 0))
+      (t : top ≡ innermost (stackOf stack d)) (g : q ≡ advanceOf mode top f)
       (p : misplaced mode (stackOf stack d) (i + 1) (map formAt (drop i table)) ≡ r) where
     went : (k : Advance) → q ≡ k → goOn k (stackOf stack d) (i + 1) (λ m s. misplaced m s (i + 1 + 1) (map formAt (drop (i + 1) table))) ≡ r
-    went k a = ap (λ x. goOn x (stackOf stack d) (i + 1) (λ m s. misplaced m s (i + 1 + 1) (map formAt (drop (i + 1) table)))) (sym a) ∙ sym (turn f top q h e t g) ∙ p
+    went k a = ap (λ x. goOn x (stackOf stack d) (i + 1) (λ m s. misplaced m s (i + 1 + 1) (map formAt (drop (i + 1) table))))
+        (sym a) ∙ sym (turn f top q h e t g) ∙ p
 
     pub pass-stay : (m : ℕ) → q ≡ Stay m → misplaced m (stackOf stack d) (i + 1 + 1) (map formAt (drop (i + 1) table)) ≡ r
     pass-stay m a = went (Stay m) a
@@ -157,7 +160,8 @@ small-more c r f i e s = rw e (grown c i s f)
 pub small-below : (c : Counts) (i n : ℕ) → Small c i → i < n → n < 65536 → Small c 65536
 small-below c i n s h k = record { procs = omega arith; statements = omega arith; threads = omega arith; depth = omega arith }
 
-module _ (table : List ℕ) (rule i : ℕ) (c d : Counts) (f : Form) (q : Bool) (r : Option ℕ) (h : i < length table) (e : f ≡ formAt (getD table i 0)) (k : d ≡ counted c f)
+module _ (table : List ℕ) (rule i : ℕ) (c d : Counts) (f : Form) (q : Bool) (r : Option ℕ)
+    (h : i < length table) (e : f ≡ formAt (getD table i 0)) (k : d ≡ counted c f)
     (b : q ≡ breaks rule d f) (p : breaking rule c (i + 1) (map formAt (drop i table)) ≡ r) where
   tested : lineIf q (i + 1) (breaking rule d (i + 1 + 1) (map formAt (drop (i + 1) table))) ≡ r
   unfolding breaking
@@ -170,7 +174,8 @@ module _ (table : List ℕ) (rule i : ℕ) (c d : Counts) (f : Form) (q : Bool) 
   unfolding readingOf
   rule-broken n z = let a : some (i + 1) ≡ r = rw z at tested in rw (← a)
 
-pub rule-kept : (table : List ℕ) (rule i : ℕ) (c : Counts) (r : Option ℕ) → length table ≤ i → i ≤ length table → breaking rule c (i + 1) (map formAt (drop i table)) ≡ r
+pub rule-kept : (table : List ℕ) (rule i : ℕ) (c : Counts) (r : Option ℕ) → length table ≤ i → i ≤ length table
+    → breaking rule c (i + 1) (map formAt (drop i table)) ≡ r
     → Accepted i ≡ readingOf (refusedAt rule r) (length table)
 unfolding breaking readingOf
 rule-kept table rule i c r h k p =

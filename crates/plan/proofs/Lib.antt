@@ -14,3 +14,5 @@ pub mod Codes
 pub mod Filling
 -- The laws that the proofs of the functions cite.
 pub mod Laws
+-- The reference cases.
+pub mod Examples

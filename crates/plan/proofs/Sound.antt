@@ -1,6 +1,6 @@
 -- What rules 4 to 8 settle of a plan's tree (`accepted-settled`). The counts run along with the forms: a block adds its statements and leaves the
 -- other counts as they were, so a call within procedure p meets the count p + 1, and a thread the count of all procedures.
-use Prim.Native.Nat.{ℕ, zero, suc, _+_, _-_, _<_, _≤_, max}
+use Prim.Native.Nat.{ℕ, zero, suc, _+_, _-_, _<_, _≤_}
 use mathlib.Core.Bool.{Bool, true, false}
 use mathlib.Core.List.{List, [], _∷_}
 use mathlib.Core.Option.{none}
@@ -12,7 +12,7 @@ use borrow.Author.Tests.{ltb-false, leb-false}
 use Rattle.text.specs.declared.Form.{Form}
 use Rattle.text.specs.declared.Form.the-variants.{Close, Two}
 use Rattle.text.specs.Lines.{formsOf, unreadableLine}
-use Rattle.semantics.specs.Plan.{Block, done, skip, call, hold, loop, either, end, LockPlan, bodyIn, WellFormed, Written, Sound}
+use Rattle.semantics.specs.Plan.{Block, done, skip, call, hold, loop, either, end, LockPlan, bodyIn, WellFormed, Written}
 use Rattle.semantics.proofs.Remainders.{written-weaken}
 use Rattle.plan.specs.Grammar.{blockForms, procForms, threadForms, forms, Grammatical, planIn}
 use Rattle.laws.specs.Choice.{pick}

@@ -10,7 +10,8 @@ use Rattle.text.specs.declared.Form.{Form}
 use Rattle.text.specs.declared.Form.the-variants.{Plan, Proc, Thread, Close, Skip, Call, Hold, Loop, Either, One, Two}
 use Rattle.plan.specs.declared.Advance.{Advance}
 use Rattle.plan.specs.declared.Advance.the-variants.{Misplaced}
-use Rattle.plan.specs.Structure.{atStart, firstProc, nextProc, nextThread, complete, firstStatement, nextStatement, needsOne, needsTwo, endsEither, only, among}
+use Rattle.plan.specs.Structure.{atStart, firstProc, nextProc, nextThread, complete, firstStatement}
+use Rattle.plan.specs.Structure.{nextStatement, needsOne, needsTwo, endsEither, only, among}
 use Rattle.plan.specs.Structure.{ofStatement, ofOne, ofTwo, innermost, closeBlock, onClose, advanceOf, goOn, misplaced}
 
 pub data Bracket : Type 0 where

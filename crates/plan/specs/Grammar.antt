@@ -1,7 +1,7 @@
 -- The grammar: how a plan's tree is written down as forms, one a line, and the tree that forms denote. 01, "The plan text".
 use Prim.Native.Nat.{ℕ, _<_}
 use mathlib.Core.Bool.{false}
-use mathlib.Core.List.{List, [], _∷_, _++_, map}
+use mathlib.Core.List.{List, [], _∷_}
 use lib.ListN.{length}
 use Rattle.text.specs.declared.Form.{Form}
 use Rattle.text.specs.declared.Form.the-variants.{Plan, Proc, Thread, Close, Skip, Call, Hold, Loop, Either, One, Two}
@@ -89,6 +89,6 @@ unfoldable pub behind : List Form → Behind
 behind [] = record { blocks = []; procs = []; threads = [] }
 behind (f ∷ fs) = inFront f (behind fs)
 
--- the tree that forms denote: p where they are the forms of p (theorem `plan-of-forms`)
+-- the tree that forms denote: p where they are the forms of a grammatical p (theorem `plan-of-forms`)
 unfoldable pub planIn : List Form → LockPlan
 planIn fs = record { procs = behind fs .procs; threads = behind fs .threads }

@@ -1,4 +1,5 @@
--- The grammar of plans; where a form may stand; the limits; the rules in checking order; a form as a word of a table.
+-- The grammar of plans; where a form may stand; the limits; the rules in checking order; a form as a word of a table; what the rules settle;
+-- where procedures begin; the reference cases as texts.
 pub mod Grammar
 pub mod Structure
 pub mod Limits
@@ -6,3 +7,4 @@ pub mod Rules
 pub mod Table
 pub mod Settled
 pub mod Starts
+pub mod Examples

@@ -1,5 +1,5 @@
--- The rules in checking order, as three refusals: the plan's, by the reader's first, the verdict's, the pair list's. 01, "Rules, in checking order": "A refusal returns its number and a
--- line (0 where none is named) .. Each rule is tested over the whole text before the next."
+-- The rules in checking order, as three refusals: the plan's, by the reader's first, the verdict's, the pair list's. 01, "Rules, in checking order": "A refusal
+-- returns its number and a line (0 where none is named) .. Each rule is tested over the whole text before the next."
 use Prim.Native.Nat.{ℕ, zero, suc, _-_}
 use mathlib.Core.Bool.{Bool}
 use mathlib.Core.List.{List, [], _∷_}
@@ -108,7 +108,8 @@ verdictRefusal text lent = orElse (refusedIf 1 (ltb lent 6144)) (planRefusal tex
 unfoldable pub pairsRefusal : List ℕ → ℕ → ℕ → Option Refusal
 pairsRefusal text p lent = orElse (refusedIf 1 (ltb lent 128)) (orElse (planRefusal text) (refusedIf 11 (leb (length (planOf text .procs)) p)))
 
--- The cases of the reader's answer, with 01's numbers: none of its rules is broken, and how many forms there are; or the number of the first rule broken and its line.
+-- The cases of the reader's answer, with 01's numbers: none of its rules is broken, and how many forms there are; or the number of the first rule broken and its
+-- line.
 unfoldable pub readingOf : Option Refusal → ℕ → Reading
 readingOf none n = Accepted n
 readingOf (some r) n = Refused (r .rule) (r .line)

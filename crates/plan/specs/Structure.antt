@@ -1,6 +1,7 @@
 -- Rule 4: where a form may stand. A machine reads the forms with a mode, which says what may stand next, and a stack of the brackets that are open within the
--- procedure. That it accepts exactly the forms of plans, and refuses at the first line with which no plan begins, are the theorems `structure-plan` and
--- `structure-first`. 01, "The plan text" and rule 4.
+-- procedure. An either's own bracket needs no entry on the stack: its two blocks have theirs, and behind the second the mode alone asks for the either's end.
+-- The machine accepts exactly the forms of grammatical plans (theorem `structure-plan`), and otherwise names the first line with which no plan begins, or one
+-- more than the last line (theorem `structure-first`). 01, "The plan text" and rule 4.
 use Prim.Native.Nat.{ℕ, zero, suc}
 use mathlib.Core.List.{List, [], _∷_}
 use mathlib.Core.Option.{Option, none, some}

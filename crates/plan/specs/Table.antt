@@ -1,4 +1,4 @@
--- A form as a word of a table: its kind plus 16 times its number.
+-- A form as a word of a table: its kind plus 16 times its number. A form is read back from its word (theorem `form-of-code`).
 use Prim.Native.Nat.{ℕ, _+_, _*_, _/_, _%_}
 use mathlib.Core.List.{List, map}
 use lib.Dec.{eqb}

@@ -7,11 +7,11 @@ use mathlib.Core.Logic.{_⊎_, inl, inr, ⊎-elim, _≢_}
 use mathlib.Core.Path.{_≡_, refl, sym, ap, subst}
 use native.Mathlib.Omega.{arith}
 use lib.ListN.{length, getD, set, List·getD-eq-default}
-use lib.Dec.{T, eqb, eqb→eq, eqb-refl, T-not, not-T}
+use lib.Dec.{T, eqb, eqb→eq, T-not, not-T}
 use lib.Seq.{getD-set-same, getD-set-other}
 use Rattle.semantics.specs.Plan.{done}
 use Rattle.semantics.specs.Run.{ThreadState, thread, compatible, others, withAll, apart}
-use Rattle.laws.proofs.Tests.{T-and, and-T, T-or, or-T, T-dec, eq-or-ne, lt-or-le, search-below}
+use Rattle.laws.proofs.Tests.{T-and, and-T, T-or, or-T, T-dec, eq-or-ne, lt-or-le, search-below, eq→eqb}
 use Rattle.semantics.proofs.Compatible.{HasLock, Excludes, empty-excludes-none, compatible-or-contended, compatible-sym}
 
 -- thread i of a list: one with nothing to do and nothing held, where there is none
@@ -114,7 +114,7 @@ module _ (S : ℕ → Bool) (ts : List ThreadState) (t : ℕ) (y : ThreadState) 
       let (d, n) = T-and (not (eqb j t)) (not (compatible (y .count) (counts ts j))) q in
       inr (record {
         other = j;
-        differs = λ e. T-not (eqb j t) d (subst (λ k. T (eqb j k)) e (eqb-refl j));
+        differs = λ e. T-not (eqb j t) d (eq→eqb j t e);
         member = s;
         against = T-not
             (compatible (y .count) (counts ts j)) n;

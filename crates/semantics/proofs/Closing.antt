@@ -11,10 +11,11 @@ use native.Mathlib.Nat.{eq-zero-or-pos}
 use native.Mathlib.Omega.{arith}
 use lib.Bits.{bitAnd, and-zero-l, and-comm}
 use lib.ListN.{length, getD}
-use lib.Dec.{T, eqb, ltb, eqb→eq, eqb-refl, ltb→lt, lt→ltb, T-not, not-T}
-use Rattle.laws.specs.Mask.{bit, inMask}
-use Rattle.laws.proofs.Tests.{T-and, and-T, same-test, eq-or-ne}
-use Rattle.laws.proofs.Bits.{bit-pow, bit-pow-other, bit-lt, pow-is, some-bit, disjoint, of-disjoint, apart-in}
+use lib.Dec.{T, eqb, ltb, eqb→eq, ltb→lt, lt→ltb, T-not, not-T}
+use Rattle.laws.specs.Mask.{bit, inMask, maskOf}
+use Rattle.laws.proofs.Tests.{T-and, and-T, same-test, eq-or-ne, eq→eqb}
+use Rattle.laws.proofs.Masks.{in-mask-of, mask-of-in}
+use Rattle.laws.proofs.Bits.{bit-pow, bit-pow-other, bit-lt, some-bit, disjoint, of-disjoint, apart-in}
 use Rattle.semantics.specs.Plan.{Block, done, skip, call, hold, loop, either, end, bodyIn, LockPlan, Sound}
 use Rattle.semantics.specs.Run.{ThreadState, everyone, run, start}
 use Rattle.semantics.specs.Sizes.{threadSizes}
@@ -25,8 +26,9 @@ use Rattle.semantics.proofs.LockSets.{positive-digit, digit-positive}
 use Rattle.semantics.proofs.Apart.{nth, counts, excludes-present, apart→}
 use Rattle.semantics.proofs.Blocked.{Blocked, stuck-blocked, stuck-present}
 use Rattle.semantics.proofs.Invariant.{Invariant, run-invariant, run-length, start-length, start-invariant}
-use Rattle.semantics.proofs.LargestStuck.{atHold, beginsHold, round, rounds, Covers, blocked-round, round-blocked, round-in, rounds-in, rounds-cover, fixed-largest, rounds-largest}
-use Rattle.semantics.proofs.Joins.{joinBelow, in-join, join-in}
+use Rattle.semantics.proofs.LargestStuck.{atHold, beginsHold, round, rounds, Covers, blocked-more, blocked-round, round-blocked}
+use Rattle.semantics.proofs.LargestStuck.{round-in, rounds-in, rounds-cover, fixed-largest, rounds-largest}
+use Rattle.semantics.proofs.Joins.{joinBelow, other-than, in-join, join-in}
 
 -- the lock that a remainder is about to hold, as a mask: none where it does not begin with a hold
 unfoldable pub wishOf : Block → ℕ
@@ -43,10 +45,6 @@ pub record WishesAt (ts : List ThreadState) (wishes masks : List ℕ) : Type 0 w
   pub wish : (t : ℕ) → t < length ts → getD wishes t 0 ≡ wishOf ((nth ts t) .rest)
   pub mask : (t : ℕ) → t < length ts → getD masks t 0 ≡ held (counts ts t)
 
--- the set of the numbers below n that pass
-abbrev pub maskBelow : ℕ → (ℕ → Bool) → ℕ
-maskBelow n p = joinBelow n p (λ u. 2 ^ u)
-
 -- the locks that the members of m other than t hold, of n threads
 unfoldable pub heldByMembers : ℕ → List ℕ → ℕ → ℕ → ℕ
 heldByMembers n masks m t = joinBelow n (λ u. inMask m u && not (eqb u t)) (λ u. getD masks u 0)
@@ -57,28 +55,14 @@ waitsIn n wishes masks m t = not (eqb (bitAnd (getD wishes t 0) (heldByMembers n
 
 -- the threads that want a lock; what is left of the set m after a round; what is left after k rounds
 unfoldable pub wanting : ℕ → List ℕ → ℕ
-wanting n wishes = maskBelow n (λ t. ltb 0 (getD wishes t 0))
+wanting n wishes = maskOf n (λ t. ltb 0 (getD wishes t 0))
 
 unfoldable pub stuckRound : ℕ → List ℕ → List ℕ → ℕ → ℕ
-stuckRound n wishes masks m = maskBelow n (λ t. inMask m t && waitsIn n wishes masks m t)
+stuckRound n wishes masks m = maskOf n (λ t. inMask m t && waitsIn n wishes masks m t)
 
 unfoldable pub stuckRounds : ℕ → ℕ → List ℕ → List ℕ → ℕ
 stuckRounds zero n wishes masks = wanting n wishes
 stuckRounds (suc k) n wishes masks = stuckRound n wishes masks (stuckRounds k n wishes masks)
-
--- ---- sets of threads as masks
-
-one : (m t : ℕ) → bit m t ≡ 1 → T (inMask m t)
-one m t e = rw e tt
-
-pub in-mask-below : (n : ℕ) (p : ℕ → Bool) (t : ℕ) → t < n → T (p t) → T (inMask (maskBelow n p) t)
-in-mask-below n p t b s = one (maskBelow n p) t (in-join p (λ u. 2 ^ u) t n t b s (bit-pow t))
-
-pub mask-below-in : (n : ℕ) (p : ℕ → Bool) (t : ℕ) → T (inMask (maskBelow n p) t) → (t < n) × T (p t)
-mask-below-in n p t h =
-    let (u, b, s, e) = join-in p (λ u. 2 ^ u) t n (eqb→eq (bit (maskBelow n p) t) 1 h) in
-    let z : t ≡ u = pow-is u t e in
-    (omega arith, subst (λ x. T (p x)) (sym z) s)
 
 -- ---- wishes
 
@@ -155,9 +139,9 @@ module _ (n : ℕ) (wishes masks : List ℕ) where
   unfolding wanting
   wanting-contains m′ f t s =
       let (b, w) = f t s in
-      in-mask-below n (λ t. ltb 0 (getD wishes t 0)) t b
+      in-mask-of n (λ t. ltb 0 (getD wishes t 0)) t b
       (⊎-elim (λ (z : getD wishes t 0 ≡ 0). absurd (T-not (eqb (meeting m′ t) 0) w
-      (subst (λ x. T (eqb x 0)) (sym (ap (λ x. bitAnd x (heldByMembers n masks m′ t)) z ∙ and-zero-l (heldByMembers n masks m′ t))) tt)))
+      (eq→eqb (meeting m′ t) 0 (ap (λ x. bitAnd x (heldByMembers n masks m′ t)) z ∙ and-zero-l (heldByMembers n masks m′ t)))))
       (λ h. lt→ltb 0 (getD wishes t 0) h) (eq-zero-or-pos (getD wishes t 0)))
 
   -- and so does what is left of m without a thread whose wanted lock no other member holds
@@ -168,18 +152,6 @@ module _ (n : ℕ) (wishes masks : List ℕ) where
       (λ (d : u ≢ t). k u d (c m″ g u s)) (eq-or-ne u t)
 
 -- ---- the rounds by masks
-
-waits-within : (S S′ : ℕ → Bool) (ts : List ThreadState) (t : ℕ) → ((u : ℕ) → T (S u) → T (S′ u)) → Blocked S ts t → Blocked S′ ts t
-waits-within S S′ ts t k w = record {
-  lock = w .lock;
-  inside = w .inside;
-  following = w .following;
-  stands = w .stands;
-  other = w .other;
-  differs = w .differs;
-  member = k (w .other) (w .member);
-  theirs = w .theirs;
-}
 
 module _ (ps : List Block) (bodies : (p : ℕ) → Plain (bodyIn ps p)) (ts : List ThreadState) (moment : Invariant ts) (wishes masks : List ℕ)
     (a : WishesAt ts wishes masks) where
@@ -193,7 +165,7 @@ module _ (ps : List Block) (bodies : (p : ℕ) → Plain (bodyIn ps p)) (ts : Li
       let c : u < n = excludes-present ts u (w .lock) (w .theirs) in
       let e : getD wishes t 0 ≡ 2 ^ (w .lock) = a .wish t b ∙ wish-hold ((nth ts t) .rest) (w .lock) (w .inside) (w .following) (w .stands) in
       let h : bit (getD masks u 0) (w .lock) ≡ 1 = ap (λ x. bit x (w .lock)) (a .mask u c) ∙ positive-digit (counts ts u) (w .lock) (w .theirs) in
-      let s : T (member n wishes masks m t u) = and-T (inMask m u) (not (eqb u t)) (w .member) (not-T (eqb u t) (λ z. w .differs (eqb→eq u t z))) in
+      let s : T (member n wishes masks m t u) = and-T (inMask m u) (not (eqb u t)) (w .member) (other-than t u (w .differs)) in
       let g : bit (heldByMembers n masks m t) (w .lock) ≡ 1 = in-join (member n wishes masks m t) (λ u. getD masks u 0) (w .lock) n u c s h in
       not-T (eqb (bitAnd (getD wishes t 0) (heldByMembers n masks m t)) 0)
       (λ z. meet (w .lock) (heldByMembers n masks m t) g (sym (ap (λ x. bitAnd x (heldByMembers n masks m t)) e) ∙ eqb→eq
@@ -205,8 +177,8 @@ module _ (ps : List Block) (bodies : (p : ℕ) → Plain (bodyIn ps p)) (ts : Li
       ⊎-elim
       (λ (z : wishOf ((nth ts t) .rest) ≡ 0).
       absurd (T-not (eqb (bitAnd (getD wishes t 0) (heldByMembers n masks m t)) 0) h
-      (subst (λ x. T (eqb (bitAnd x (heldByMembers n masks m t)) 0)) (sym (a .wish t b ∙ z))
-      (subst (λ x. T (eqb x 0)) (sym (and-zero-l (heldByMembers n masks m t))) tt))))
+      (eq→eqb (bitAnd (getD wishes t 0) (heldByMembers n masks m t)) 0
+      (ap (λ x. bitAnd x (heldByMembers n masks m t)) (a .wish t b ∙ z) ∙ and-zero-l (heldByMembers n masks m t)))))
       (λ (q : (l : ℕ) × (x : Block) × (r : Block) × ((nth ts t) .rest ≡ hold l x r)).
       let e : getD wishes t 0 ≡ 2 ^ (q .0) = a .wish t b ∙ wish-hold ((nth ts t) .rest) (q .0) (q .1) (q .2) (q .3) in
       let g : bit (heldByMembers n masks m t) (q .0) ≡ 1 =
@@ -219,7 +191,7 @@ module _ (ps : List Block) (bodies : (p : ℕ) → Plain (bodyIn ps p)) (ts : Li
         following = q .2;
         stands = q .3;
         other = u;
-        differs = λ z. T-not (eqb u t) d (rw z (eqb-refl t));
+        differs = λ z. T-not (eqb u t) d (eq→eqb u t z);
         member = i;
         theirs = digit-positive (counts ts u) (q .0) (subst (λ x. bit x (q .0) ≡ 1) (a .mask u c) f);
       })
@@ -229,9 +201,9 @@ module _ (ps : List Block) (bodies : (p : ℕ) → Plain (bodyIn ps p)) (ts : Li
   unfolding stuckRound
   round-mask m = fun-ext (λ t. same-test (round ps ts (inMask m) t) (inMask (stuckRound n wishes masks m) t)
       (λ h. let (b, w) = round-blocked ps bodies ts moment (inMask m) t h in
-      in-mask-below n (λ t. inMask m t && waitsIn n wishes masks m t) t b
+      in-mask-of n (λ t. inMask m t && waitsIn n wishes masks m t) t b
       (and-T (inMask m t) (waitsIn n wishes masks m t) (round-in ps bodies ts moment (inMask m) t h) (waits-in m t b w)))
-      (λ h. let (b, q) = mask-below-in n (λ t. inMask m t && waitsIn n wishes masks m t) t h in
+      (λ h. let (b, q) = mask-of-in n (λ t. inMask m t && waitsIn n wishes masks m t) t h in
       let (i, w) = T-and (inMask m t) (waitsIn n wishes masks m t) q in
       blocked-round ps bodies ts moment (inMask m) t i (in-waits m t b w)))
 
@@ -239,8 +211,8 @@ module _ (ps : List Block) (bodies : (p : ℕ) → Plain (bodyIn ps p)) (ts : Li
   unfolding wanting rounds
   first-mask = fun-ext (λ t. same-test (beginsHold ts t) (inMask (wanting n wishes) t)
       (λ h. let b = rounds-in ps bodies ts moment 0 t h in
-      in-mask-below n (λ t. ltb 0 (getD wishes t 0)) t b (lt→ltb 0 (getD wishes t 0) (rw (a .wish t b) (hold-positive ((nth ts t) .rest) h))))
-      (λ h. let (b, q) = mask-below-in n (λ t. ltb 0 (getD wishes t 0)) t h in
+      in-mask-of n (λ t. ltb 0 (getD wishes t 0)) t b (lt→ltb 0 (getD wishes t 0) (rw (a .wish t b) (hold-positive ((nth ts t) .rest) h))))
+      (λ h. let (b, q) = mask-of-in n (λ t. ltb 0 (getD wishes t 0)) t h in
       positive-hold ((nth ts t) .rest) (subst (λ x. 0 < x) (a .wish t b) (ltb→lt 0 (getD wishes t 0) q))))
 
   -- the set by masks is the one that the rounds give
@@ -253,9 +225,9 @@ module _ (ps : List Block) (bodies : (p : ℕ) → Plain (bodyIn ps p)) (ts : Li
   contains-covers : (m : ℕ) → ContainsAll n wishes masks m → Covers ps ts (inMask m)
   contains-covers m c S st t s =
       let w = stuck-blocked ps bodies S ts (moment .balanced) (λ i j d _ _. apart→ everyone ts (moment .all-apart) i j d tt tt) st in
-      let in-S : (u : ℕ) → T (S u) → T (inMask (maskBelow n S) u) = λ u r. in-mask-below n S u (stuck-present st u r) r in
-      c (maskBelow n S)
-      (λ u r. let (b, q) = mask-below-in n S u r in (b, waits-in (maskBelow n S) u b (waits-within S (inMask (maskBelow n S)) ts u in-S (w u q)))) t
+      let in-S : (u : ℕ) → T (S u) → T (inMask (maskOf n S) u) = λ u r. in-mask-of n S u (stuck-present st u r) r in
+      c (maskOf n S)
+      (λ u r. let (b, q) = mask-of-in n S u r in (b, waits-in (maskOf n S) u b (blocked-more S (inMask (maskOf n S)) ts u in-S (w u q)))) t
       (in-S t s)
 
   pub all-wait-largest : (m t : ℕ) → AllWait n wishes masks m → ContainsAll n wishes masks m → T (inMask m t) → Largest ps ts (inMask m)

@@ -13,7 +13,8 @@ use Rattle.semantics.proofs.Remainders.{⨾-done, body-below, Remainder
 use Rattle.semantics.proofs.Transitions.{remainder-step}
 use Rattle.semantics.proofs.Execution.{exec-invariant}
 use Rattle.semantics.proofs.Projection.{critical-exec, exec-critical}
-use Rattle.semantics.specs.Language.{Action, acquire, release, in-done, in-skip, in-call, in-hold, in-leave, in-one, in-end, countsAfter, InLanguage, PublishedCritical}
+use Rattle.semantics.specs.Language.{Action, acquire, release, in-done, in-skip, in-call, in-hold, in-leave}
+use Rattle.semantics.specs.Language.{in-one, in-end, countsAfter, InLanguage, PublishedCritical}
 use Rattle.semantics.proofs.Traces.{word-traced, trace-counts, traces-exec, traces-at-acquire}
 use Rattle.semantics.proofs.TracesInLanguage.{exec-traces-in-language}
 

@@ -77,7 +77,8 @@ pub execution : (ps : List Block) (x y : ThreadState) (cs : List ℕ) → exec p
 unfolding stateAfter
 execution ps x y cs h = record { first = refl; steps = exec-steps ps x y cs h }
 
-module _ {ps : List Block} {x : ThreadState} {cs : List ℕ} {s : ℕ → ThreadState} (bodies : (p : ℕ) → Plain (bodyIn ps p)) (plain : Plain (x .rest)) (kept : Balanced (x .rest) (x .count))
+module _ {ps : List Block} {x : ThreadState} {cs : List ℕ} {s : ℕ → ThreadState}
+    (bodies : (p : ℕ) → Plain (bodyIn ps p)) (plain : Plain (x .rest)) (kept : Balanced (x .rest) (x .count))
     (a : Execution ps x cs s) where
   pub step-at : (j : ℕ) → j < length cs → Transition ps (getD cs j 0) ((s j) .rest) ((s j) .count) ((s (suc j)) .rest) ((s (suc j)) .count)
   step-at j b = move-transition ps (getD cs j 0) ((s j) .rest) ((s j) .count) (s (suc j)) (a .steps j b)

@@ -3,13 +3,13 @@
 use Prim.Native.Nat.{ℕ, _<_}
 use mathlib.Core.List.{List}
 use mathlib.Core.Logic.{_⊎_, inl, inr, ⊎-elim}
-use mathlib.Core.Path.{_≡_, refl, subst}
+use mathlib.Core.Path.{_≡_, refl}
 use native.Mathlib.Omega.{arith}
-use lib.Dec.{T, eqb, eqb-refl}
+use lib.Dec.{eqb}
 use Rattle.semantics.specs.Plan.{Block, done, skip, call, hold, loop, either, end, _⨾_, bodyIn, Written}
 use Rattle.semantics.proofs.Remainders.{⨾-done, Remainder, AnyCall, Plain}
 use Rattle.semantics.proofs.Transitions.{Transition, skips, calls, begins, ends, enters, leaves, takes-one, takes-two}
-use Rattle.laws.proofs.Tests.{T-true}
+use Rattle.laws.proofs.Tests.{T-true, eq→eqb}
 use Rattle.semantics.proofs.Balance.{endCount}
 
 -- at its top level the remainder ends a hold of l, and goes on as r
@@ -52,7 +52,7 @@ will-end-positive l r (hold k x s) h = will-end-positive l r s h
 will-end-positive l r (loop x s) h = will-end-positive l r s h
 will-end-positive l r (either x y s) h = will-end-positive l r s h
 will-end-positive l r (end k s) h =
-    ⊎-elim (λ (e : (k ≡ l) × (s ≡ r)). rw (T-true (eqb k l) (subst (λ m. T (eqb k m)) (e .0) (eqb-refl k))) (omega arith))
+    ⊎-elim (λ (e : (k ≡ l) × (s ≡ r)). rw (T-true (eqb k l) (eq→eqb k l (e .0))) (omega arith))
     (λ (e : WillEnd l r s). omega (arith, will-end-positive l r s e)) h
 
 pub plain-ends-nothing : (l : ℕ) (r a : Block) → Plain a → WillEnd l r a → ⊥

@@ -1,12 +1,12 @@
 -- The join of masks over the numbers below a bound that pass a test: a lock is in it just if it is in one of them.
 use Prim.Native.Nat.{ℕ, zero, suc, _<_}
-use mathlib.Core.Bool.{Bool, true, false, cond}
-use mathlib.Core.Logic.{⊎-elim}
+use mathlib.Core.Bool.{Bool, true, false, not, cond}
+use mathlib.Core.Logic.{⊎-elim, _≢_}
 use mathlib.Core.Path.{_≡_, sym, ap, _∙_, subst}
 use native.Mathlib.Nat.{not-suc-le-zero, eq-or-lt-of-le}
 use native.Mathlib.Omega.{arith}
 use lib.Bits.{bitOr}
-use lib.Dec.{T}
+use lib.Dec.{T, eqb, eqb→eq, not-T}
 use Rattle.laws.specs.Mask.{bit}
 use Rattle.laws.proofs.Tests.{T-true}
 use Rattle.laws.proofs.Bits.{bit-none, or-cases, or-left, or-right}
@@ -15,6 +15,13 @@ use Rattle.laws.proofs.Bits.{bit-none, or-cases, or-left, or-right}
 unfoldable pub joinBelow : ℕ → (ℕ → Bool) → (ℕ → ℕ) → ℕ
 joinBelow zero p f = 0
 joinBelow (suc n) p f = bitOr (joinBelow n p f) (cond (p n) (f n) 0)
+
+-- the numbers other than t
+abbrev pub otherThan : ℕ → ℕ → Bool
+otherThan t u = not (eqb u t)
+
+pub other-than : (t u : ℕ) → u ≢ t → T (otherThan t u)
+other-than t u d = not-T (eqb u t) (λ e. d (eqb→eq u t e))
 
 module _ (p : ℕ → Bool) (f : ℕ → ℕ) (l : ℕ) where
   pub in-join : (n u : ℕ) → u < n → T (p u) → bit (f u) l ≡ 1 → bit (joinBelow n p f) l ≡ 1

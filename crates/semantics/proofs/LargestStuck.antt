@@ -92,7 +92,8 @@ refused-some : {A : Type 0} (o : Option A) (a : A) → T (isNone o) → o ≡ so
 refused-some none a t e = Option·none-ne-some a e
 refused-some (some b) a t e = t
 
-blocked-more : (S S′ : ℕ → Bool) (ts : List ThreadState) (t : ℕ) → ((u : ℕ) → T (S u) → T (S′ u)) → Blocked S ts t → Blocked S′ ts t
+-- who is blocked by a member of a set is blocked by one of a greater set
+pub blocked-more : (S S′ : ℕ → Bool) (ts : List ThreadState) (t : ℕ) → ((u : ℕ) → T (S u) → T (S′ u)) → Blocked S ts t → Blocked S′ ts t
 blocked-more S S′ ts t m w =
     record {
       lock = w .lock;
@@ -144,7 +145,7 @@ module _ (ps : List Block) (bodies : (p : ℕ) → Plain (bodyIn ps p)) (ts : Li
   pub fixed-largest : (S : ℕ → Bool) → Covers ps ts S → FixedPoint ps ts S → (t : ℕ) → T (S t) → Largest ps ts S
   fixed-largest S c f t s = record {
     stuck = blocked-stuck ps bodies S ts (moment .balanced) (λ u r. (round-blocked S u (f u r)) .0) (λ u r. (round-blocked S u (f u r)) .1) t s;
-    holds-all = c;
+    contains = c;
   }
 
   -- ---- as many rounds as there are threads are enough

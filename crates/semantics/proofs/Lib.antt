@@ -49,7 +49,7 @@ pub mod SearchComplete
 pub mod ConflictTest
 pub mod Characterisation
 pub mod MoreThreads
--- For the analyser: sizes in rounds, the path to a pair, a circle of pairs, pairs that can be dropped, the search for a circle, the way back, the stuck set by masks.
+-- For the analyser: sizes in rounds, the path to a pair, circles of pairs, pairs that can be dropped, the search for a circle, the stuck set by masks, the way back.
 pub mod SizeRounds
 pub mod Paths
 pub mod Joins
@@ -58,6 +58,5 @@ pub mod Dropping
 pub mod CircleSearch
 pub mod Closing
 pub mod RetreatMoves
--- The reference cases.
-pub mod CaseTable
-pub mod Cases
+-- A computed test of cases.
+pub mod CaseTest

@@ -15,7 +15,8 @@ use Rattle.semantics.proofs.Balance.{Balanced, endCount, balanced-uniqu
 use Rattle.semantics.proofs.HoldEnds.{WillEnd, will-end-before, plain-ends-nothing, begin-will-end, will-end-next, will-end-positive}
 use Rattle.semantics.proofs.Execution.{step-at, Execution, balanced-at}
 
-module _ {ps : List Block} {x : ThreadState} {cs : List ℕ} {s : ℕ → ThreadState} (bodies : (p : ℕ) → Plain (bodyIn ps p)) (plain : Plain (x .rest)) (kept : Balanced (x .rest) (x .count))
+module _ {ps : List Block} {x : ThreadState} {cs : List ℕ} {s : ℕ → ThreadState}
+    (bodies : (p : ℕ) → Plain (bodyIn ps p)) (plain : Plain (x .rest)) (kept : Balanced (x .rest) (x .count))
     (a : Execution ps x cs s) where
   -- a hold that the remainder will end was begun at an earlier moment, with the same remainder after it
   pub begun-earlier : (l : ℕ) (r : Block) (j : ℕ) → j ≤ length cs → WillEnd l r ((s j) .rest)

@@ -19,7 +19,7 @@ use lib.Dec.{T, eqb, ltb, eqb→eq, eqb-refl}
 use Rattle.laws.specs.Choice.{bind}
 use Rattle.laws.proofs.Tests.{only, T-and, and-T, T-true, T-false, T-dec}
 use Rattle.semantics.specs.Plan.{Block, done, skip, call, hold, loop, either, end, _⨾_, bodyIn, Written, Sound}
-use Rattle.semantics.specs.Run.{ThreadState, thread, initial, unlocked, up, down, move}
+use Rattle.semantics.specs.Run.{ThreadState, thread, initial, unlocked, up, move}
 use Rattle.semantics.specs.Pairs.{wordOf, heldFrom, held, fresh, wordAt, pairsWith, pairsAt, pairs}
 use Rattle.semantics.specs.Sizes.{sizeWith, sizeAt}
 use Rattle.semantics.proofs.LockSets.{held-begin}

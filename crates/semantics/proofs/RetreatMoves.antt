@@ -1,5 +1,6 @@
 -- The way back (source 000, Lemma 4.3) as a program carries it (`GoingBack`): positions and entries as lists, the locks held as masks, and what each thread wants
--- and holds at the target that the entries lead to. One law for each of its moves: the first target, a step back, the jump, and the end, where the entries are a run from the start.
+-- and holds at the target that the entries lead to. One law for each of its moves: the first target, a step back, the jump, and the end, where the entries are a
+-- run from the start.
 -- A step back leaves the target as it was, so what is wanted there does not change. A jump makes the present places the target, each thread that has stepped moved
 -- before the hold of the lock that its last step gave up: it wants that lock, and holds what it held. A thread at its start wants what its block begins with.
 use Prim.Native.Nat.{ℕ, zero, suc, _+_, _-_, _*_, _^_, _≤_, _<_}
@@ -13,13 +14,13 @@ use native.Mathlib.Omega.{arith}
 use lib.Bits.{bitAnd, and-comm}
 use lib.ListN.{length, getD, set, length-set}
 use lib.Seq.{getD-set-same}
-use lib.Dec.{T, eqb, eqb→eq, eqb-refl, T-not, not-T}
+use lib.Dec.{T, eqb, eqb→eq, T-not}
 use Rattle.laws.specs.Mask.{bit, inMask}
-use Rattle.laws.proofs.Tests.{T-dec, T-true, T-false, eq-or-ne, lt-or-le}
+use Rattle.laws.proofs.Tests.{T-dec, T-true, T-false, eq-or-ne, lt-or-le, eq→eqb}
 use Rattle.laws.proofs.Bits.{bit-and, bit-none, bit-lt, disjoint, of-disjoint, apart-in}
 use Rattle.semantics.specs.Plan.{Block, hold, bodyIn, LockPlan, Sound}
 use Rattle.semantics.specs.Run.{ThreadState, initial, unlocked, apart, everyone, run, start}
-use Rattle.semantics.specs.Sizes.{sizeAt, sizeOf, sizes, threadSizes}
+use Rattle.semantics.specs.Sizes.{sizeOf, threadSizes}
 use Rattle.semantics.specs.Stuck.{Stuck, Schedule}
 use Rattle.semantics.specs.Pairs.{heldFrom, held, locksOf, wantOf}
 use Rattle.semantics.proofs.Remainders.{Plain}
@@ -30,14 +31,15 @@ use Rattle.semantics.proofs.Execution.{Execution, exec, stateAfter, exe
 use Rattle.semantics.proofs.Compatible.{CompatibleIn}
 use Rattle.semantics.proofs.Apart.{nth, counts}
 use Rattle.semantics.proofs.Invariant.{start-length, start-at}
+use Rattle.semantics.proofs.SizeDepth.{thread-sizes}
 use Rattle.semantics.proofs.Tables.{is-table, total, total-le, total-lt}
 use Rattle.semantics.proofs.JointStates.{Executions, joint, joint-at, in-joint, of-joint, joint-absent, state-balanced, joint-balanced, last-step}
 use Rattle.semantics.proofs.RetreatStep.{Retreat, retreat-step}
 use Rattle.semantics.proofs.RetreatRefused.{Refusal, retreat-refused}
 use Rattle.semantics.proofs.RetreatJump.{MatchingBegin, retreat-jump, jump-total}
-use Rattle.semantics.proofs.RetreatByMasks.{heldMask, positionOf, apart-of-masks, masks-of-apart, lowered-set, step-back-permitted, step-back-refused, matching-begin-scan}
-use Rattle.semantics.proofs.Joins.{joinBelow, in-join, join-in}
-use Rattle.semantics.proofs.Dropping.{otherThan}
+use Rattle.semantics.proofs.RetreatByMasks.{heldMask, positionOf, apart-of-masks, masks-of-apart, lowered-set}
+use Rattle.semantics.proofs.RetreatByMasks.{step-back-permitted, step-back-refused, matching-begin-scan}
+use Rattle.semantics.proofs.Joins.{joinBelow, otherThan, other-than, in-join, join-in}
 use Rattle.semantics.proofs.Closing.{wishOf, wish-hold, WishesAt, stuckRounds, AllWait, ContainsAll, closing-masks, closing-contains}
 use Rattle.semantics.proofs.Circle.{WordConflict, Circle, CircleChoice, circle-choice}
 use Rattle.semantics.proofs.Blocked.{Blocked, blocked-stuck}
@@ -158,7 +160,9 @@ pub record AtCircle (n : ℕ) (s : ℕ → ℕ → ThreadState) (M : ℕ → Lis
   pub others : (t : ℕ) → t < n → ((i : ℕ) → i < k → thread i ≢ t) → (positionOf js t ≡ 0) × (getD wishes t 0 ≡ getD begin t 0)
   pub mask : (t : ℕ) → t < n → getD masks t 0 ≡ getD (M t) (positionOf js t) 0
 
-at-words : {n : ℕ} {s : ℕ → ℕ → ThreadState} {M : ℕ → List ℕ} {begin : List ℕ} {vss : List (List ℕ)} {k : ℕ} {thread word : ℕ → ℕ} {js wishes masks : List ℕ} → (q : CircleChoice vss k thread word) → AtCircle n s M begin k thread word js wishes masks → AtWords n s M begin (q .members) (q .choice) js wishes masks
+at-words : {n : ℕ} {s : ℕ → ℕ → ThreadState} {M : ℕ → List ℕ} {begin : List ℕ} {vss : List (List ℕ)} {k : ℕ} {thread word : ℕ → ℕ} {js wishes masks : List ℕ}
+    → (q : CircleChoice vss k thread word) → AtCircle n s M begin k thread word js wishes masks
+    → AtWords n s M begin (q .members) (q .choice) js wishes masks
 at-words {n} {s} {M} {begin} {thread = thread} {word} {js} {wishes} q a = record {
   size = a .size;
   present = λ t m. let (i, b, e, f) = q .is-member t m in subst (λ u. u < n) e (a .present i b);
@@ -212,14 +216,14 @@ module _ {ps : List Block} {ns : List ℕ} {P : ℕ → List ℕ} {s : ℕ → �
   unfolding othersAt
   apart-others js k m e i b d =
       and-comm m (getD (M i) (positionOf js i) 0) ∙ apart-in (getD (M i) (positionOf js i) 0) (othersAt n M js k) m
-      (λ l h. in-join (otherThan k) (λ i. getD (M i) (positionOf js i) 0) l n i b (not-T (eqb i k) (λ t. d (eqb→eq i k t))) h)
+      (λ l h. in-join (otherThan k) (λ i. getD (M i) (positionOf js i) 0) l n i b (other-than k i d) h)
       (and-comm (othersAt n M js k) m ∙ e)
 
   in-others : (js : List ℕ) (k l : ℕ) → bit (othersAt n M js k) l ≡ 1 → (i : ℕ) × (i < n) × (i ≢ k) × (bit (getD (M i) (positionOf js i) 0) l ≡ 1)
   unfolding othersAt
   in-others js k l e =
       let (i, b, d, h) = join-in (otherThan k) (λ i. getD (M i) (positionOf js i) 0) l n e in
-      (i, b, (λ z. T-not (eqb i k) d (subst (λ y. T (eqb y k)) (sym z) (eqb-refl k))), h)
+      (i, b, (λ z. T-not (eqb i k) d (eq→eqb i k z)), h)
 
   -- ---- one step back
 
@@ -241,7 +245,8 @@ module _ {ps : List Block} {ns : List ℕ} {P : ℕ → List ℕ} {s : ℕ → �
         there = g .there;
       }
 
-  pub step-total : (js : List ℕ) (k : ℕ) → length js ≡ n → k < n → 0 < positionOf js k → total n (positionOf (set js k (positionOf js k - 1))) < total n (positionOf js)
+  pub step-total : (js : List ℕ) (k : ℕ) → length js ≡ n → k < n → 0 < positionOf js k
+      → total n (positionOf (set js k (positionOf js k - 1))) < total n (positionOf js)
   step-total js k e b o =
       let c : k < length js = subst (λ m. k < m) (sym e) b in
       let l = lowered-set js k c o in
@@ -321,7 +326,8 @@ module _ {ps : List Block} {ns : List ℕ} {P : ℕ → List ℕ} {s : ℕ → �
       -- it wants l there
       wants : getD ws k 0 ≡ wishOf ((s k (positionOf hs k)) .rest)
       wants =
-          let f = zero-by-end ps (x .bodies) (move-transition ps (getD (P k) (positionOf js k - 1) 0) ((s k (positionOf js k - 1)) .rest) ((s k (positionOf js k - 1)) .count) (s k (positionOf js k))
+          let f = zero-by-end ps (x .bodies) (move-transition ps (getD (P k) (positionOf js k - 1) 0)
+          ((s k (positionOf js k - 1)) .rest) ((s k (positionOf js k - 1)) .count) (s k (positionOf js k))
           (last-step executions (positionOf js) k b o (within k b)))
           (state-balanced executions k (positionOf js k - 1) b (omega (arith, within k b))) l (digit-positive ((s k (positionOf js k - 1)) .count) l had)
           (digit-free ((s k (positionOf js k)) .count) l gone) in
@@ -340,7 +346,8 @@ module _ {ps : List Block} {ns : List ℕ} {P : ℕ → List ℕ} {s : ℕ → �
     mask-there : (k : ℕ) → k < n → getD ms k 0 ≡ heldMask (s k (positionOf hs k))
     mask-there k b =
         ⊎-elim (λ (e : positionOf js k ≡ 0). held-there k b ∙ mask-at k (positionOf js k) b (omega arith) ∙ ap (λ a. heldMask (s k a)) (e ∙ sym (still-at k b e)))
-        (λ (o : 0 < positionOf js k). held-there k b ∙ mask-at k (positionOf js k) b (omega arith) ∙ sym (ap held ((back k b o) .same))) (eq-zero-or-pos (positionOf js k))
+        (λ (o : 0 < positionOf js k). held-there k b ∙ mask-at k (positionOf js k) b (omega arith) ∙ sym (ap held ((back k b o) .same)))
+        (eq-zero-or-pos (positionOf js k))
 
     pub jump-back : (k : ℕ) → k < n → 0 < positionOf js k → GoingBack ps n P s bound hs [] ws ms × (total n (positionOf hs) < total n (positionOf js))
     jump-back k b o = (
@@ -452,17 +459,11 @@ module _ {ps : List Block} {ns : List ℕ} {P : ℕ → List ℕ} {s : ℕ → �
         short = omega (arith, g .retreat .short);
       }
 
-threads-total : (d : ℕ) (ps : List Block) (ns : List ℕ) → total (length ns) (λ t. sizeAt d ps (getD ns t 0)) ≡ sizes d ps ns
-unfolding total sizes
-threads-total d ps [] = refl
-threads-total d ps (n ∷ ns) = ap (λ k. sizeAt d ps n + k) (threads-total d ps ns)
-
 -- positions that are no higher than the threads' sizes are together no more than the plan asks of a schedule
 pub paths-short : (plan : LockPlan) (js : List ℕ) → ((t : ℕ) → t < length (plan .threads) → positionOf js t ≤ sizeOf (plan .procs) (getD (plan .threads) t 0))
     → total (length (plan .threads)) (positionOf js) ≤ threadSizes plan
-unfolding threadSizes sizeOf
 paths-short plan js h =
-    subst (λ b. total (length (plan .threads)) (positionOf js) ≤ b) (threads-total (length (plan .procs)) (plan .procs) (plan .threads))
+    subst (λ b. total (length (plan .threads)) (positionOf js) ≤ b) (thread-sizes plan)
     (total-le (length (plan .threads)) (positionOf js) (λ t. sizeOf (plan .procs) (getD (plan .threads) t 0)) h)
 
 -- what the way back ends with is a schedule, its set computed by masks

@@ -51,6 +51,18 @@ module _ {ps : List Block} {n : ℕ} {P : ℕ → List ℕ} {s : ℕ → ℕ →
       ⊎-elim (λ (e : j (r .other) ≡ 0). absurd
       (start-excludes-none x (r .other) l there (subst (λ a. Excludes ((s (r .other) a) .count) l) e theirs))) (λ h. h)
       (eq-zero-or-pos (j (r .other))) in
-      record { lock = l; following = m .0; other = r .other; ended = m .1; left = m .2; held-before = q .1; freed = z; differs = r .differs; there = there; began = began; theirs = theirs })
+      record {
+        lock = l;
+        following = m .0;
+        other = r .other;
+        ended = m .1;
+        left = m .2;
+        held-before = q .1;
+        freed = z;
+        differs = r .differs;
+        there = there;
+        began = began;
+        theirs = theirs;
+      })
       (compatible-or-contended ((s k (j k - 1)) .count) (counts (joint n s j) (r .other))))
       (apart-or-clash everyone (joint n s j) k (s k (j k - 1)) (in-joint x j k b) (apart→ everyone (joint n s j) a))

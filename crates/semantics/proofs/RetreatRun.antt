@@ -102,7 +102,14 @@ module _ {ps : List Block} {n : ℕ} {P : ℕ → List ℕ} {s : ℕ → ℕ →
   retreat-at-start bound j es ts r z =
       let e = is-table n (λ i. initial ps (x .proc i)) (joint n s j) (length-table n (λ i. s i (j i)))
       (λ i b. joint-at x j i b ∙ ap (s i) (z i b) ∙ (x .runs i b) .first) in
-      record { entries = es; there = ts; members = r .stuck .0; reached = ap (λ us. run ps us es) (sym e) ∙ r .leads; stuck = r .stuck .1; short = omega (arith, r .short) }
+      record {
+        entries = es;
+        there = ts;
+        members = r .stuck .0;
+        reached = ap (λ us. run ps us es) (sym e) ∙ r .leads;
+        stuck = r .stuck .1;
+        short = omega (arith, r .short);
+      }
 
   pub retreat-run : (fuel bound : ℕ) (j : ℕ → ℕ) (es : List ℕ) (ts : List ThreadState) → total n j ≤ fuel → Retreat ps n P s bound j es ts
       → DeadlockRun ps (table n (λ i. initial ps (x .proc i))) bound

@@ -10,9 +10,9 @@ use native.Mathlib.Omega.{arith}
 use lib.ListN.{length, getD, take, replicate, length-replicate, length-append, length-map, List·getD-append}
 use lib.Seq.{take-suc, getD-at, ext-getD}
 use Rattle.laws.specs.Fold.{foldl}
-use Rattle.semantics.specs.Plan.{Block, done, skip, call, hold, loop, either, end, bodyIn, Written, Sound}
+use Rattle.semantics.specs.Plan.{Block, done, skip, call, hold, loop, either, end, bodyIn, Sound}
 use Rattle.semantics.specs.Sizes.{sizeWith, sizeAt, sizeOf}
-use Rattle.semantics.proofs.CallDepth.{depth-irrelevant, depth-unfolds}
+use Rattle.semantics.proofs.SizeDepth.{size-agree, size-unfolds}
 use Rattle.semantics.proofs.Balance.{unlocked-count}
 
 -- ---- numbers cut off at a limit
@@ -66,30 +66,6 @@ size-saturates limit s t e (either a b r) =
     (saturate-cong limit 1 _ 1 _ refl (size-saturates limit s t e a)) (size-saturates limit s t e b))
     (size-saturates limit s t e r)
 size-saturates limit s t e (end l r) = saturate-cong limit 1 _ 1 _ refl (size-saturates limit s t e r)
-
--- the same where the sizes agree on the calls alone
-pub size-agree : (C : ℕ → Type 0) (s t : ℕ → ℕ) → ((p : ℕ) → C p → s p ≡ t p) → (b : Block) → Written C b → sizeWith s b ≡ sizeWith t b
-unfolding sizeWith Written
-size-agree C s t e done w = refl
-size-agree C s t e (skip r) w = cc (size-agree C s t e r w)
-size-agree C s t e (call p r) w = cc (e p (w .0), size-agree C s t e r (w .1))
-size-agree C s t e (hold l b r) w = cc (size-agree C s t e b (w .1), size-agree C s t e r (w .2))
-size-agree C s t e (loop b r) w = cc (size-agree C s t e b (w .0), size-agree C s t e r (w .1))
-size-agree C s t e (either a b r) w = cc (size-agree C s t e a (w .0), size-agree C s t e b (w .1), size-agree C s t e r (w .2))
-size-agree C s t e (end l r) w = absurd w
-
--- so it does not depend on a depth above the rank
-pub size-depth-free : (ps : List Block) (rank : ℕ → ℕ) → Sound ps rank → (d e p : ℕ) → rank p < d → rank p < e → sizeAt d ps p ≡ sizeAt e ps p
-unfolding sizeAt
-size-depth-free ps rank s = depth-irrelevant ps rank s sizeWith size-agree (λ d p. sizeAt d ps p) (λ d p. refl)
-
-pub size-unfolds : (ps : List Block) (rank : ℕ → ℕ) → Sound ps rank → (d p : ℕ) → rank p < d → sizeAt d ps p ≡ sizeWith (sizeAt d ps) (bodyIn ps p)
-unfolding sizeAt
-size-unfolds ps rank s = depth-unfolds ps rank s sizeWith size-agree (λ d p. sizeAt d ps p) (λ d p. refl)
-
-pub size-of : (ps : List Block) (rank : ℕ → ℕ) → Sound ps rank → (d p : ℕ) → rank p < d → rank p < length ps → sizeAt d ps p ≡ sizeOf ps p
-unfolding sizeOf
-size-of ps rank s d p h k = size-depth-free ps rank s d (length ps) p h k
 
 -- ---- rounds
 

@@ -11,7 +11,8 @@ use Rattle.laws.specs.Choice.{bind}
 use Rattle.semantics.specs.Run.{ThreadState, thread, up, down, move}
 use Rattle.semantics.proofs.Transitions.{Transition, skips, calls, begins, ends, enters, leaves, takes-one, takes-two, move-transition}
 use Rattle.semantics.proofs.Execution.{exec}
-use Rattle.semantics.specs.Language.{Action, acquire, release, in-done, in-skip, in-call, in-hold, in-leave, in-enter, in-one, in-two, in-end, countsAfter, InLanguage}
+use Rattle.semantics.specs.Language.{Action, acquire, release, in-done, in-skip, in-call, in-hold, in-leave}
+use Rattle.semantics.specs.Language.{in-enter, in-one, in-two, in-end, countsAfter, InLanguage}
 
 -- the trace of a step of a thread with this remainder (Definition 3.3)
 unfoldable pub stepTrace : Block → List Action

@@ -25,7 +25,7 @@ unfoldable pub down : ℕ → List ℕ → List ℕ
 down l cs = set cs l (getD cs l 0 - 1)
 
 -- "One step of one thread: pass a skip; replace a call by the body; begin a hold (count up by 1) and later end it (down by 1); choose one or two of an either; at
--- a loop's head enter the body, coming back to the head, or leave. Sequencing costs no step". "Choice 1 for one or entering, 2 for two or leaving, 0 for every
+-- a loop's head enter the body, coming back to the head, or leave. Sequencing costs no step". "choice 1 for one or entering, 2 for two or leaving, 0 for every
 -- other step"; "one with nothing left, or with a choice that its remainder does not offer" has no step.
 unfoldable pub move : List Block → ℕ → Block → List ℕ → Option ThreadState
 move ps c done cs = none

@@ -24,7 +24,7 @@ sizeAt (ℕ.suc d) ps p = sizeWith (sizeAt d ps) (bodyIn ps p)
 unfoldable pub sizeOf : List Block → ℕ → ℕ
 sizeOf ps p = sizeAt (length ps) ps p
 
--- the sum of the sizes of the procedures ns
+-- the sum of the sizes of the procedures ns, where calls go less than d deep
 unfoldable pub sizes : ℕ → List Block → List ℕ → ℕ
 sizes d ps [] = 0
 sizes d ps (n ∷ ns) = sizeAt d ps n + sizes d ps ns

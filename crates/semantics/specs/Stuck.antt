@@ -20,9 +20,9 @@ pub record Stuck (ps : List Block) (ts : List ThreadState) (S : ℕ → Bool) : 
 -- "the threads stuck there are its largest stuck set, which contains every other"
 pub record Largest (ps : List Block) (ts : List ThreadState) (S : ℕ → Bool) : Type 0 where
   pub stuck : Stuck ps ts S
-  pub holds-all : (S′ : ℕ → Bool) → Stuck ps ts S′ → (t : ℕ) → T (S′ t) → T (S t)
+  pub contains : (S′ : ℕ → Bool) → Stuck ps ts S′ → (t : ℕ) → T (S′ t) → T (S t)
 
--- "no run of the gateway reaches a moment with two or more threads stuck on each other"
+-- No run of the gateway reaches a moment with two or more threads stuck on each other (demand 3).
 abbrev pub DeadlockFree : List Block → List ℕ → Type 0
 DeadlockFree ps ns = (es : List ℕ) (ts : List ThreadState) (S : ℕ → Bool) → run ps (start ps ns) es ≡ some ts → Stuck ps ts S → ⊥
 

@@ -33,7 +33,10 @@ split-line (b ∷ bs) h = go (eqb b 10) (split-line bs) h
         → (n < length bs → split bs ≡ record { ended = take n bs ∷ split (drop (suc n) bs) .ended; tail = split (drop (suc n) bs) .tail })
         → if t 0 (suc n) < suc (length bs)
         → if t (record { ended = [] ∷ split bs .ended; tail = split bs .tail }) (pushByte b (split bs .ended) (split bs .tail))
-        ≡ record { ended = take (if t 0 (suc n)) (b ∷ bs) ∷ split (drop (suc (if t 0 (suc n))) (b ∷ bs)) .ended; tail = split (drop (suc (if t 0 (suc n))) (b ∷ bs)) .tail }
+        ≡ record {
+          ended = take (if t 0 (suc n)) (b ∷ bs) ∷ split (drop (suc (if t 0 (suc n))) (b ∷ bs)) .ended;
+          tail = split (drop (suc (if t 0 (suc n))) (b ∷ bs)) .tail;
+        }
     go true ih h = refl
     go false ih h = ap (λ (p : Split). pushByte b (p .ended) (p .tail)) (ih (omega arith))
 
@@ -44,7 +47,8 @@ split-tail [] h = refl
 split-tail (b ∷ bs) h = go (eqb b 10) (split-tail bs) h
   where
     go : (t : Bool) → (length bs ≤ lineLength bs → split bs ≡ record { ended = []; tail = bs }) → suc (length bs) ≤ if t 0 (suc (lineLength bs))
-        → if t (record { ended = [] ∷ split bs .ended; tail = split bs .tail }) (pushByte b (split bs .ended) (split bs .tail)) ≡ record { ended = []; tail = b ∷ bs }
+        → if t (record { ended = [] ∷ split bs .ended; tail = split bs .tail }) (pushByte b (split bs .ended) (split bs .tail))
+        ≡ record { ended = []; tail = b ∷ bs }
     go true ih h = absurd (omega arith)
     go false ih h = ap (λ (p : Split). pushByte b (p .ended) (p .tail)) (ih (omega arith))
 

@@ -1,5 +1,5 @@
--- A line has the kind `Known f` exactly when it is the bytes in which f is written. One way each choice of the decision is inverted: a word stands there, or the digits
--- of a number below 1,000 stand where they should; the other way the decision is computed on the bytes of each form.
+-- A line has the kind `Known f` exactly when it is the bytes in which f is written. One way each choice of the decision is inverted: a word stands there, or the
+-- digits of a number below 1,000 stand where they should; the other way the decision is computed on the bytes of each form.
 use Prim.Native.Nat.{ℕ, suc, _+_, _-_, _*_, _/_, _%_, _<_, _≤_}
 use native.Mathlib.Omega.{arith}
 use native.Mathlib.Nat.{sub-zero}
@@ -23,7 +23,8 @@ use Rattle.text.specs.declared.Kind.the-variants.{Known, Unknown}
 use Rattle.text.specs.declared.Number.{Number}
 use Rattle.text.specs.declared.Number.the-variants.{Is, Not}
 use Rattle.text.specs.Forms.{decimal, write, numberIn, IsForm}
-use Rattle.text.specs.Kinds.{digitOf, leadingOf, appendDigit, numberOf, afterWord, betweenWord, wordKind, numbered, holdKind, callKind, threadKind, planKind, twoKind, kindOf}
+use Rattle.text.specs.Kinds.{digitOf, leadingOf, appendDigit, numberOf, afterWord, betweenWord, wordKind}
+use Rattle.text.specs.Kinds.{numbered, holdKind, callKind, threadKind, planKind, twoKind, kindOf}
 
 -- digits, read and written
 
@@ -149,7 +150,8 @@ number-two x y a b c = rw (decimal-two x y a b c, leading-is x a b, digit-is y c
 number-three : (x y w : ℕ) → 1 ≤ x → x ≤ 9 → y ≤ 9 → w ≤ 9 → numberOf (decimal ((x * 10 + y) * 10 + w)) ≡ Is ((x * 10 + y) * 10 + w)
 unfolding numberOf pick
 number-three x y w a b c d =
-    rw (decimal-three x y w a b c d, leading-is x a b, digit-is y c, digit-is w d, append-digit-is x y (omega arith) c) (append-digit-is (x * 10 + y) w (omega arith) d)
+    rw (decimal-three x y w a b c d, leading-is x a b, digit-is y c, digit-is w d, append-digit-is x y (omega arith) c)
+    (append-digit-is (x * 10 + y) w (omega arith) d)
 
 number-decimal : (n : ℕ) → n < 1000 → numberOf (decimal n) ≡ Is n
 unfolding numberOf pick
@@ -301,7 +303,8 @@ written-kind Close h = refl
 written-kind Skip h = refl
 written-kind (Call n) h =
     let e = length-append (bytes "(call " ++ decimal n) (bytes ")") in
-    rw (le-ltb (length (bytes "(call " ++ decimal n ++ bytes ")")) 2 (omega arith)) (ap (numbered Call) (between-word (bytes "(call ") (decimal n) ∙ number-decimal n h))
+    rw (le-ltb (length (bytes "(call " ++ decimal n ++ bytes ")")) 2 (omega arith))
+    (ap (numbered Call) (between-word (bytes "(call ") (decimal n) ∙ number-decimal n h))
 written-kind (Hold n) h =
     rw (le-ltb (length (bytes "(hold " ++ decimal n)) 2 (omega arith)) (ap (numbered Hold) (after-word (bytes "(hold ") (decimal n) ∙ number-decimal n h))
 written-kind Loop h = refl
@@ -369,7 +372,8 @@ unbroken-decimal n = go (ltb n 10) (ltb n 100)
     go false false = unbroken-digit (n / 100) _ (unbroken-digit (n / 10 % 10) _ (unbroken-digit (n % 10) [] nil))
 
 unbroken-between : (w : List ℕ) (n : ℕ) → T (unbroken w) → Unbroken (w ++ decimal n ++ bytes ")")
-unbroken-between w n t = unbroken-append (w ++ decimal n) (bytes ")") (unbroken-append w (decimal n) (unbroken-is w t) (unbroken-decimal n)) (unbroken-is (bytes ")") tt)
+unbroken-between w n t =
+    unbroken-append (w ++ decimal n) (bytes ")") (unbroken-append w (decimal n) (unbroken-is w t) (unbroken-decimal n)) (unbroken-is (bytes ")") tt)
 
 pub write-unbroken : (f : Form) → List·Memᴰ 10 (write f) → ⊥
 unfolding write

@@ -8,7 +8,8 @@ use Rattle.laws.specs.Bytes.{bytes, equal}
 use Rattle.text.specs.declared.Form.the-variants.{Plan, Proc, Thread, Close, Skip, Call, Hold, Loop, Either, One, Two}
 use Rattle.text.specs.declared.Kind.{Kind}
 use Rattle.text.specs.declared.Kind.the-variants.{Known, Unknown}
-use Rattle.text.specs.Kinds.{digitOf, leadingOf, appendDigit, numberOf, afterWord, betweenWord, wordKind, numbered, holdKind, callKind, threadKind, planKind, twoKind, kindOf}
+use Rattle.text.specs.Kinds.{digitOf, leadingOf, appendDigit, numberOf, afterWord, betweenWord, wordKind}
+use Rattle.text.specs.Kinds.{numbered, holdKind, callKind, threadKind, planKind, twoKind, kindOf}
 use Rattle.text.specs.Lines.{split, unreadable, unreadableLine}
 
 record Example : Type 0 where

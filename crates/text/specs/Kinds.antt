@@ -34,7 +34,7 @@ numberOf l =
     (pick (eqb (length l) 3) (appendDigit (appendDigit (leadingOf (getD l 0 0)) (digitOf (getD l 1 0))) (digitOf (getD l 2 0)))
     Not))
 
--- the number after a word
+-- The number after a word. Parts are written as the slices of the code denote them: `l[0..n]` is `take (n - 0) l`.
 unfoldable pub afterWord : List ℕ → List ℕ → Number
 afterWord l word =
     pick (ltb (length l) (length word)) Not

@@ -20,12 +20,13 @@ lineLength [] = 0
 lineLength (b ∷ bs) = if (eqb b 10) 0 (suc (lineLength bs))
 
 -- "Reading a line gives either a form with its number or the refusal, never both." The cases of the answer, with 01's numbers: the form and the place of the next
--- line; rule 3, "some line is none of the forms", and the line's number
+-- line; rule 3, "Some line is none of the forms above", and the line's number
 unfoldable pub lineAnswer : Kind → ℕ → ℕ → Line
 lineAnswer (Known f) next line = Read f next
 lineAnswer Unknown next line = Refused 3 line
 
--- the line that starts at the place `at`; a line that is not ended is refused
+-- The line that starts at the place `at`. A line that is not ended is refused. At or past the end of the text there is no line, and the answer is the refusal too:
+-- the caller asks only before the end.
 unfoldable pub lineAt : List ℕ → ℕ → ℕ → Line
 lineAt text at line =
     let n = lineLength (drop at text) in

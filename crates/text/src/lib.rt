@@ -4,7 +4,8 @@ ghost use Prim.Native.Nat.{_+_, _≤_};
 ghost use lib.ListN.{length, drop};
 ghost use Rattle.laws.specs.Bytes.{equal};
 ghost use Rattle.laws.specs.Choice.{pick};
-ghost use Rattle.text.specs.Kinds.{digitOf, leadingOf, appendDigit, numberOf, afterWord, betweenWord, wordKind, holdKind, callKind, threadKind, planKind, twoKind, kindOf};
+ghost use Rattle.text.specs.Kinds.{digitOf, leadingOf, appendDigit, numberOf, afterWord, betweenWord};
+ghost use Rattle.text.specs.Kinds.{wordKind, holdKind, callKind, threadKind, planKind, twoKind, kindOf};
 ghost use Rattle.text.specs.Lines.{lineLength, lineAt, lineAnswer};
 
 // A form of the plan text, with its number where it has one.

@@ -49,7 +49,18 @@ returns-10 c = simp (c .match .keys10)
 
 returns-11 : tie.Need-returns-11
 unfolding formAt
-returns-11 c = simp (ne-eqb _ _ (c .match .rest .0 .0 .0 .0 .0 .0 .0 .0 .0 .1), ne-eqb _ _ (c .match .rest .0 .0 .0 .0 .0 .0 .0 .0 .1), ne-eqb _ _ (c .match .rest .0 .0 .0 .0 .0 .0 .0 .1), ne-eqb _ _ (c .match .rest .0 .0 .0 .0 .0 .0 .1), ne-eqb _ _ (c .match .rest .0 .0 .0 .0 .0 .1), ne-eqb _ _ (c .match .rest .0 .0 .0 .0 .1), ne-eqb _ _ (c .match .rest .0 .0 .0 .1), ne-eqb _ _ (c .match .rest .0 .0 .1), ne-eqb _ _ (c .match .rest .0 .1), ne-eqb _ _ (c .match .rest .1))
+returns-11 c = simp (
+  ne-eqb _ _ (c .match .rest .0 .0 .0 .0 .0 .0 .0 .0 .0 .1),
+  ne-eqb _ _ (c .match .rest .0 .0 .0 .0 .0 .0 .0 .0 .1),
+  ne-eqb _ _ (c .match .rest .0 .0 .0 .0 .0 .0 .0 .1),
+  ne-eqb _ _ (c .match .rest .0 .0 .0 .0 .0 .0 .1),
+  ne-eqb _ _ (c .match .rest .0 .0 .0 .0 .0 .1),
+  ne-eqb _ _ (c .match .rest .0 .0 .0 .0 .1),
+  ne-eqb _ _ (c .match .rest .0 .0 .0 .1),
+  ne-eqb _ _ (c .match .rest .0 .0 .1),
+  ne-eqb _ _ (c .match .rest .0 .1),
+  ne-eqb _ _ (c .match .rest .1),
+)
 
 pub form-at-spec : {M : Type 1} → statement M
 form-at-spec =

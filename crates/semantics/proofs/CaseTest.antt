@@ -1,7 +1,7 @@
--- Every case of the table is as 01 says (`case-facts`). One test over the table is computed (`table-passes`), and what it implies holds of the runs
--- and of the critical pairs themselves.
+-- A test, for closed computation, of what a table of cases says of a plan. Where a case passes, what it says holds of the runs and of the critical pairs themselves
+-- (`passes-facts`): freedom by the characterisation, a schedule by running it, its stuck set by the rounds.
 use Prim.Native.Nat.{ℕ, zero, suc, _+_, _≤_, _<_}
-use mathlib.Core.List.{List, [], _∷_, map, List·Memᴰ, List·Memᴰ·not-nil, List·Memᴰ·cases-cons}
+use mathlib.Core.List.{List, [], _∷_, map, List·Memᴰ, List·Memᴰ·head, List·Memᴰ·tail, List·Memᴰ·not-nil, List·Memᴰ·cases-cons}
 use mathlib.Core.Bool.{Bool, true, false, not, _&&_}
 use mathlib.Core.Logic.{⊎-elim}
 use mathlib.Core.Option.{Option, none, some}
@@ -10,22 +10,20 @@ use native.Mathlib.Nat.{add-zero, zero-add, eq-or-lt-of-le}
 use native.Mathlib.Omega.{arith}
 use lib.ListN.{length, getD}
 use lib.Dec.{T, leb, ltb, eqb, leb→le, ltb→lt, eqb→eq, T-not}
-use Rattle.semantics.specs.Plan.{Block, done, skip, call, hold, loop, either, end, _⨾_, bodyIn, Written, WellFormed, Sound, LockPlan}
-use Rattle.semantics.specs.Run.{ThreadState, up, down, move, compatible, withAll, apart, threadAt, stepIn, step, run, start}
+use Rattle.semantics.specs.Plan.{Block, done, skip, call, hold, loop, either, end, bodyIn, Written, WellFormed, Sound, LockPlan}
+use Rattle.semantics.specs.Run.{ThreadState, run, start}
 use Rattle.semantics.specs.Stuck.{Largest, Schedule}
-use Rattle.semantics.specs.Pairs.{heldFrom, pairsWith, pairsAt, pairList}
-use Rattle.semantics.specs.Sizes.{sizeWith, sizeAt, sizes, threadSizes}
+use Rattle.semantics.specs.Pairs.{pairList}
+use Rattle.semantics.specs.Sizes.{threadSizes}
+use Rattle.semantics.specs.Cases.{Answer, free, deadlock, setOf, AnswerHolds, CaseFacts}
 use Rattle.semantics.proofs.PairList.{pair-list-critical}
-use Rattle.laws.proofs.Tests.{same-test, T-and, lt-or-le}
+use Rattle.laws.proofs.Tests.{same-test, T-and, T-or, lt-or-le}
 use Rattle.semantics.proofs.Remainders.{plain-body}
 use Rattle.semantics.proofs.Invariant.{run-invariant, run-length, start-length, start-invariant}
-use Rattle.semantics.proofs.LargestStuck.{atHold, round, rounds, rounds-largest, rounds-in}
-use Rattle.semantics.proofs.ConflictSearch.{any, any-is, unmet, searchFrom}
+use Rattle.semantics.proofs.LargestStuck.{rounds, rounds-largest, rounds-in}
+use Rattle.semantics.proofs.ConflictSearch.{any, any-is}
 use Rattle.semantics.proofs.ConflictTest.{conflicting}
 use Rattle.semantics.proofs.Characterisation.{Ranked, plan-characterisation}
-use Rattle.laws.specs.Ascending.{insert, ascending}
-use Rattle.laws.specs.Mask.{bit}
-use Rattle.semantics.proofs.CaseTable.{Answer, free, deadlock, Case, cases, among, AnswerHolds, CaseFacts}
 
 -- ---- the test
 
@@ -68,7 +66,7 @@ sameBelow (suc n) S R = agree (S n) (R n) && sameBelow n S R
 -- the stuck threads after a run
 unfoldable pub stuckAre : ℕ → List Block → List ℕ → Option (List ThreadState) → Bool
 stuckAre n ps us none = false
-stuckAre n ps us (some ts) = sameBelow n (rounds n ps ts) (among us) && any (rounds n ps ts) us
+stuckAre n ps us (some ts) = sameBelow n (rounds n ps ts) (setOf us) && any (rounds n ps ts) us
 
 unfoldable pub answers : LockPlan → Answer → Bool
 answers plan free = not (conflicting (map (pairList (plan .procs)) (plan .threads)))
@@ -77,19 +75,11 @@ answers plan (deadlock es us) =
     && (all (λ t. ltb t (length (plan .threads))) us
     && stuckAre (length (plan .threads)) (plan .procs) us (run (plan .procs) (start (plan .procs) (plan .threads)) es))
 
-unfoldable pub passes : Case → Bool
-passes c =
-    let ps = c .plan .procs in
-    let ns = c .plan .threads in
-    soundFrom 0 ps && (all (λ n. ltb n (length ps)) ns && (leb (length ns) 8 && (wordsFrom ps 0 (c .words) && answers (c .plan) (c .answer))))
-
-unfoldable pub allPass : List Case → Bool
-allPass [] = true
-allPass (c ∷ cs) = passes c && allPass cs
-
-table-passes : T (allPass cases)
-unfolding allPass passes answers pairList threadSizes sizes sizeAt sizeWith stuckAre sameBelow wordsFrom sameList all soundFrom written any unmet bit searchFrom rounds round atHold ascending insert pairsWith pairsAt heldFrom run start step stepIn threadAt apart withAll compatible move down up bodyIn _⨾_
-table-passes = tt
+unfoldable pub passes : LockPlan → List (List ℕ) → Answer → Bool
+passes plan words a =
+    let ps = plan .procs in
+    let ns = plan .threads in
+    soundFrom 0 ps && (all (λ n. ltb n (length ps)) ns && (leb (length ns) 8 && (wordsFrom ps 0 words && answers plan a)))
 
 -- ---- what it implies
 
@@ -149,6 +139,11 @@ all-mem f (x ∷ ns) h n m =
     let (a, b) = T-and (f x) (all f ns) h in
     ⊎-elim (λ (e : n ≡ x). subst (λ y. T (f y)) (sym e) a) (λ k. all-mem f ns b n k) (List·Memᴰ·cases-cons m)
 
+set-of : (us : List ℕ) (t : ℕ) → T (setOf us t) → List·Memᴰ t us
+unfolding setOf
+set-of (u ∷ us) t h =
+    ⊎-elim (λ a. List·Memᴰ·head (eqb→eq t u a)) (λ b. List·Memᴰ·tail (set-of us t b)) (T-or (eqb t u) (setOf us t) h)
+
 same-list : (xs ys : List ℕ) → T (sameList xs ys) → xs ≡ ys
 unfolding sameList
 same-list [] [] t = refl
@@ -189,21 +184,21 @@ module _ (plan : LockPlan) (ranked : Ranked plan (λ p. p)) where
 
   -- the stuck threads of a run that leads to ts are those of the list
   stuck-are : (es us : List ℕ) → T (all (λ t. ltb t n) us) → T (stuckAre n ps us (run ps (start ps (plan .threads)) es))
-      → length es ≤ threadSizes plan → Schedule plan es (among us)
+      → length es ≤ threadSizes plan → Schedule plan es (setOf us)
   unfolding stuckAre
   stuck-are es us small h short = go (run ps (start ps (plan .threads)) es) refl h
     where
-      go : (o : Option (List ThreadState)) → run ps (start ps (plan .threads)) es ≡ o → T (stuckAre n ps us o) → Schedule plan es (among us)
+      go : (o : Option (List ThreadState)) → run ps (start ps (plan .threads)) es ≡ o → T (stuckAre n ps us o) → Schedule plan es (setOf us)
       go (some ts) e h =
           let bodies = plain-body (ranked .sound) in
-          let (same, one) = T-and (sameBelow n (rounds n ps ts) (among us)) (any (rounds n ps ts) us) h in
+          let (same, one) = T-and (sameBelow n (rounds n ps ts) (setOf us)) (any (rounds n ps ts) us) h in
           let m = run-invariant ps bodies (start ps (plan .threads)) ts es e (start-invariant ps bodies (plan .threads)) in
           let len : length ts ≡ n = run-length ps (start ps (plan .threads)) ts es e ∙ start-length ps (plan .threads) in
-          let is : rounds n ps ts ≡ among us = fun-ext (λ t. ⊎-elim
-          (λ (b : t < n). same-below n (rounds n ps ts) (among us) same t b)
-          (λ (b : n ≤ t). same-test (rounds n ps ts t) (among us t)
+          let is : rounds n ps ts ≡ setOf us = fun-ext (λ t. ⊎-elim
+          (λ (b : t < n). same-below n (rounds n ps ts) (setOf us) same t b)
+          (λ (b : n ≤ t). same-test (rounds n ps ts t) (setOf us t)
           (λ r. absurd (omega (arith, rounds-in ps bodies ts m n t r)))
-          (λ a. let (v, i, q) = any-is (eqb t) us a in absurd (omega (arith, eqb→eq t v q, ltb→lt v n (all-mem (λ t. ltb t n) us small v i)))))
+          (λ a. absurd (omega (arith, ltb→lt t n (all-mem (λ t. ltb t n) us small t (set-of us t a))))))
           (lt-or-le t n)) in
           let (u, _, r) = any-is (rounds n ps ts) us one in
           record { there = ts; reached = e; largest = subst (Largest ps ts) is (rounds-largest ps bodies ts m n (omega arith) u r); short = short }
@@ -218,40 +213,29 @@ module _ (plan : LockPlan) (ranked : Ranked plan (λ p. p)) where
       stuck-are es us small ends (leb→le (length es) (threadSizes plan) short)
 
 -- a case that passes
-pub passes-facts : (c : Case) → T (passes c) → CaseFacts c
+pub passes-facts : (plan : LockPlan) (words : List (List ℕ)) (a : Answer) → T (passes plan words a) → CaseFacts plan words a
 unfolding passes
-passes-facts c h =
-    let ps = c .plan .procs in
-    let ns = c .plan .threads in
-    let t₄ = answers (c .plan) (c .answer) in
-    let t₃ = wordsFrom ps 0 (c .words) && t₄ in
+passes-facts plan words a h =
+    let ps = plan .procs in
+    let ns = plan .threads in
+    let t₄ = answers plan a in
+    let t₃ = wordsFrom ps 0 words && t₄ in
     let t₂ = leb (length ns) 8 && t₃ in
     let t₁ = all (λ n. ltb n (length ps)) ns && t₂ in
     let (h₀, k₁) = T-and (soundFrom 0 ps) t₁ h in
     let (h₁, k₂) = T-and (all (λ n. ltb n (length ps)) ns) t₂ k₁ in
     let (h₂, k₃) = T-and (leb (length ns) 8) t₃ k₂ in
-    let (h₃, h₄) = T-and (wordsFrom ps 0 (c .words)) t₄ k₃ in
-    let ranked : Ranked (c .plan) (λ p. p) = record {
+    let (h₃, h₄) = T-and (wordsFrom ps 0 words) t₄ k₃ in
+    let ranked : Ranked plan (λ p. p) = record {
       sound = plan-sound ps h₀;
       ranks = λ p b. b;
       there = λ t b. ltb→lt (getD ns t 0) (length ps) (all-at (λ n. ltb n (length ps)) ns h₁ t b);
       few = leb→le (length ns) 8 h₂;
     } in
-    let listed : (p : ℕ) → p < length (c .words)
-    → (p < length ps) × (pairList ps p ≡ getD (c .words) p []) = λ p b. rw zero-add at (words-from ps 0 (c .words) h₃ p b) in
+    let same : (p : ℕ) → p < length words → (p < length ps) × (pairList ps p ≡ getD words p []) =
+    λ p b. rw zero-add at (words-from ps 0 words h₃ p b) in
     record {
-      words = λ p b. sym (listed p b .1);
-      critical = λ p b w. rw (← listed p b .1) (pair-list-critical ps (λ p. p) (ranked .sound) p (listed p b .0) w);
-      answer = answer-holds (c .plan) ranked (c .answer) h₄;
+      listed = λ p b. sym (same p b .1);
+      critical = λ p b w. rw (← same p b .1) (pair-list-critical ps (λ p. p) (ranked .sound) p (same p b .0) w);
+      answer = answer-holds plan ranked a h₄;
     }
-
-pub cases-facts : (cs : List Case) → T (allPass cs) → (c : Case) → List·Memᴰ c cs → CaseFacts c
-unfolding allPass
-cases-facts [] h c m = absurd (List·Memᴰ·not-nil m)
-cases-facts (x ∷ cs) h c m =
-    let (a, b) = T-and (passes x) (allPass cs) h in
-    ⊎-elim (λ (e : c ≡ x). subst CaseFacts (sym e) (passes-facts x a)) (λ n. cases-facts cs b c n) (List·Memᴰ·cases-cons m)
-
--- so every case of the table is as expected
-pub case-facts : (c : Case) → List·Memᴰ c cases → CaseFacts c
-case-facts = cases-facts cases table-passes
