@@ -1,0 +1,5 @@
+-- What the passes give on the forms of a plan.
+pub mod Places
+pub mod Costs
+-- The laws that the proofs of the functions cite.
+pub mod Laws
