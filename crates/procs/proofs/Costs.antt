@@ -1,22 +1,22 @@
 -- Sizes as a pass over forms makes them. The forms of a block cost the block's size, and what follows a procedure's closing line is a procedure, a thread or the
 -- plan's end, so from a procedure's start on the pass gives the size of its block (`start-cost`). A pass over all procedures is a round (`round-starts`), and after as
 -- many rounds as there are procedures each entry is the size, cut off (`rounds-sized`).
-use Prim.Native.Nat.{ℕ, zero, suc, _+_, _<_, _≤_, min}
+use Prim.Native.Nat.{ℕ, zero, suc, _+_, _<_, _≤_}
 use native.Mathlib.Omega.{arith}
 use mathlib.Core.Path.{_≡_, refl, sym, ap, _∙_}
-use mathlib.Core.List.{List, [], _∷_, _++_, map, map-append}
+use mathlib.Core.List.{List, [], _∷_, map, map-append}
 use lib.ListN.{length, take, drop, getD, length-take}
 use lib.Seq.{take-suc, take-length, getD-take}
 use Rattle.text.specs.declared.Form.{Form}
 use Rattle.text.specs.declared.Form.the-variants.{Close, Two}
 use Rattle.semantics.specs.Plan.{Block, done, skip, call, hold, loop, either, end, bodyIn, Written}
-use Rattle.semantics.specs.Sizes.{sizeWith, sizeOf}
+use Rattle.semantics.specs.Sizes.{sizeWith}
 use Rattle.semantics.proofs.SizeRounds.{sizeRound, sizeRounds, round-length, round-more, rounds-length, rounds-size}
 use Rattle.plan.specs.Grammar.{blockForms, procForms, threadForms}
 use Rattle.plan.specs.Table.{formAt, tableForms}
 use Rattle.plan.specs.Settled.{PlanTable, tablePlan}
 use Rattle.plan.specs.Starts.{Starts}
-use Rattle.procs.specs.Passes.{isProc, isThread, placesFrom, costOf, costFrom, entryOf, sizeFrom}
+use Rattle.procs.specs.Passes.{isProc, isThread, costOf, costFrom, entryOf, sizeFrom}
 use Rattle.procs.specs.Sized.{Sized}
 use Rattle.procs.proofs.Places.{map-drop, PlacedBlock, places-lines, table-placed}
 

@@ -1,8 +1,8 @@
 -- The definitions of the crate in the shape of its functions' needs: a match on a form, one turn of each loop and its end.
-use Prim.Native.Nat.{ℕ, zero, suc, _+_, _-_, _<_, _≤_, min}
+use Prim.Native.Nat.{ℕ, suc, _+_, _-_, _<_, _≤_, min}
 use native.Mathlib.Numerals.{add-one}
 use native.Mathlib.Omega.{arith}
-use mathlib.Core.Path.{_≡_, refl, sym, ap, _∙_}
+use mathlib.Core.Path.{_≡_, sym, ap, _∙_}
 use mathlib.Core.Bool.{Bool, true, false, _||_}
 use mathlib.Core.List.{List, [], _∷_, _++_, map, map-append, append-nil}
 use mathlib.Core.Option.{Option, none, some}
@@ -16,8 +16,7 @@ use Rattle.text.specs.declared.Form.{Form}
 use Rattle.text.specs.declared.Form.the-variants.{Call}
 use Rattle.text.specs.Forms.{numberIn}
 use Rattle.semantics.specs.Sizes.{sizeOf}
-use Rattle.semantics.proofs.SizeRounds.{sizeRound, sizeRounds}
-use Rattle.plan.specs.declared.Reading.{Reading}
+use Rattle.semantics.proofs.SizeRounds.{sizeRounds}
 use Rattle.plan.specs.declared.Reading.the-variants.{Accepted, Refused}
 use Rattle.plan.specs.Table.{formAt, tableForms}
 use Rattle.plan.specs.Settled.{PlanTable, tablePlan}

@@ -7,7 +7,7 @@ use mathlib.Core.Path.{_≡_, refl, sym, ap, _∙_}
 use mathlib.Core.List.{List, [], _∷_, map}
 use borrow.Author.Tests.{ne-eqb}
 use lib.ListN.{length, take, drop, getD, length-map, length-drop, length-take}
-use lib.Seq.{drop-drop, drop-nil, getD-take}
+use lib.Seq.{drop-drop, getD-take}
 use Rattle.text.specs.declared.Form.{Form}
 use Rattle.text.specs.declared.Form.the-variants.{Plan, Proc, Thread, Close, Skip, Call, Hold, Loop, Either, One, Two}
 use Rattle.text.specs.Forms.{numberIn}

@@ -3,7 +3,7 @@ ghost use mathlib.Core.Path.{_≡_};
 ghost use mathlib.Core.Bool.{_||_};
 ghost use mathlib.Core.List.{map};
 ghost use Prim.Native.Nat.{_+_, _≤_, _<_, min};
-ghost use lib.ListN.{length, getD, take, replicate, drop};
+ghost use lib.ListN.{length, take, replicate};
 ghost use Rattle.plan.specs.Table.{tableForms};
 ghost use Rattle.plan.specs.Settled.{PlanTable, tablePlan};
 ghost use Rattle.plan.specs.Starts.{Starts};
@@ -192,11 +192,15 @@ fn make_round(table: &[u64], starts: &[u64], sizes: &[u64], next: &mut [u64], pr
 }
 
 // The size of each procedure, cut off at 1,025: as many rounds as there are procedures.
-pub fn proc_sizes(table: &[u64], starts: &[u64], procs: usize, sizes: &mut [u64], scratch: &mut [u64])
-    requires {
-        ⌜ PlanTable (now table) × Starts (now table) (now starts) × (procs ≡ length (tablePlan (now table) .procs)) × (64 ≤ length (now sizes))
-        × (64 ≤ length (now scratch)) ⌝
-    }
+pub fn proc_sizes(
+    table: &[u64],
+    starts: &[u64],
+    procs: usize,
+    sizes: &mut [u64],
+    scratch: &mut [u64],
+)
+    requires { ⌜ PlanTable (now table) × Starts (now table) (now starts) × (procs ≡ length (tablePlan (now table) .procs)) × (64 ≤ length (now sizes))
+        × (64 ≤ length (now scratch)) ⌝ }
     ensures { λ r. ⌜ Sized (now (table .entry)) (now (sizes .exit)) ⌝ }
 {
     clear(sizes, procs);
@@ -210,9 +214,7 @@ pub fn proc_sizes(table: &[u64], starts: &[u64], procs: usize, sizes: &mut [u64]
 
 // Rule 9 by the table of sizes: the line of the lowest procedure whose size exceeds 1,024.
 fn check_table(table: &[u64], starts: &[u64], procs: usize, sizes: &[u64]) -> Reading
-    requires {
-        ⌜ Starts (now table) (now starts) × (procs ≡ length (tablePlan (now table) .procs)) × Sized (now table) (now sizes) ⌝
-    }
+    requires { ⌜ Starts (now table) (now starts) × (procs ≡ length (tablePlan (now table) .procs)) × Sized (now table) (now sizes) ⌝ }
     ensures { λ r. ⌜ r ≡ readingOf (tooLarge (tableForms (now (table .entry)))) (length (now (table .entry))) ⌝ }
 {
     let mut p: usize = 0;
@@ -229,15 +231,17 @@ fn check_table(table: &[u64], starts: &[u64], procs: usize, sizes: &[u64]) -> Re
 }
 
 // Rule 9, with the sizes.
-pub fn check_sizes(table: &[u64], starts: &[u64], procs: usize, sizes: &mut [u64], scratch: &mut [u64]) -> Reading
-    requires {
-        ⌜ PlanTable (now table) × Starts (now table) (now starts) × (procs ≡ length (tablePlan (now table) .procs)) × (64 ≤ length (now sizes))
-        × (64 ≤ length (now scratch)) ⌝
-    }
-    ensures {
-        λ r. ⌜ (r ≡ readingOf (tooLarge (tableForms (now (table .entry)))) (length (now (table .entry))))
-        × Sized (now (table .entry)) (now (sizes .exit)) ⌝
-    }
+pub fn check_sizes(
+    table: &[u64],
+    starts: &[u64],
+    procs: usize,
+    sizes: &mut [u64],
+    scratch: &mut [u64],
+) -> Reading
+    requires { ⌜ PlanTable (now table) × Starts (now table) (now starts) × (procs ≡ length (tablePlan (now table) .procs)) × (64 ≤ length (now sizes))
+        × (64 ≤ length (now scratch)) ⌝ }
+    ensures { λ r. ⌜ (r ≡ readingOf (tooLarge (tableForms (now (table .entry)))) (length (now (table .entry))))
+        × Sized (now (table .entry)) (now (sizes .exit)) ⌝ }
 {
     proc_sizes(table, starts, procs, sizes, scratch);
     check_table(table, starts, procs, sizes)

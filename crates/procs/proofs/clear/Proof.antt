@@ -1,14 +1,11 @@
 -- The entries before i are zero.
-use Prim.Native.Nat.{_+_, _-_, _≤_, _<_, min}
+use Prim.Native.Nat.{_-_, _≤_}
 use mathlib.Core.Path.{_≡_}
-use mathlib.Core.List.{map, _++_}
-use lib.ListN.{length, take, drop, replicate}
+use lib.ListN.{length, take, replicate}
 use Rattle.procs.proofs.Laws.{clear-more, clear-done}
 use borrow.Author.Needs.{needs}
 use Rattle.procs.proofs.clear.Statement.{statement}
 use Rattle.procs.proofs.clear.Tie as tie
-use Rattle.procs.proofs.clear.Reads as reads
-use Rattle.procs.proofs.clear.Lts as lts
 
 abbrev Inv-loop : tie.InvT-loop
 Inv-loop sizes₀ n i₀ sizes i = (i ≤ n) × (n ≤ length sizes₀) × (length sizes ≡ length sizes₀) × (take i sizes ≡ replicate i 0)
@@ -16,35 +13,27 @@ Inv-loop sizes₀ n i₀ sizes i = (i ≤ n) × (n ≤ length sizes₀) × (leng
 abbrev μ-loop : tie.MeasureT-loop
 μ-loop sizes₀ n i₀ sizes i = n - i
 
--- src/lib.rt:164:5
 loop-holds : tie.Need-loop-holds Inv-loop μ-loop
 loop-holds c = search needs
 
--- src/lib.rt:165:9
 mul-sizes : tie.Need-mul-sizes Inv-loop μ-loop
 mul-sizes c = search needs
 
--- src/lib.rt:165:9
 slice-write-sizes : tie.Need-slice-write-sizes Inv-loop μ-loop
 slice-write-sizes c = search needs
 
--- src/lib.rt:166:9
 add-i : tie.Need-add-i Inv-loop μ-loop
 add-i c = search needs
 
--- src/lib.rt:164:5
 loop-less : tie.Need-loop-less Inv-loop μ-loop
 loop-less c = search needs
 
--- src/lib.rt:164:5
 loop-again : tie.Need-loop-again Inv-loop μ-loop
 loop-again c = search (clear-more, needs)
 
--- src/lib.rt:159:1
 same-length : tie.Need-same-length Inv-loop μ-loop
 same-length c = search needs
 
--- src/lib.rt:159:1
 returns : tie.Need-returns Inv-loop μ-loop
 returns c = search (clear-done, needs)
 

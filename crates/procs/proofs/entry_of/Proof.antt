@@ -3,22 +3,16 @@ use lib.ListN.{List·getD-eq-default}
 use borrow.Author.Needs.{needs}
 use Rattle.procs.proofs.entry_of.Statement.{statement}
 use Rattle.procs.proofs.entry_of.Tie as tie
-use Rattle.procs.proofs.entry_of.Reads as reads
-use Rattle.procs.proofs.entry_of.Lts as lts
 
--- src/lib.rt:106:16
 mul-result : tie.Need-mul-result
 mul-result c = search needs
 
--- src/lib.rt:106:16
 shared-slice-read-result : tie.Need-shared-slice-read-result
 shared-slice-read-result c = search needs
 
--- src/lib.rt:106:9
 returns : tie.Need-returns
 returns c = search needs
 
--- src/lib.rt:102:1
 returns-2 : tie.Need-returns-2
 returns-2 c = search (List·getD-eq-default, needs)
 

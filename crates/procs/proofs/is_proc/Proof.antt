@@ -4,104 +4,80 @@ use Rattle.procs.proofs.Laws.{proc-case}
 use borrow.Author.Needs.{needs}
 use Rattle.procs.proofs.is_proc.Statement.{statement}
 use Rattle.procs.proofs.is_proc.Tie as tie
-use Rattle.procs.proofs.is_proc.Reads as reads
-use Rattle.procs.proofs.is_proc.Lts as lts
 
--- src/lib.rt:21:23
 enum-told : tie.Need-enum-told
 enum-told c = search needs
 
--- src/lib.rt:22:23
 enum-told-2 : tie.Need-enum-told-2
 enum-told-2 c = search needs
 
--- src/lib.rt:23:28
 enum-told-3 : tie.Need-enum-told-3
 enum-told-3 c = search needs
 
--- src/lib.rt:24:24
 enum-told-4 : tie.Need-enum-told-4
 enum-told-4 c = search needs
 
--- src/lib.rt:25:23
 enum-told-5 : tie.Need-enum-told-5
 enum-told-5 c = search needs
 
--- src/lib.rt:26:26
 enum-told-6 : tie.Need-enum-told-6
 enum-told-6 c = search needs
 
--- src/lib.rt:27:26
 enum-told-7 : tie.Need-enum-told-7
 enum-told-7 c = search needs
 
--- src/lib.rt:28:23
 enum-told-8 : tie.Need-enum-told-8
 enum-told-8 c = search needs
 
--- src/lib.rt:29:25
 enum-told-9 : tie.Need-enum-told-9
 enum-told-9 c = search needs
 
--- src/lib.rt:30:22
 enum-told-10 : tie.Need-enum-told-10
 enum-told-10 c = search needs
 
--- src/lib.rt:31:22
 enum-told-11 : tie.Need-enum-told-11
 enum-told-11 c = search needs
 
--- src/lib.rt:17:1
 returns : tie.Need-returns
 unfolding isProc
 returns c = search (proc-case, needs)
 
--- src/lib.rt:17:1
 returns-2 : tie.Need-returns-2
 unfolding isProc
 returns-2 c = search (proc-case, needs)
 
--- src/lib.rt:17:1
 returns-3 : tie.Need-returns-3
 unfolding isProc
 returns-3 c = search (proc-case, needs)
 
--- src/lib.rt:17:1
 returns-4 : tie.Need-returns-4
 unfolding isProc
 returns-4 c = search (proc-case, needs)
 
--- src/lib.rt:17:1
 returns-5 : tie.Need-returns-5
 unfolding isProc
 returns-5 c = search (proc-case, needs)
 
--- src/lib.rt:17:1
 returns-6 : tie.Need-returns-6
 unfolding isProc
 returns-6 c = search (proc-case, needs)
 
--- src/lib.rt:17:1
 returns-7 : tie.Need-returns-7
 unfolding isProc
 returns-7 c = search (proc-case, needs)
 
--- src/lib.rt:17:1
 returns-8 : tie.Need-returns-8
 unfolding isProc
 returns-8 c = search (proc-case, needs)
 
--- src/lib.rt:17:1
 returns-9 : tie.Need-returns-9
 unfolding isProc
 returns-9 c = search (proc-case, needs)
 
--- src/lib.rt:17:1
 returns-10 : tie.Need-returns-10
 unfolding isProc
 returns-10 c = search (proc-case, needs)
 
--- src/lib.rt:17:1
 returns-11 : tie.Need-returns-11
 unfolding isProc
 returns-11 c = search (proc-case, needs)
