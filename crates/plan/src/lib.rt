@@ -285,7 +285,7 @@ fn tested_by(form: Form) -> u8
 }
 
 // A form's number, or 0.
-fn number_in(form: Form) -> usize
+pub fn number_in(form: Form) -> usize
     ensures { λ r. ⌜ r ≡ numberIn form ⌝ }
 {
     match form {

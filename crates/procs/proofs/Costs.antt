@@ -1,0 +1,76 @@
+-- Sizes as a pass over forms makes them. The forms of a block cost the block's size, and what follows a procedure's closing line is a procedure, a thread or the
+-- plan's end, so from a procedure's start on the pass gives the size of its block (`start-cost`). A pass over all procedures is a round (`round-starts`), and after as
+-- many rounds as there are procedures each entry is the size, cut off (`rounds-sized`).
+use Prim.Native.Nat.{ℕ, zero, suc, _+_, _<_, _≤_}
+use native.Mathlib.Omega.{arith}
+use mathlib.Core.Path.{_≡_, refl, sym, ap, _∙_}
+use mathlib.Core.List.{List, [], _∷_, map, map-append}
+use lib.ListN.{length, take, drop, getD, length-take}
+use lib.Seq.{take-suc, take-length, getD-take}
+use Rattle.text.specs.declared.Form.{Form}
+use Rattle.text.specs.declared.Form.the-variants.{Close, Two}
+use Rattle.semantics.specs.Plan.{Block, done, skip, call, hold, loop, either, end, bodyIn, Written}
+use Rattle.semantics.specs.Sizes.{sizeWith}
+use Rattle.semantics.proofs.SizeRounds.{sizeRound, sizeRounds, round-length, round-more, rounds-length, rounds-size}
+use Rattle.plan.specs.Grammar.{blockForms, procForms, threadForms}
+use Rattle.plan.specs.Table.{formAt, tableForms}
+use Rattle.plan.specs.Settled.{PlanTable, tablePlan}
+use Rattle.plan.specs.Starts.{Starts}
+use Rattle.procs.specs.Passes.{isProc, isThread, costOf, costFrom, entryOf, sizeFrom}
+use Rattle.procs.specs.Sized.{Sized}
+use Rattle.procs.proofs.Places.{map-drop, PlacedBlock, places-lines, table-placed}
+
+module _ (s : ℕ → ℕ) where
+  pub cost-block : (C : ℕ → Type 0) (b : Block) → Written C b → (fs : List Form) → costFrom s (blockForms b fs) ≡ sizeWith s b + costFrom s fs
+  unfolding costFrom costOf isProc isThread blockForms sizeWith Written
+  cost-block C done w fs = omega arith
+  cost-block C (skip r) w fs = omega (arith, cost-block C r w fs)
+  cost-block C (call p r) w fs = omega (arith, cost-block C r (w .1) fs)
+  cost-block C (hold l b r) w fs = omega (arith, cost-block C b (w .1) (Close ∷ blockForms r fs), cost-block C r (w .2) fs)
+  cost-block C (loop b r) w fs = omega (arith, cost-block C b (w .0) (Close ∷ blockForms r fs), cost-block C r (w .1) fs)
+  cost-block C (either a b r) w fs =
+      omega
+      (arith, cost-block C a (w .0) (Close ∷ Two ∷ blockForms b (Close ∷ Close ∷ blockForms r fs)), cost-block C b (w .1) (Close ∷ Close ∷ blockForms r fs), cost-block C r (w .2) fs)
+  cost-block C (end l r) w fs = absurd w
+
+  cost-behind : (rest : List Block) (ns : List ℕ) → costFrom s (Close ∷ procForms rest (threadForms ns (Close ∷ []))) ≡ 0
+  unfolding costFrom costOf isProc isThread procForms threadForms
+  cost-behind [] [] = refl
+  cost-behind [] (n ∷ ns) = refl
+  cost-behind (b ∷ bs) ns = refl
+
+  cost-placed : (C : ℕ → Type 0) (whole : List Form) (ns : List ℕ) (k : ℕ) (b : Block) → Written C b → PlacedBlock whole (threadForms ns (Close ∷ [])) k b
+      → costFrom s (drop k whole) ≡ sizeWith s b
+  cost-placed C whole ns k b w x = rw (x .written, cost-block C b w _, cost-behind (x .rest) ns) (omega arith)
+
+module _ (ws starts : List ℕ) (t : PlanTable ws) (k : Starts ws starts) where
+  pub start-cost : (s : ℕ → ℕ) (p : ℕ) → p < length (tablePlan ws .procs)
+      → costFrom s (tableForms (drop (getD starts p 0) ws)) ≡ sizeWith s (bodyIn (tablePlan ws .procs) p)
+  start-cost s p h =
+      ap (costFrom s) (map-drop formAt (getD starts p 0) ws ∙ ap (λ n. drop n (tableForms ws)) (k .lines p h ∙ sym (places-lines (tableForms ws) 0 p)))
+      ∙ cost-placed s _ (tableForms ws) (tablePlan ws .threads) _ _ (t .settled .sound .body p) (table-placed ws t p h)
+
+  -- the sizes from the first p starts on are the first p entries of a round
+  round-starts : (sizes : List ℕ) (p : ℕ) → p ≤ length (tablePlan ws .procs)
+      → map (sizeFrom ws sizes) (take p starts) ≡ take p (sizeRound 1025 (tablePlan ws .procs) sizes)
+  unfolding sizeFrom
+  round-starts sizes zero h = refl
+  round-starts sizes (suc p) h =
+      ap (map (sizeFrom ws sizes)) (take-suc starts p 0 (omega (arith, k .room)))
+      ∙ map-append (sizeFrom ws sizes) (take p starts) (getD starts p 0 ∷ [])
+      ∙ rw (round-starts sizes p (omega arith), start-cost (entryOf sizes) p h) (sym (round-more 1025 (tablePlan ws .procs) sizes p h))
+
+  pub round-all : (sizes : List ℕ) → map (sizeFrom ws sizes) (take (length (tablePlan ws .procs)) starts) ≡ sizeRound 1025 (tablePlan ws .procs) sizes
+  round-all sizes =
+      round-starts sizes (length (tablePlan ws .procs)) (omega arith)
+      ∙ ap (λ n. take n (sizeRound 1025 (tablePlan ws .procs) sizes)) (sym (round-length 1025 (tablePlan ws .procs) sizes))
+      ∙ take-length (sizeRound 1025 (tablePlan ws .procs) sizes)
+
+-- a table that begins with what all rounds make
+pub rounds-sized : (ws sizes : List ℕ) (n : ℕ) → n ≡ length (tablePlan ws .procs) → take n sizes ≡ sizeRounds 1025 n (tablePlan ws .procs) → Sized ws sizes
+rounds-sized ws sizes n e h =
+    record {
+      room = omega (arith, length-take n sizes, ap length h, rounds-length 1025 n (tablePlan ws .procs));
+      entries = λ p k. sym (getD-take n sizes p 0 (omega arith)) ∙ ap (λ l. getD l p 0) h
+          ∙ ap (λ d. getD (sizeRounds 1025 d (tablePlan ws .procs)) p 0) e ∙ rounds-size 1025 (tablePlan ws .procs) p;
+    }

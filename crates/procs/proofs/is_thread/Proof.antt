@@ -1,0 +1,110 @@
+-- Each arm is the clause of the definition for its form.
+use Rattle.procs.specs.Passes.{isThread}
+use Rattle.procs.proofs.Laws.{thread-case}
+use borrow.Author.Needs.{needs}
+use Rattle.procs.proofs.is_thread.Statement.{statement}
+use Rattle.procs.proofs.is_thread.Tie as tie
+
+enum-told : tie.Need-enum-told
+enum-told c = search needs
+
+enum-told-2 : tie.Need-enum-told-2
+enum-told-2 c = search needs
+
+enum-told-3 : tie.Need-enum-told-3
+enum-told-3 c = search needs
+
+enum-told-4 : tie.Need-enum-told-4
+enum-told-4 c = search needs
+
+enum-told-5 : tie.Need-enum-told-5
+enum-told-5 c = search needs
+
+enum-told-6 : tie.Need-enum-told-6
+enum-told-6 c = search needs
+
+enum-told-7 : tie.Need-enum-told-7
+enum-told-7 c = search needs
+
+enum-told-8 : tie.Need-enum-told-8
+enum-told-8 c = search needs
+
+enum-told-9 : tie.Need-enum-told-9
+enum-told-9 c = search needs
+
+enum-told-10 : tie.Need-enum-told-10
+enum-told-10 c = search needs
+
+enum-told-11 : tie.Need-enum-told-11
+enum-told-11 c = search needs
+
+returns : tie.Need-returns
+unfolding isThread
+returns c = search (thread-case, needs)
+
+returns-2 : tie.Need-returns-2
+unfolding isThread
+returns-2 c = search (thread-case, needs)
+
+returns-3 : tie.Need-returns-3
+unfolding isThread
+returns-3 c = search (thread-case, needs)
+
+returns-4 : tie.Need-returns-4
+unfolding isThread
+returns-4 c = search (thread-case, needs)
+
+returns-5 : tie.Need-returns-5
+unfolding isThread
+returns-5 c = search (thread-case, needs)
+
+returns-6 : tie.Need-returns-6
+unfolding isThread
+returns-6 c = search (thread-case, needs)
+
+returns-7 : tie.Need-returns-7
+unfolding isThread
+returns-7 c = search (thread-case, needs)
+
+returns-8 : tie.Need-returns-8
+unfolding isThread
+returns-8 c = search (thread-case, needs)
+
+returns-9 : tie.Need-returns-9
+unfolding isThread
+returns-9 c = search (thread-case, needs)
+
+returns-10 : tie.Need-returns-10
+unfolding isThread
+returns-10 c = search (thread-case, needs)
+
+returns-11 : tie.Need-returns-11
+unfolding isThread
+returns-11 c = search (thread-case, needs)
+
+pub is-thread-spec : {M : Type 1} → statement M
+is-thread-spec =
+    tie.close
+    (tie.spec
+    enum-told
+    enum-told-2
+    enum-told-3
+    enum-told-4
+    enum-told-5
+    enum-told-6
+    enum-told-7
+    enum-told-8
+    enum-told-9
+    enum-told-10
+    enum-told-11
+    returns
+    returns-2
+    returns-3
+    returns-4
+    returns-5
+    returns-6
+    returns-7
+    returns-8
+    returns-9
+    returns-10
+    returns-11)

@@ -1,0 +1,71 @@
+-- The entries before p are the sizes from the first p starts on.
+use Prim.Native.Nat.{_-_, _≤_}
+use mathlib.Core.Path.{_≡_}
+use mathlib.Core.List.{map}
+use lib.ListN.{length, take}
+use Rattle.plan.specs.Settled.{tablePlan}
+use Rattle.plan.specs.Starts.{Starts}
+use Rattle.procs.specs.Passes.{sizeFrom}
+use Rattle.procs.proofs.Laws.{start-room, start-within, round-more, round-done}
+use borrow.Author.Needs.{needs}
+use Rattle.procs.proofs.make_round.Statement.{statement}
+use Rattle.procs.proofs.make_round.Tie as tie
+
+abbrev Inv-loop : tie.InvT-loop
+Inv-loop table starts sizes next₀ procs p₀ next p =
+    Starts table starts × (procs ≡ length (tablePlan table .procs)) × (p ≤ procs) × (procs ≤ length next₀) × (length next ≡ length next₀)
+    × (take p next ≡ map (sizeFrom table sizes) (take p starts))
+
+abbrev μ-loop : tie.MeasureT-loop
+μ-loop table starts sizes next₀ procs p₀ next p = procs - p
+
+loop-holds : tie.Need-loop-holds Inv-loop μ-loop
+loop-holds c = search needs
+
+mul-size-from : tie.Need-mul-size-from Inv-loop μ-loop
+mul-size-from c = search needs
+
+shared-slice-read-size-from : tie.Need-shared-slice-read-size-from Inv-loop μ-loop
+shared-slice-read-size-from c = search (start-room, needs)
+
+size-from-requires : tie.Need-size-from-requires Inv-loop μ-loop
+size-from-requires c κs = search (start-within, needs)
+
+mul-next : tie.Need-mul-next Inv-loop μ-loop
+mul-next c = search needs
+
+slice-write-next : tie.Need-slice-write-next Inv-loop μ-loop
+slice-write-next c = search needs
+
+add-p : tie.Need-add-p Inv-loop μ-loop
+add-p c = search needs
+
+loop-less : tie.Need-loop-less Inv-loop μ-loop
+loop-less c = search needs
+
+loop-again : tie.Need-loop-again Inv-loop μ-loop
+loop-again c = search (round-more, needs)
+
+same-length : tie.Need-same-length Inv-loop μ-loop
+same-length c = search needs
+
+returns : tie.Need-returns Inv-loop μ-loop
+returns c = search (round-done, needs)
+
+pub make-round-spec : {M : Type 1} → statement M
+make-round-spec =
+    tie.close
+    (tie.spec
+    Inv-loop
+    μ-loop
+    loop-holds
+    mul-size-from
+    shared-slice-read-size-from
+    size-from-requires
+    mul-next
+    slice-write-next
+    add-p
+    loop-less
+    loop-again
+    same-length
+    returns)

@@ -1,0 +1,74 @@
+-- The sum so far and the cost of the forms that are left are together, cut off, the cost of all.
+use Prim.Native.Nat.{_+_, _-_, _≤_, min}
+use mathlib.Core.Path.{_≡_}
+use mathlib.Core.List.{map}
+use lib.ListN.{length, drop}
+use Rattle.plan.specs.Table.{formAt}
+use Rattle.procs.specs.Passes.{costFrom, entryOf, sizeFrom}
+use Rattle.procs.proofs.Laws.{capped, size-done, size-over, size-more}
+use borrow.Author.Needs.{needs}
+use Rattle.procs.proofs.size_from.Statement.{statement}
+use Rattle.procs.proofs.size_from.Tie as tie
+
+abbrev Inv-loop : tie.InvT-loop
+Inv-loop table sizes place size₀ i₀ size i =
+    (i ≤ length table) × (size ≤ 1025) × (min 1025 (size + costFrom (entryOf sizes) (map formAt (drop i table))) ≡ sizeFrom table sizes place)
+
+abbrev μ-loop : tie.MeasureT-loop
+μ-loop table sizes place size₀ i₀ size i = length table - i
+
+loop-holds : tie.Need-loop-holds Inv-loop μ-loop
+unfolding sizeFrom
+loop-holds c = search needs
+
+mul-form-at : tie.Need-mul-form-at Inv-loop μ-loop
+mul-form-at c = search needs
+
+shared-slice-read-form-at : tie.Need-shared-slice-read-form-at Inv-loop μ-loop
+shared-slice-read-form-at c = search needs
+
+form-at-requires : tie.Need-form-at-requires Inv-loop μ-loop
+form-at-requires c κs = search needs
+
+is-over-requires : tie.Need-is-over-requires Inv-loop μ-loop
+is-over-requires c κs = search needs
+
+returns : tie.Need-returns Inv-loop μ-loop
+returns c = search (size-over, needs)
+
+add-i : tie.Need-add-i Inv-loop μ-loop
+add-i c = search needs
+
+cost-of-requires : tie.Need-cost-of-requires Inv-loop μ-loop
+cost-of-requires c κs = search needs
+
+add-capped-requires : tie.Need-add-capped-requires Inv-loop μ-loop
+add-capped-requires c κs = search needs
+
+loop-less : tie.Need-loop-less Inv-loop μ-loop
+loop-less c = search needs
+
+loop-again : tie.Need-loop-again Inv-loop μ-loop
+loop-again c = search (capped, size-more, needs)
+
+returns-2 : tie.Need-returns-2 Inv-loop μ-loop
+returns-2 c = search (size-done, needs)
+
+pub size-from-spec : {M : Type 1} → statement M
+size-from-spec =
+    tie.close
+    (tie.spec
+    Inv-loop
+    μ-loop
+    loop-holds
+    mul-form-at
+    shared-slice-read-form-at
+    form-at-requires
+    is-over-requires
+    returns
+    add-i
+    cost-of-requires
+    add-capped-requires
+    loop-less
+    loop-again
+    returns-2)
