@@ -1,2 +1,3 @@
 pub mod Insertion
+pub mod Numbers
 pub mod Collecting
