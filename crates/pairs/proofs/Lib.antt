@@ -1,0 +1,7 @@
+-- Insertion, the numbers of a table, the words collected from it form by form, and that these are the pairs of the tree.
+pub mod Insertion
+pub mod Numbers
+pub mod Collecting
+pub mod Additions
+pub mod Trees
+pub mod Lists
