@@ -1,7 +1,10 @@
 -- The cases of each answer with 01's numbers and values, and the 64-bit number that carries them to C (docs/ANSWERS.md).
-use Prim.Native.Nat.{ℕ, _+_, _*_}
+use Prim.Native.Nat.{ℕ, _+_, _*_, _^_, _<_}
 use mathlib.Core.Option.{Option, none, some}
 use Rattle.plan.specs.Rules.{Refusal}
+use Rattle.plan.specs.declared.Reading.{Reading}
+use Rattle.plan.specs.declared.Reading.the-variants.{Accepted}
+use Rattle.plan.specs.declared.Reading.the-variants as plan
 use Rattle.lockplan.specs.declared.Listing.{Listing}
 use Rattle.lockplan.specs.declared.Listing.the-variants.{Pairs, Refused}
 
@@ -18,3 +21,17 @@ answerNumber kind a b = kind + 256 * a + 65536 * b
 unfoldable pub listingNumber : Listing → ℕ
 listingNumber (Pairs n) = answerNumber 0 0 n
 listingNumber (Refused r l) = answerNumber 2 r l
+
+-- numbers that the 64-bit answer has room for
+pub record Below (a b : ℕ) : Type 0 where
+  pub low : a < 256
+  pub high : b < 2 ^ 40
+
+unfoldable pub Carried : Listing → Type 0
+Carried (Pairs n) = Below 0 n
+Carried (Refused r l) = Below r l
+
+-- a refusal of the plan, in the pair list's answer
+abbrev pub handedOn : Reading → Listing
+handedOn (Accepted n) = Pairs 0
+handedOn (plan.Refused r l) = Refused r l

@@ -1,3 +1,4 @@
 -- The promises of the public calls, and the 64-bit answers for C.
 pub mod Answers
 pub mod Promises
+pub mod Steps

@@ -1,8 +1,235 @@
-// The library's calls: the pair list, a procedure's text, and the same for C.
+// The library's calls: the pair list of a procedure, a procedure's text, and the pair list for C.
 ghost use mathlib.Core.Path.{_≡_};
+ghost use mathlib.Core.Option.{none};
+ghost use Prim.Native.Nat.{_/_, _<_, _≤_};
+ghost use lib.ListN.{length};
+ghost use Rattle.laws.specs.Choice.{orElse};
+ghost use Rattle.plan.specs.Table.{tableForms};
+ghost use Rattle.plan.specs.Settled.{PlanTable};
+ghost use Rattle.plan.specs.Rules.{planRefusal, tooLarge, tooManyPairs, readingOf, Tabled};
+ghost use Rattle.lockplan.specs.Answers.{listingNumber, handedOn, Carried};
+ghost use Rattle.lockplan.specs.Promises.{Listed, ListedBytes, procText};
+ghost use Rattle.lockplan.specs.Steps.{PairsFound, TablePairs, tableText};
+use plan::Reading;
 
 // What listing the pairs of a procedure gives: how many there are, or the refusal.
 pub enum Listing {
     Pairs(usize),
     Refused { rule: u8, line: usize },
+}
+
+// Rules 9 and 10 over a table of forms.
+fn check_table(
+    table: &[u64],
+    starts: &mut [u64],
+    sizes: &mut [u64],
+    scratch: &mut [u64],
+    list: &mut [u64],
+) -> Reading
+    requires { ⌜ PlanTable (now table) × (64 ≤ length (now starts)) × (64 ≤ length (now sizes)) × (64 ≤ length (now scratch)) × (129 ≤ length (now list)) ⌝ }
+    ensures { λ r. ⌜ r ≡ readingOf (orElse (tooLarge (tableForms (now (table .entry)))) (tooManyPairs (tableForms (now (table .entry))))) (length (now (table .entry))) ⌝ }
+{
+    let procs = procs::find_procs(table, starts);
+    let sized = procs::check_sizes(table, starts, procs, sizes, scratch);
+    let Reading::Accepted(_) = sized else {
+        return sized;
+    };
+    pairs::check_pairs(table, starts, procs, list)
+}
+
+// The plan's rules, 2 to 10, in checking order; the forms of an accepted text stay in the table.
+fn check_text(
+    text: &[u8],
+    table: &mut [u64],
+    stack: &mut [u8],
+    starts: &mut [u64],
+    sizes: &mut [u64],
+    scratch: &mut [u64],
+    list: &mut [u64],
+) -> Reading
+    requires { ⌜ (16384 ≤ length (now table)) × (16384 ≤ length (now stack)) × (64 ≤ length (now starts)) × (64 ≤ length (now sizes)) × (64 ≤ length (now scratch)) × (129 ≤ length (now list)) ⌝ }
+    ensures { λ r. ⌜ Tabled (planRefusal (now (text .entry))) (now (text .entry)) r (now (table .exit)) ⌝ }
+{
+    let read = plan::read_plan(text, table, stack);
+    let Reading::Accepted(n) = read else {
+        return read;
+    };
+    check_table(&table[0..n], starts, sizes, scratch, list)
+}
+
+// The pairs of a procedure of a table (rule 11 where it is not there).
+fn table_pairs(table: &[u64], starts: &mut [u64], proc: usize, list: &mut [u64]) -> Listing
+    requires { ⌜ PlanTable (now table) × (tooManyPairs (tableForms (now table)) ≡ none) × (64 ≤ length (now starts)) × (129 ≤ length (now list)) ⌝ }
+    ensures { λ r. ⌜ TablePairs (now (table .entry)) proc r (now (list .exit)) ⌝ }
+{
+    let procs = procs::find_procs(table, starts);
+    if procs <= proc {
+        return Listing::Refused { rule: 11, line: 0 };
+    }
+    let n = pairs::pair_words(table, starts, procs, proc, list);
+    Listing::Pairs(n)
+}
+
+// A refusal of the plan, in the pair list's answer.
+fn handed_on(reading: Reading) -> Listing
+    ensures { λ r. ⌜ r ≡ handedOn reading ⌝ }
+{
+    match reading {
+        Reading::Accepted(_) => Listing::Pairs(0),
+        Reading::Refused { rule, line } => Listing::Refused { rule, line },
+    }
+}
+
+// The pairs of a procedure of a text, into a table of 129 words, where `lent` words are lent for them.
+fn find_pairs(
+    text: &[u8],
+    proc: usize,
+    lent: usize,
+    table: &mut [u64],
+    stack: &mut [u8],
+    starts: &mut [u64],
+    sizes: &mut [u64],
+    scratch: &mut [u64],
+    list: &mut [u64],
+) -> Listing
+    requires { ⌜ (16384 ≤ length (now table)) × (16384 ≤ length (now stack)) × (64 ≤ length (now starts)) × (64 ≤ length (now sizes)) × (64 ≤ length (now scratch)) × (129 ≤ length (now list)) ⌝ }
+    ensures { λ r. ⌜ PairsFound (now (text .entry)) proc lent r (now (list .exit)) ⌝ }
+{
+    if lent < 128 {
+        return Listing::Refused { rule: 1, line: 0 };
+    }
+    let checked = check_text(text, table, stack, starts, sizes, scratch, list);
+    let Reading::Accepted(n) = checked else {
+        return handed_on(checked);
+    };
+    table_pairs(&table[0..n], starts, proc, list)
+}
+
+// The same with tables of its own.
+fn pairs_of(text: &[u8], proc: usize, lent: usize, list: &mut [u64]) -> Listing
+    requires { ⌜ 129 ≤ length (now list) ⌝ }
+    ensures { λ r. ⌜ PairsFound (now (text .entry)) proc lent r (now (list .exit)) ⌝ }
+{
+    let mut table = [0u64; 16384];
+    let mut stack = [0u8; 16384];
+    let mut starts = [0u64; 64];
+    let mut sizes = [0u64; 64];
+    let mut scratch = [0u64; 64];
+    find_pairs(
+        text,
+        proc,
+        lent,
+        &mut table,
+        &mut stack,
+        &mut starts,
+        &mut sizes,
+        &mut scratch,
+        list,
+    )
+}
+
+fn list_words(text: &[u8], proc: usize, out: &mut [u64], list: &mut [u64]) -> Listing
+    requires { ⌜ 129 ≤ length (now list) ⌝ }
+    ensures { λ r. ⌜ Listed (now (text .entry)) proc (now (out .entry)) r (now (out .exit)) ⌝ }
+{
+    let found = pairs_of(text, proc, out.len(), list);
+    let Listing::Pairs(n) = found else {
+        return found;
+    };
+    buffers::copy_words(&list[0..n], out);
+    found
+}
+
+// The critical pairs of a procedure: their words, ascending, at the start of `out`.
+pub fn pair_list(text: &[u8], proc: usize, out: &mut [u64]) -> Listing
+    ensures { λ r. ⌜ Listed (now (text .entry)) proc (now (out .entry)) r (now (out .exit)) ⌝ }
+{
+    let mut list = [0u64; 129];
+    list_words(text, proc, out, &mut list)
+}
+
+// The answer as one number: kind + 256 × a + 65,536 × b.
+fn listing_number(listing: Listing) -> u64
+    requires { ⌜ Carried listing ⌝ }
+    ensures { λ r. ⌜ r ≡ listingNumber listing ⌝ }
+{
+    match listing {
+        Listing::Pairs(n) => 65536 * (n as u64),
+        Listing::Refused { rule, line } => 2 + 256 * (rule as u64) + 65536 * (line as u64),
+    }
+}
+
+fn list_bytes(text: &[u8], proc: usize, out: &mut [u8], list: &mut [u64]) -> u64
+    requires { ⌜ 129 ≤ length (now list) ⌝ }
+    ensures { λ r. ⌜ ListedBytes (now (text .entry)) proc (now (out .entry)) r (now (out .exit)) ⌝ }
+{
+    let found = pairs_of(text, proc, out.len() / 8, list);
+    let Listing::Pairs(n) = found else {
+        return listing_number(found);
+    };
+    buffers::put_words(&list[0..n], out);
+    listing_number(found)
+}
+
+// The pair list for C: words as eight bytes each, lowest first.
+#[no_mangle]
+pub extern "C" fn lockplan_pairs(text: &[u8], proc: u64, out: &mut [u8]) -> u64
+    ensures { λ r. ⌜ ListedBytes (now (text .entry)) proc (now (out .entry)) r (now (out .exit)) ⌝ }
+{
+    let mut list = [0u64; 129];
+    list_bytes(text, proc as usize, out, &mut list)
+}
+
+// The lines of a procedure of a table, empty where it is not there.
+fn table_text<'a>(text: &'a [u8], table: &[u64], starts: &mut [u64], proc: usize) -> &'a [u8]
+    requires { ⌜ PlanTable (now table) × (64 ≤ length (now starts)) ⌝ }
+    ensures { λ r. ⌜ now r ≡ tableText (now (text .entry)) (now (table .entry)) proc ⌝ }
+{
+    let procs = procs::find_procs(table, starts);
+    if procs <= proc {
+        return &text[0..0];
+    }
+    parts::proc_part(text, table, starts[proc] as usize)
+}
+
+fn find_text<'a>(
+    text: &'a [u8],
+    proc: usize,
+    table: &mut [u64],
+    stack: &mut [u8],
+    starts: &mut [u64],
+    sizes: &mut [u64],
+    scratch: &mut [u64],
+    list: &mut [u64],
+) -> &'a [u8]
+    requires { ⌜ (16384 ≤ length (now table)) × (16384 ≤ length (now stack)) × (64 ≤ length (now starts)) × (64 ≤ length (now sizes)) × (64 ≤ length (now scratch)) × (129 ≤ length (now list)) ⌝ }
+    ensures { λ r. ⌜ now r ≡ procText (now (text .entry)) proc ⌝ }
+{
+    let checked = check_text(text, table, stack, starts, sizes, scratch, list);
+    let Reading::Accepted(n) = checked else {
+        return &text[0..0];
+    };
+    table_text(text, &table[0..n], starts, proc)
+}
+
+// The part of the text that a procedure is: empty where the plan is refused or the procedure is absent.
+pub fn proc_text(text: &[u8], proc: usize) -> &[u8]
+    ensures { λ r. ⌜ now r ≡ procText (now (text .entry)) proc ⌝ }
+{
+    let mut table = [0u64; 16384];
+    let mut stack = [0u8; 16384];
+    let mut starts = [0u64; 64];
+    let mut sizes = [0u64; 64];
+    let mut scratch = [0u64; 64];
+    let mut list = [0u64; 129];
+    find_text(
+        text,
+        proc,
+        &mut table,
+        &mut stack,
+        &mut starts,
+        &mut sizes,
+        &mut scratch,
+        &mut list,
+    )
 }

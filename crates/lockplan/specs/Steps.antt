@@ -1,0 +1,36 @@
+-- What the steps of a call leave for the next one: the pairs of a procedure in a table of words.
+use Prim.Native.Nat.{ℕ, _-_, _+_, _<_}
+use mathlib.Core.List.{List, []}
+use mathlib.Core.Option.{Option, none}
+use mathlib.Core.Path.{_≡_}
+use lib.Dec.{ltb, leb}
+use lib.ListN.{length, take, drop}
+use Rattle.laws.specs.Choice.{if}
+use Rattle.semantics.specs.Pairs.{pairList}
+use Rattle.plan.specs.Table.{tableForms}
+use Rattle.plan.specs.Settled.{tablePlan}
+use Rattle.plan.specs.Rules.{Refusal, refusedIf, pairsRefusal, procLineFrom}
+use Rattle.parts.specs.Parts.{linesPart, formsBefore}
+use Rattle.lockplan.specs.declared.Listing.{Listing}
+use Rattle.lockplan.specs.Answers.{listingOf}
+use Rattle.lockplan.specs.Promises.{pairsOf}
+
+-- the answer, and where nothing is refused the words at the start of the list
+pub record WordsFound (refused : Option Refusal) (words : List ℕ) (r : Listing) (list : List ℕ) : Type 0 where
+  pub answer : r ≡ listingOf refused (length words)
+  pub listed : refused ≡ none → take (length words) list ≡ words
+  pub few : refused ≡ none → length words < 129
+
+-- of a procedure of a table: rule 11 where it is not there
+abbrev pub TablePairs : List ℕ → ℕ → Listing → List ℕ → Type 0
+TablePairs ws p r list = WordsFound (refusedIf 11 (leb (length (tablePlan ws .procs)) p)) (pairList (tablePlan ws .procs) p) r list
+
+-- of a procedure of a text, where `lent` words are lent for them
+abbrev pub PairsFound : List ℕ → ℕ → ℕ → Listing → List ℕ → Type 0
+PairsFound text p lent r list = WordsFound (pairsRefusal text p lent) (pairsOf text p) r list
+
+-- the lines of a procedure of a table
+unfoldable pub tableText : List ℕ → List ℕ → ℕ → List ℕ
+tableText text ws p =
+    let line = procLineFrom 1 p (tableForms ws) in
+    if (ltb p (length (tablePlan ws .procs))) (linesPart text (line - 1) (line + formsBefore (tableForms (drop line ws)))) []
