@@ -1,6 +1,6 @@
--- Sizes as a pass over forms makes them. The forms of a block cost the block's size, and what follows a procedure's closing line is a procedure, a thread or the
--- plan's end, so from a procedure's start on the pass gives the size of its block (`start-cost`). A pass over all procedures is a round (`round-starts`), and after as
--- many rounds as there are procedures each entry is the size, cut off (`rounds-sized`).
+-- Sizes as a pass over forms makes them. The forms of a block cost the block's size (`cost-block`), and what follows a procedure's closing line is a
+-- procedure, a thread or the plan's end, so from a procedure's start on the pass gives the size of its block (`start-cost`). A pass over all procedures
+-- is a round (`round-all`), and after as many rounds as there are procedures each entry is the size, cut off (`rounds-sized`).
 use Prim.Native.Nat.{ℕ, zero, suc, _+_, _<_, _≤_}
 use native.Mathlib.Omega.{arith}
 use mathlib.Core.Path.{_≡_, refl, sym, ap, _∙_}
@@ -29,8 +29,12 @@ module _ (s : ℕ → ℕ) where
   cost-block C (hold l b r) w fs = omega (arith, cost-block C b (w .1) (Close ∷ blockForms r fs), cost-block C r (w .2) fs)
   cost-block C (loop b r) w fs = omega (arith, cost-block C b (w .0) (Close ∷ blockForms r fs), cost-block C r (w .1) fs)
   cost-block C (either a b r) w fs =
-      omega
-      (arith, cost-block C a (w .0) (Close ∷ Two ∷ blockForms b (Close ∷ Close ∷ blockForms r fs)), cost-block C b (w .1) (Close ∷ Close ∷ blockForms r fs), cost-block C r (w .2) fs)
+      omega (
+        arith,
+        cost-block C a (w .0) (Close ∷ Two ∷ blockForms b (Close ∷ Close ∷ blockForms r fs)),
+        cost-block C b (w .1) (Close ∷ Close ∷ blockForms r fs),
+        cost-block C r (w .2) fs,
+      )
   cost-block C (end l r) w fs = absurd w
 
   cost-behind : (rest : List Block) (ns : List ℕ) → costFrom s (Close ∷ procForms rest (threadForms ns (Close ∷ []))) ≡ 0

@@ -39,7 +39,8 @@ module _ (f k : Form) (e : f ≡ k) where
   pub cost-case : (sizes : List ℕ) (r : ℕ) → r ≡ min 1025 (costOf (entryOf sizes) k) → r ≡ min 1025 (costOf (entryOf sizes) f)
   cost-case sizes r h = h ∙ ap (λ x. min 1025 (costOf (entryOf sizes) x)) (sym e)
 
-pub cost-call : (f : Form) (p : ℕ) (sizes : List ℕ) (x r : ℕ) → f ≡ Call p → x ≡ entryOf sizes p → r ≡ min 1025 (1 + x) → r ≡ min 1025 (costOf (entryOf sizes) f)
+pub cost-call : (f : Form) (p : ℕ) (sizes : List ℕ) (x r : ℕ) → f ≡ Call p → x ≡ entryOf sizes p → r ≡ min 1025 (1 + x)
+    → r ≡ min 1025 (costOf (entryOf sizes) f)
 unfolding costOf
 cost-call f p sizes x r e g h = h ∙ ap (λ n. min 1025 (1 + n)) g ∙ ap (λ k. min 1025 (costOf (entryOf sizes) k)) (sym e)
 
@@ -75,7 +76,8 @@ module _ (table o o₀ : List ℕ) (n i : ℕ) (t : PlanTable table) (len : leng
       pub place-fits : (v : ℕ) → q ≡ true → n + 1 ≤ length (set o n v)
       place-fits v z = rw (length-set o n v) (omega (arith, place-room z))
 
-      pub place-more : q ≡ true → take (n + 1) (set o n (i + 1)) ++ placesFrom (i + 1) (map formAt (drop (i + 1) table)) ≡ placesFrom 0 (tableForms table)
+      pub place-more : q ≡ true
+          → take (n + 1) (set o n (i + 1)) ++ placesFrom (i + 1) (map formAt (drop (i + 1) table)) ≡ placesFrom 0 (tableForms table)
       place-more z = emit-more o o _ _ n (i + 1) (place-room z) (rw z at place-turn)
 
     module _ (d : length table ≤ i) where
@@ -107,7 +109,8 @@ module _ (table o o₀ : List ℕ) (n i : ℕ) (t : PlanTable table) (len : leng
       pub thread-fits : (v : ℕ) → q ≡ true → n + 1 ≤ length (set o n v)
       thread-fits v z = rw (length-set o n v) (omega (arith, thread-room z))
 
-      pub thread-more : (v : ℕ) → v ≡ numberIn f → q ≡ true → take (n + 1) (set o n v) ++ threadsFrom (map formAt (drop (i + 1) table)) ≡ threadsFrom (tableForms table)
+      pub thread-more : (v : ℕ) → v ≡ numberIn f → q ≡ true
+          → take (n + 1) (set o n v) ++ threadsFrom (map formAt (drop (i + 1) table)) ≡ threadsFrom (tableForms table)
       thread-more v g z = emit-more o o _ _ n v (thread-room z) (rw (z, ← g) at thread-turn)
 
     module _ (d : length table ≤ i) where
@@ -138,7 +141,9 @@ module _ (table sizes : List ℕ) (size i r : ℕ) (p : min 1025 (size + costFro
 
     pub size-more : (c s : ℕ) → q ≡ false → c ≡ min 1025 (costOf (entryOf sizes) f) → s ≡ min 1025 (size + c)
         → min 1025 (s + costFrom (entryOf sizes) (map formAt (drop (i + 1) table))) ≡ r
-    size-more c s z k m = let g : min 1025 (size + (costOf (entryOf sizes) f + costFrom (entryOf sizes) (map formAt (drop (i + 1) table)))) ≡ r = rw z at size-turn in omega arith
+    size-more c s z k m =
+        let g : min 1025 (size + (costOf (entryOf sizes) f + costFrom (entryOf sizes) (map formAt (drop (i + 1) table)))) ≡ r = rw z at size-turn in
+        omega arith
 
 -- ---- tables filled from the front
 
@@ -152,9 +157,9 @@ module _ (o o₀ : List ℕ) (i n : ℕ) (h : i < n) (room : n ≤ length o₀) 
   pub copy-more : (from : List ℕ) → n ≤ length from → take i o ≡ take i from → take (i + 1) (set o i (getD from i 0)) ≡ take (i + 1) from
   copy-more from k e = front-more (getD from i 0) (take i from) (take (i + 1) from) e (rw (add-one) (sym (take-suc from i 0 (omega arith))))
 
-  pub round-more : (table starts sizes : List ℕ) (v : ℕ) → Starts table starts → n ≡ length (tablePlan table .procs) → v ≡ sizeFrom table sizes (getD starts i 0)
-      → take i o ≡ map (sizeFrom table sizes) (take i starts) → take (i + 1) (set o i v) ≡ map (sizeFrom table sizes) (take (i + 1) starts)
-  round-more table starts sizes v k c g e =
+  pub made-more : (table starts sizes : List ℕ) (v : ℕ) → Starts table starts → n ≡ length (tablePlan table .procs)
+      → v ≡ sizeFrom table sizes (getD starts i 0) → take i o ≡ map (sizeFrom table sizes) (take i starts) → take (i + 1) (set o i v) ≡ map (sizeFrom table sizes) (take (i + 1) starts)
+  made-more table starts sizes v k c g e =
       front-more v (map (sizeFrom table sizes) (take i starts)) (map (sizeFrom table sizes) (take (i + 1) starts)) e
       (rw (add-one, take-suc starts i 0 (omega (arith, k .room)), map-append (sizeFrom table sizes) (take i starts) (getD starts i 0 ∷ []), g))
 
@@ -166,8 +171,9 @@ module _ (o : List ℕ) (i n : ℕ) (h : i ≤ n) (k : n ≤ i) where
   pub copy-done : (from : List ℕ) → take i o ≡ take i from → take n o ≡ take n from
   copy-done from e = let z : i ≡ n = omega arith in rw z at e
 
-  pub round-done : (table starts sizes : List ℕ) → take i o ≡ map (sizeFrom table sizes) (take i starts) → take n o ≡ map (sizeFrom table sizes) (take n starts)
-  round-done table starts sizes e = let z : i ≡ n = omega arith in rw z at e
+  pub made-done : (table starts sizes : List ℕ) → take i o ≡ map (sizeFrom table sizes) (take i starts)
+      → take n o ≡ map (sizeFrom table sizes) (take n starts)
+  made-done table starts sizes e = let z : i ≡ n = omega arith in rw z at e
 
 -- ---- rounds
 
@@ -188,15 +194,16 @@ module _ (table : List ℕ) (procs : ℕ) (c : procs ≡ length (tablePlan table
   unfolding sizeRounds
   rounds-none sizes e = e ∙ ap (λ n. replicate n 0) c
 
-  pub rounds-more : (starts sizes next sizes′ : List ℕ) (d : ℕ) → PlanTable table → Starts table starts → take procs sizes ≡ sizeRounds 1025 d (tablePlan table .procs)
-      → take procs next ≡ map (sizeFrom table (take (procs - 0) sizes)) (take procs starts) → take procs sizes′ ≡ take procs next
+  pub rounds-more : (starts sizes next sizes′ : List ℕ) (d : ℕ) → PlanTable table → Starts table starts
+      → take procs sizes ≡ sizeRounds 1025 d (tablePlan table .procs) → take procs next ≡ map (sizeFrom table (take (procs - 0) sizes)) (take procs starts) → take procs sizes′ ≡ take procs next
       → take procs sizes′ ≡ sizeRounds 1025 (d + 1) (tablePlan table .procs)
   unfolding sizeRounds
   rounds-more starts sizes next sizes′ d t k e g f =
       let z : procs - 0 ≡ procs = omega arith in
       let m : take (procs - 0) sizes ≡ sizeRounds 1025 d (tablePlan table .procs) = rw z e in
       let a : take procs sizes′ ≡ map (sizeFrom table (sizeRounds 1025 d (tablePlan table .procs))) (take (length (tablePlan table .procs)) starts) =
-      f ∙ g ∙ ap (λ x. map (sizeFrom table x) (take procs starts)) m ∙ ap (λ n. map (sizeFrom table (sizeRounds 1025 d (tablePlan table .procs))) (take n starts)) c in
+      f ∙ g ∙ ap (λ x. map (sizeFrom table x) (take procs starts)) m
+      ∙ ap (λ n. map (sizeFrom table (sizeRounds 1025 d (tablePlan table .procs))) (take n starts)) c in
       rw (add-one) (a ∙ round-all table starts t k (sizeRounds 1025 d (tablePlan table .procs)))
 
   pub rounds-done : (sizes : List ℕ) (d : ℕ) → d ≤ procs → procs ≤ d → take procs sizes ≡ sizeRounds 1025 d (tablePlan table .procs) → Sized table sizes
@@ -228,10 +235,12 @@ module _ (table sizes : List ℕ) (procs p : ℕ) (c : procs ≡ length (tablePl
   pub large-more : p < procs → getD sizes p 0 ≤ 1024 → lowestFrom (large table) (p + 1) (procs - (p + 1)) ≡ lowestFrom (large table) 0 procs
   large-more h k = rw (le-ltb 1024 (sizeOf (tablePlan table .procs) p) (omega (arith, s .entries p (rw c at h)))) at (large-turn h)
 
-  pub large-found : (starts : List ℕ) (n : ℕ) → Starts table starts → p < procs → 1024 < getD sizes p 0 → Refused 9 (getD starts p 0) ≡ readingOf (tooLarge (tableForms table)) n
+  pub large-found : (starts : List ℕ) (n : ℕ) → Starts table starts → p < procs → 1024 < getD sizes p 0
+      → Refused 9 (getD starts p 0) ≡ readingOf (tooLarge (tableForms table)) n
   unfolding readingOf
   large-found starts n k h g =
-      let f : some p ≡ lowestFrom (large table) 0 procs = rw (lt-ltb 1024 (sizeOf (tablePlan table .procs) p) (omega (arith, s .entries p (rw c at h)))) at (large-turn h) in
+      let l : 1024 < sizeOf (tablePlan table .procs) p = omega (arith, s .entries p (rw c at h)) in
+      let f : some p ≡ lowestFrom (large table) 0 procs = rw (lt-ltb 1024 (sizeOf (tablePlan table .procs) p) l) at (large-turn h) in
       ap (Refused 9) (k .lines p (rw c at h)) ∙ ap (λ x. readingOf x n) (refused (some p) f)
 
   pub large-none : (n : ℕ) → procs ≤ p → Accepted n ≡ readingOf (tooLarge (tableForms table)) n

@@ -1,5 +1,6 @@
--- Where the procedures of a plan stand among its forms. A block has no `(proc` line, so the places after those lines are the first places of the procedures'
--- blocks (`places-starts`), one for each procedure (`places-count`); they are the numbers of those lines too (`places-lines`). The threads are those of the plan.
+-- Where the procedures of a plan stand among its forms. A block has no `(proc` line, so the places after those lines are the first places of the
+-- procedures' blocks (`places-starts`), one for each procedure (`places-count`), and the numbers of those lines too (`places-lines`). The threads are
+-- those of the plan (`threads-of`).
 use Prim.Native.Nat.{ℕ, zero, suc, _+_, _-_, _<_, _≤_}
 use native.Mathlib.Numerals.{add-one}
 use native.Mathlib.Omega.{arith}

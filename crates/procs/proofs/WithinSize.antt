@@ -41,7 +41,8 @@ refused-none rule fs none e = refl
 refused-none rule fs (some p) e = absurd (Option·none-ne-some _ (sym e))
 
 -- a rule of procedures that refuses nothing: no procedure passes its test
-pub proc-refusal-none : (rule : ℕ) (fs : List Form) (test : ℕ → Bool) → procRefusal rule fs test ≡ none → (p : ℕ) → p < length (planIn fs .procs) → test p ≡ false
+pub proc-refusal-none : (rule : ℕ) (fs : List Form) (test : ℕ → Bool) → procRefusal rule fs test ≡ none
+    → (p : ℕ) → p < length (planIn fs .procs) → test p ≡ false
 unfolding procRefusal
 proc-refusal-none rule fs test e p h = lowest-none test (length (planIn fs .procs)) 0 p (refused-none rule fs _ e) (omega arith) (omega arith)
 

@@ -52,8 +52,8 @@ unfoldable pub threadsFrom : List Form → List ℕ
 threadsFrom [] = []
 threadsFrom (f ∷ fs) = consIf (isThread f) (numberIn f) (threadsFrom fs)
 
--- what a form adds to the size of the procedure in which it stands, where s p is the size of procedure p: "1 for skip, 1 plus the callee's size for call, 2 plus
--- the block for hold and loop, 1 plus both blocks for either"
+-- what a form adds to the size of the procedure in which it stands, where s p is the size of procedure p: "1 for skip, 1 plus the callee's size for
+-- call, 2 plus the block for hold and loop, 1 plus both blocks for either"
 unfoldable pub costOf : (ℕ → ℕ) → Form → ℕ
 costOf s Plan = 0
 costOf s Proc = 0

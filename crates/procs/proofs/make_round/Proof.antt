@@ -6,7 +6,7 @@ use lib.ListN.{length, take}
 use Rattle.plan.specs.Settled.{tablePlan}
 use Rattle.plan.specs.Starts.{Starts}
 use Rattle.procs.specs.Passes.{sizeFrom}
-use Rattle.procs.proofs.Laws.{start-room, start-within, round-more, round-done}
+use Rattle.procs.proofs.Laws.{start-room, start-within, made-more, made-done}
 use borrow.Author.Needs.{needs}
 use Rattle.procs.proofs.make_round.Statement.{statement}
 use Rattle.procs.proofs.make_round.Tie as tie
@@ -44,13 +44,13 @@ loop-less : tie.Need-loop-less Inv-loop μ-loop
 loop-less c = search needs
 
 loop-again : tie.Need-loop-again Inv-loop μ-loop
-loop-again c = search (round-more, needs)
+loop-again c = search (made-more, needs)
 
 same-length : tie.Need-same-length Inv-loop μ-loop
 same-length c = search needs
 
 returns : tie.Need-returns Inv-loop μ-loop
-returns c = search (round-done, needs)
+returns c = search (made-done, needs)
 
 pub make-round-spec : {M : Type 1} → statement M
 make-round-spec =
