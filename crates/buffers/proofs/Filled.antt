@@ -70,6 +70,11 @@ unfolding numberBytes
 number-length zero x = refl
 number-length (suc w) x = ap suc (number-length w (x / 256))
 
+pub list-length : (w : ℕ) (xs : List ℕ) → length (listBytes w xs) ≡ length xs * w
+unfolding listBytes
+list-length w [] = sym (zero-mul w)
+list-length w (x ∷ xs) = rw (length-append, number-length w x, list-length w xs, suc-mul (length xs) w) (omega arith)
+
 next-le : {i n : ℕ} → i < n → i + 1 ≤ n
 next-le h = omega arith
 

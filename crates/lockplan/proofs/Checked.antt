@@ -1,12 +1,10 @@
 -- The plan's rules in checking order: the reader's, then 9 and 10 over the table that it leaves.
-use Prim.Native.Nat.{ℕ, zero, suc, _+_, _-_, _<_, _≤_}
+use Prim.Native.Nat.{ℕ, _-_, _<_, _≤_}
 use native.Mathlib.Omega.{arith}
 use mathlib.Core.Bool.{Bool, true, false}
 use mathlib.Core.Path.{_≡_, refl, sym, ap, _∙_}
 use mathlib.Core.List.{List}
-use mathlib.Core.Logic.{⊎-elim}
 use mathlib.Core.Option.{Option, none, some, Option·none-ne-some}
-use native.Mathlib.Nat.{eq-or-lt-of-le}
 use lib.ListN.{length, take, length-map}
 use lib.Dec.{ltb}
 use borrow.Author.Tests.{ltb-false}
@@ -20,11 +18,24 @@ use Rattle.plan.specs.declared.Reading.the-variants.{Accepted, Refused}
 use Rattle.plan.specs.Grammar.{planIn}
 use Rattle.plan.specs.Table.{formAt, tableForms}
 use Rattle.plan.specs.Settled.{PlanTable, tablePlan}
-use Rattle.plan.specs.Rules.{Refusal, refusal, procLineFrom, readerRefusal, planRefusal, tooLarge, tooManyPairs, procRefusal, lowestFrom, tooLong, readingOf, Tabled}
+use Rattle.plan.specs.Rules.{Refusal, refusedIf, readerRefusal, planRefusal, tooLarge, tooManyPairs, tooLong, readingOf, Tabled}
 use Rattle.plan.proofs.Laws.{first-refuses, first-passes}
-use Rattle.plan.proofs.Filling.{accepted-none, accepted-count}
 use Rattle.plan.proofs.Kept.{first-none}
 use Rattle.plan.proofs.Sound.{accepted-table}
+use Rattle.procs.proofs.WithinSize.{proc-refusal-none}
+
+-- TEMP
+accepted-none : (a : Option Refusal) (m n : ℕ) → readingOf a m ≡ Accepted n → a ≡ none
+unfolding readingOf
+accepted-none none m n e = refl
+accepted-none (some r) m n e = let z : _≡_ {A = ℕ} 0 1 = cc in absurd (omega arith)
+
+accepted-count : (a : Option Refusal) (m n : ℕ) → readingOf a m ≡ Accepted n → n ≡ m
+unfolding readingOf
+accepted-count none m n e = cc
+accepted-count (some r) m n e = let z : _≡_ {A = ℕ} 0 1 = cc in absurd (omega arith)
+
+-- END TEMP
 
 -- rules 9 and 10, of forms
 abbrev pub laterRefusal : List Form → Option Refusal
@@ -35,7 +46,7 @@ pub accepted-short : (text : List ℕ) → readerRefusal text ≡ none → lengt
 unfolding readerRefusal tooLong
 accepted-short text e = go (ltb 32768 (length text)) refl (first-none _ _ e .0)
   where
-    go : (b : Bool) → ltb 32768 (length text) ≡ b → if b (some (record { rule = 2; line = 0 })) none ≡ none → length text ≤ 32768
+    go : (b : Bool) → ltb 32768 (length text) ≡ b → refusedIf 2 b ≡ none → length text ≤ 32768
     go true t h = absurd (Option·none-ne-some _ (sym h))
     go false t h = ltb-false 32768 (length text) t
 
@@ -100,29 +111,7 @@ module _ (text table : List ℕ) (q : Reading) (n : ℕ) (t : Tabled (planRefusa
   unfolding planRefusal
   plan-few = rw plan-forms (first-none (tooLarge (formsOf text)) (tooManyPairs (formsOf text)) (first-none (readerRefusal text) (laterRefusal (formsOf text)) plan-kept .1) .1)
 
--- the refusal at a procedure
-abbrev refusedProc : ℕ → List Form → Option ℕ → Option Refusal
-refusedProc rule fs none = none
-refusedProc rule fs (some p) = some (refusal rule (procLineFrom 1 p fs))
-
--- ---- rule 10: each procedure has at most 128 pairs
-
-none-lowest : (test : ℕ → Bool) (n p q : ℕ) → lowestFrom test p n ≡ none → p ≤ q → q < p + n → test q ≡ false
-unfolding lowestFrom
-none-lowest test zero p q e a b = absurd (omega arith)
-none-lowest test (suc n) p q e a b = go (test p) refl e (λ h l. none-lowest test n (suc p) q h l (omega arith))
-  where
-    go : (t : Bool) → test p ≡ t → if t (some p) (lowestFrom test (suc p) n) ≡ none → (lowestFrom test (suc p) n ≡ none → suc p ≤ q → test q ≡ false) → test q ≡ false
-    go true u h later = absurd (Option·none-ne-some _ (sym h))
-    go false u h later = ⊎-elim (λ (i : p ≡ q). ap test (sym i) ∙ u) (λ (l : p < q). later h l) (eq-or-lt-of-le a)
-
-no-proc : (rule : ℕ) (fs : List Form) (o : Option ℕ) → refusedProc rule fs o ≡ none → o ≡ none
-no-proc rule fs none h = refl
-no-proc rule fs (some p) h = absurd (Option·none-ne-some _ (sym h))
-
+-- rule 10: each procedure has at most 128 pairs
 pub few-pairs : (fs : List Form) (p : ℕ) → tooManyPairs fs ≡ none → p < length (planIn fs .procs) → length (pairList (planIn fs .procs) p) ≤ 128
-unfolding tooManyPairs procRefusal
-few-pairs fs p e h =
-    let test : ℕ → Bool = λ k. ltb 128 (length (pairList (planIn fs .procs) k)) in
-    let n = length (planIn fs .procs) in
-    ltb-false 128 (length (pairList (planIn fs .procs) p)) (none-lowest test n 0 p (no-proc 10 fs (lowestFrom test 0 n) e) (omega arith) (omega arith))
+unfolding tooManyPairs
+few-pairs fs p e h = ltb-false 128 _ (proc-refusal-none 10 fs (λ q. ltb 128 (length (pairList (planIn fs .procs) q))) e p h)

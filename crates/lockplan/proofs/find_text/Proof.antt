@@ -1,106 +1,80 @@
+use Rattle.lockplan.proofs.Checked.{plan-room, plan-table}
+use Rattle.lockplan.proofs.ProcText.{text-empty, text-part}
 use borrow.Author.Needs.{needs}
 use Rattle.lockplan.proofs.find_text.Statement.{statement}
 use Rattle.lockplan.proofs.find_text.Tie as tie
-use Rattle.lockplan.proofs.find_text.Reads as reads
-use Rattle.lockplan.proofs.find_text.Lts as lts
-use Rattle.lockplan.proofs.check_text.Reads as check-text-reads
-use Rattle.lockplan.proofs.table_text.Reads as table-text-reads
 
--- src/lib.rt:208:9
 check-text-requires : tie.Need-check-text-requires
 check-text-requires c κs = search needs
 
--- src/lib.rt:209:27
 enum-known-checked : tie.Need-enum-known-checked
 enum-known-checked c = search needs
 
--- src/lib.rt:210:16
 enum-told : tie.Need-enum-told
 enum-told c = search needs
 
--- src/lib.rt:210:16
 sub-result : tie.Need-sub-result
 sub-result c = search needs
 
--- src/lib.rt:210:16
 part-result-start : tie.Need-part-result-start
 part-result-start c = search needs
 
--- src/lib.rt:210:16
 part-result-end : tie.Need-part-result-end
 part-result-end c = search needs
 
--- src/lib.rt:210:9
 same-length : tie.Need-same-length
 same-length c = search needs
 
--- src/lib.rt:210:9
 same-length-2 : tie.Need-same-length-2
 same-length-2 c = search needs
 
--- src/lib.rt:210:9
 same-length-3 : tie.Need-same-length-3
 same-length-3 c = search needs
 
--- src/lib.rt:210:9
 same-length-4 : tie.Need-same-length-4
 same-length-4 c = search needs
 
--- src/lib.rt:210:9
 same-length-5 : tie.Need-same-length-5
 same-length-5 c = search needs
 
--- src/lib.rt:210:9
 same-length-6 : tie.Need-same-length-6
 same-length-6 c = search needs
 
--- src/lib.rt:210:9
 returns : tie.Need-returns
-returns c = ?
+returns c = search (text-empty, needs)
 
--- src/lib.rt:212:22
 sub-table-text : tie.Need-sub-table-text
 sub-table-text c = search needs
 
--- src/lib.rt:212:22
 part-table-text-start : tie.Need-part-table-text-start
 part-table-text-start c = search needs
 
--- src/lib.rt:212:22
 part-table-text-end : tie.Need-part-table-text-end
-part-table-text-end c = ?
+part-table-text-end c = search (plan-room, needs)
 
--- src/lib.rt:212:5
 table-text-requires : tie.Need-table-text-requires
-table-text-requires c κs = ?
+table-text-requires c κs = search (plan-table, needs)
 
--- src/lib.rt:195:1
 same-length-7 : tie.Need-same-length-7
 same-length-7 c = search needs
 
--- src/lib.rt:195:1
 same-length-8 : tie.Need-same-length-8
 same-length-8 c = search needs
 
--- src/lib.rt:195:1
 same-length-9 : tie.Need-same-length-9
 same-length-9 c = search needs
 
--- src/lib.rt:195:1
 same-length-10 : tie.Need-same-length-10
 same-length-10 c = search needs
 
--- src/lib.rt:195:1
 same-length-11 : tie.Need-same-length-11
 same-length-11 c = search needs
 
--- src/lib.rt:195:1
 same-length-12 : tie.Need-same-length-12
 same-length-12 c = search needs
 
--- src/lib.rt:195:1
 returns-2 : tie.Need-returns-2
-returns-2 c = ?
+returns-2 c = search (text-part, needs)
 
 pub find-text-spec : {M : Type 1} → statement M
 find-text-spec =

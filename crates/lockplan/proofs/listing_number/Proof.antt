@@ -1,48 +1,39 @@
+use native.Mathlib.Omega.{arith}
+use Rattle.lockplan.specs.Answers.{listingNumber}
+use Rattle.lockplan.proofs.Found.{number-pairs, number-refused, pairs-number, refused-number}
 use borrow.Author.Needs.{needs}
 use Rattle.lockplan.proofs.listing_number.Statement.{statement}
 use Rattle.lockplan.proofs.listing_number.Tie as tie
-use Rattle.lockplan.proofs.listing_number.Reads as reads
-use Rattle.lockplan.proofs.listing_number.Lts as lts
 
--- src/lib.rt:157:24
 enum-known-listing : tie.Need-enum-known-listing
 enum-known-listing c = search needs
 
--- src/lib.rt:157:30
 mul-result : tie.Need-mul-result
-mul-result c = ?
+mul-result c = omega (arith, number-pairs _ _ (c .before .before .before .pre) (c .before .listing .given .1))
 
--- src/lib.rt:158:28
 enum-known-listing-2 : tie.Need-enum-known-listing-2
 enum-known-listing-2 c = search needs
 
--- src/lib.rt:158:55
 cast-result : tie.Need-cast-result
 cast-result c = search needs
 
--- src/lib.rt:158:48
 mul-result-2 : tie.Need-mul-result-2
 mul-result-2 c = search needs
 
--- src/lib.rt:158:44
 add-result : tie.Need-add-result
 add-result c = search needs
 
--- src/lib.rt:158:70
 mul-result-3 : tie.Need-mul-result-3
-mul-result-3 c = ?
+mul-result-3 c = let h = number-refused _ _ _ (c .before .before .before .pre) (c .before .listing2 .given .1) in omega arith
 
--- src/lib.rt:158:44
 add-result-2 : tie.Need-add-result-2
-add-result-2 c = ?
+add-result-2 c = let h = number-refused _ _ _ (c .before .before .before .pre) (c .before .listing2 .given .1) in omega arith
 
--- src/lib.rt:152:1
 returns : tie.Need-returns
-returns c = ?
+returns c = search (pairs-number, needs)
 
--- src/lib.rt:152:1
 returns-2 : tie.Need-returns-2
-returns-2 c = ?
+returns-2 c = search (refused-number, needs)
 
 pub listing-number-spec : {M : Type 1} → statement M
 listing-number-spec =
