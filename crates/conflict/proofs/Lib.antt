@@ -1,0 +1,2 @@
+-- Laws of lock sets, of entries, and of the search.
+pub mod Sets
