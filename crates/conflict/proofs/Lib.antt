@@ -1,2 +1,3 @@
 -- Laws of lock sets, of entries, and of the search.
 pub mod Sets
+pub mod Steps
