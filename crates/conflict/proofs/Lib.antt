@@ -1,3 +1,7 @@
 -- Laws of lock sets, of entries, and of the search.
 pub mod Sets
 pub mod Steps
+pub mod Tables
+pub mod Split
+pub mod Dropping
+pub mod Flattening
