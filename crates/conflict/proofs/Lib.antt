@@ -5,3 +5,4 @@ pub mod Tables
 pub mod Split
 pub mod Dropping
 pub mod Flattening
+pub mod Paths
