@@ -6,3 +6,4 @@ pub mod Split
 pub mod Dropping
 pub mod Flattening
 pub mod Paths
+pub mod Extending
