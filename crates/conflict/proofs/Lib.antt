@@ -7,3 +7,5 @@ pub mod Dropping
 pub mod Flattening
 pub mod Paths
 pub mod Extending
+pub mod Circles
+pub mod Finding
