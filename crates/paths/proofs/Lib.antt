@@ -1,0 +1,2 @@
+-- Why the functions meet their contracts: which block the forms of a table begin with, and the walk of a block, a statement at a time.
+pub mod Blocks
