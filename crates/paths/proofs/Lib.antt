@@ -1,2 +1,3 @@
 -- Why the functions meet their contracts: which block the forms of a table begin with, and the walk of a block, a statement at a time.
 pub mod Blocks
+pub mod Walking
