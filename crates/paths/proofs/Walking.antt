@@ -284,3 +284,268 @@ module _ {ws starts : List ℕ} {d m w n k p at : ℕ} {s s₁ s₂ : List ℕ} 
             next = o′ .next;
             short = omega (arith, o .short, o′ .short);
           }
+
+-- ---- a hold
+
+pub hold-walks-here : {ws : List ℕ} {d at m w n l : ℕ} {s : List ℕ} {fs : List Form} {t : Bool} → n ≤ length s → (l < 32 → t ≡ gives w m l) → t ≡ true
+    → Walks ws d (Hold l ∷ fs) at m w s n (record { reached = true; next = at; count = n }) s
+hold-walks-here {ws} {d} {at} {m} {w} {n} {l} {s} {fs} room g f = record {
+    buffer = kept-same s n room;
+    forward = λ h. le-refl at;
+    walked = λ b later e v.
+        hold-only (λ q. q < length (procsIn ws)) later fs l (λ b. n + sizeWith (sizeAt d (procsIn ws)) b ≤ length s → BlockWalked ws d m w s n b later (record { reached = true; next = at; count = n }) s) (go later) b v e;
+  }
+  where
+    go : (later : List Form) (x y : Block) → l < 32 → Written (λ q. q < length (procsIn ws)) x → Written (λ q. q < length (procsIn ws)) y → fs ≡ blockForms x (Close ∷ blockForms y (Close ∷ later))
+        → n + sizeWith (sizeAt d (procsIn ws)) (hold l x y) ≤ length s → BlockWalked ws d m w s n (hold l x y) later (record { reached = true; next = at; count = n }) s
+    go later x y c v v′ e h = record {
+      outcome = walk-hold (walkAt d (procsIn ws) w) w m (take n s) l x y
+          ∙ ap (λ t. cond t (found (take n s)) (andThen (walkWith (walkAt d (procsIn ws) w) w (holding m l) (put (take n s) 0 (holding m l)) x) (λ q. walkWith (walkAt d (procsIn ws) w) w m (put q 0 m) y)))
+          (sym (g c) ∙ f);
+      next = λ h. not-both refl h;
+      short = omega arith;
+    }
+
+-- the walk of its block, with the lock held
+module _ (m l : ℕ) {ws : List ℕ} {d at m′ w n k : ℕ} {s s₁ s₂ : List ℕ} {t : Bool} {r : Stop} (g : l < 32 → t ≡ gives w m l) (f : t ≡ false) (with : l < 32 → m′ ≡ holding m l)
+    (u : PutAt s n (stepOf 0 m′) k s₁) (i : Walks ws d (tableForms (drop at ws)) at m′ w s₁ k r s₂) where
+  held-walked : (x y : Block) → l < 32 → Written (λ q. q < length (procsIn ws)) x → (later : List Form) → tableForms (drop at ws) ≡ blockForms x (Close ∷ later)
+      → n + sizeWith (sizeAt d (procsIn ws)) (hold l x y) ≤ length s → BlockWalked ws d m′ w s₁ k x later r s₂
+  held-walked x y c v later e h = let z = size-hold (sizeAt d (procsIn ws)) l x y in i .walked x later e v (omega arith)
+
+  -- the walk of the hold goes on behind that of its block
+  held-then : (x y : Block) (o : Walked) → l < 32 → n < length s → walkWith (walkAt d (procsIn ws) w) w m′ (take k s₁) x ≡ o
+      → walkWith (walkAt d (procsIn ws) w) w m (take n s) (hold l x y) ≡ andThen o (λ q. walkWith (walkAt d (procsIn ws) w) w m (put q 0 m) y)
+  held-then x y o c h e =
+      walk-hold (walkAt d (procsIn ws) w) w m (take n s) l x y
+      ∙ ap (λ t. cond t (found (take n s)) (andThen (walkWith (walkAt d (procsIn ws) w) w (holding m l) (put (take n s) 0 (holding m l)) x) (λ q. walkWith (walkAt d (procsIn ws) w) w m (put q 0 m) y)))
+      (sym (g c) ∙ f)
+      ∙ ap (λ q. andThen q (λ q. walkWith (walkAt d (procsIn ws) w) w m (put q 0 m) y))
+      (ap (λ z. walkWith (walkAt d (procsIn ws) w) w z (put (take n s) 0 z) x) (sym (with c)) ∙ ap (λ q. walkWith (walkAt d (procsIn ws) w) w m′ q x) (sym (u .put h)) ∙ e)
+
+  pub hold-walks-found : r .reached ≡ true → Walks ws d (Hold l ∷ tableForms (drop at ws)) at m w s n r s₂
+  hold-walks-found a = record {
+      buffer = kept-then (u .buffer) (i .buffer);
+      forward = λ b. not-both a b;
+      walked = λ b later e v.
+          hold-only (λ q. q < length (procsIn ws)) later (tableForms (drop at ws)) l (λ b. n + sizeWith (sizeAt d (procsIn ws)) b ≤ length s → BlockWalked ws d m w s n b later r s₂) (go later) b v e;
+    }
+    where
+      go : (later : List Form) (x y : Block) → l < 32 → Written (λ q. q < length (procsIn ws)) x → Written (λ q. q < length (procsIn ws)) y → tableForms (drop at ws) ≡ blockForms x (Close ∷ blockForms y (Close ∷ later))
+          → n + sizeWith (sizeAt d (procsIn ws)) (hold l x y) ≤ length s → BlockWalked ws d m w s n (hold l x y) later r s₂
+      go later x y c v v′ e h =
+          let z = size-hold (sizeAt d (procsIn ws)) l x y in
+          let o = held-walked x y c v (blockForms y (Close ∷ later)) e h in
+          record {
+            outcome = says-found a (held-then x y (found (take (r .count) s₂)) c (omega arith) (was-found o a));
+            next = λ b. not-both a b;
+            short = omega (arith, o .short);
+          }
+
+  pub hold-walks-past : {j : ℕ} {r′ : Stop} {s₃ s₄ : List ℕ} → r .reached ≡ false → PutAt s₂ (r .count) (stepOf 0 m) j s₃
+      → Walks ws d (tableForms (drop (r .next) ws)) (r .next) m w s₃ j r′ s₄ → Walks ws d (Hold l ∷ tableForms (drop at ws)) at m w s n r′ s₄
+  hold-walks-past {j} {r′} {s₃} {s₄} a u′ i′ = record {
+      buffer = kept-then (kept-then (u .buffer) (i .buffer)) (kept-then (u′ .buffer) (i′ .buffer));
+      forward = λ b. let q = i .forward a in let q′ = i′ .forward b in omega arith;
+      walked = λ b later e v.
+          hold-only (λ q. q < length (procsIn ws)) later (tableForms (drop at ws)) l (λ b. n + sizeWith (sizeAt d (procsIn ws)) b ≤ length s → BlockWalked ws d m w s n b later r′ s₄) (go later) b v e;
+    }
+    where
+      go : (later : List Form) (x y : Block) → l < 32 → Written (λ q. q < length (procsIn ws)) x → Written (λ q. q < length (procsIn ws)) y → tableForms (drop at ws) ≡ blockForms x (Close ∷ blockForms y (Close ∷ later))
+          → n + sizeWith (sizeAt d (procsIn ws)) (hold l x y) ≤ length s → BlockWalked ws d m w s n (hold l x y) later r′ s₄
+      go later x y c v v′ e h =
+          let z = size-hold (sizeAt d (procsIn ws)) l x y in
+          let o = held-walked x y c v (blockForms y (Close ∷ later)) e h in
+          let same = u′ .buffer .size ∙ i .buffer .size ∙ u .buffer .size in
+          let o′ = i′ .walked y later (o .next a) v′ (omega (arith, o .short)) in
+          record {
+            outcome = held-then x y (passed (take (r .count) s₂)) c (omega arith) (was-passed o a)
+                ∙ ap (λ q. walkWith (walkAt d (procsIn ws) w) w m q y) (sym (u′ .put (omega (arith, o .short)))) ∙ o′ .outcome;
+            next = o′ .next;
+            short = omega (arith, o .short, o′ .short);
+          }
+
+-- ---- a loop
+
+module _ {ws : List ℕ} {d at m w n k : ℕ} {s s₁ s₂ : List ℕ} {r : Stop} (u : PutAt s n (stepOf 1 m) k s₁) (i : Walks ws d (tableForms (drop at ws)) at m w s₁ k r s₂) where
+  inner-walked : (x y : Block) → Written (λ q. q < length (procsIn ws)) x → (later : List Form) → tableForms (drop at ws) ≡ blockForms x (Close ∷ later)
+      → n + sizeWith (sizeAt d (procsIn ws)) (loop x y) ≤ length s → BlockWalked ws d m w s₁ k x later r s₂
+  inner-walked x y v later e h = let z = size-loop (sizeAt d (procsIn ws)) x y in i .walked x later e v (omega arith)
+
+  -- the walk of the loop leaves it behind that of its block
+  inner-then : (x y : Block) (o : Walked) → n < length s → walkWith (walkAt d (procsIn ws) w) w m (take k s₁) x ≡ o
+      → walkWith (walkAt d (procsIn ws) w) w m (take n s) (loop x y) ≡ andThen o (λ q. walkWith (walkAt d (procsIn ws) w) w m (put (take n s) 2 m) y)
+  inner-then x y o h e =
+      walk-loop (walkAt d (procsIn ws) w) w m (take n s) x y
+      ∙ ap (λ q. andThen q (λ q. walkWith (walkAt d (procsIn ws) w) w m (put (take n s) 2 m) y)) (ap (λ q. walkWith (walkAt d (procsIn ws) w) w m q x) (sym (u .put h)) ∙ e)
+
+  pub loop-walks-found : r .reached ≡ true → Walks ws d (Loop ∷ tableForms (drop at ws)) at m w s n r s₂
+  loop-walks-found a = record {
+      buffer = kept-then (u .buffer) (i .buffer);
+      forward = λ b. not-both a b;
+      walked = λ b later e v.
+          loop-only (λ q. q < length (procsIn ws)) later (tableForms (drop at ws)) (λ b. n + sizeWith (sizeAt d (procsIn ws)) b ≤ length s → BlockWalked ws d m w s n b later r s₂) (go later) b v e;
+    }
+    where
+      go : (later : List Form) (x y : Block) → Written (λ q. q < length (procsIn ws)) x → Written (λ q. q < length (procsIn ws)) y → tableForms (drop at ws) ≡ blockForms x (Close ∷ blockForms y (Close ∷ later))
+          → n + sizeWith (sizeAt d (procsIn ws)) (loop x y) ≤ length s → BlockWalked ws d m w s n (loop x y) later r s₂
+      go later x y v v′ e h =
+          let z = size-loop (sizeAt d (procsIn ws)) x y in
+          let o = inner-walked x y v (blockForms y (Close ∷ later)) e h in
+          record {
+            outcome = says-found a (inner-then x y (found (take (r .count) s₂)) (omega arith) (was-found o a));
+            next = λ b. not-both a b;
+            short = omega (arith, o .short);
+          }
+
+  pub loop-walks-past : {j : ℕ} {r′ : Stop} {s₃ s₄ : List ℕ} → r .reached ≡ false → PutAt s₂ n (stepOf 2 m) j s₃
+      → Walks ws d (tableForms (drop (r .next) ws)) (r .next) m w s₃ j r′ s₄ → Walks ws d (Loop ∷ tableForms (drop at ws)) at m w s n r′ s₄
+  loop-walks-past {j} {r′} {s₃} {s₄} a u′ i′ = record {
+      buffer = kept-back (kept-then (u .buffer) (i .buffer)) (kept-then (u′ .buffer) (i′ .buffer));
+      forward = λ b. let q = i .forward a in let q′ = i′ .forward b in omega arith;
+      walked = λ b later e v.
+          loop-only (λ q. q < length (procsIn ws)) later (tableForms (drop at ws)) (λ b. n + sizeWith (sizeAt d (procsIn ws)) b ≤ length s → BlockWalked ws d m w s n b later r′ s₄) (go later) b v e;
+    }
+    where
+      go : (later : List Form) (x y : Block) → Written (λ q. q < length (procsIn ws)) x → Written (λ q. q < length (procsIn ws)) y → tableForms (drop at ws) ≡ blockForms x (Close ∷ blockForms y (Close ∷ later))
+          → n + sizeWith (sizeAt d (procsIn ws)) (loop x y) ≤ length s → BlockWalked ws d m w s n (loop x y) later r′ s₄
+      go later x y v v′ e h =
+          let z = size-loop (sizeAt d (procsIn ws)) x y in
+          let o = inner-walked x y v (blockForms y (Close ∷ later)) e h in
+          let back = kept-then (u .buffer) (i .buffer) in
+          let same = u′ .buffer .size ∙ back .size in
+          let o′ = i′ .walked y later (o .next a) v′ (omega arith) in
+          record {
+            outcome = inner-then x y (passed (take (r .count) s₂)) (omega arith) (was-passed o a)
+                ∙ ap (λ q. walkWith (walkAt d (procsIn ws) w) w m (put q 2 m) y) (sym (back .same))
+                ∙ ap (λ q. walkWith (walkAt d (procsIn ws) w) w m q y) (sym (u′ .put (omega arith))) ∙ o′ .outcome;
+            next = o′ .next;
+            short = omega (arith, o′ .short);
+          }
+
+-- ---- an either
+
+module _ {ws : List ℕ} {d at q m w n k : ℕ} {s s₁ s₂ : List ℕ} {r : Stop} (u : PutAt s n (stepOf 1 m) k s₁) (behind : (at ≤ q) × (at < length ws → q ≡ at + 1))
+    (i : Walks ws d (tableForms (drop q ws)) q m w s₁ k r s₂) where
+  one-walked : (x y z : Block) → Written (λ q. q < length (procsIn ws)) x → (later : List Form) → tableForms (drop at ws) ≡ One ∷ blockForms x (Close ∷ later)
+      → n + sizeWith (sizeAt d (procsIn ws)) (either x y z) ≤ length s → BlockWalked ws d m w s₁ k x later r s₂
+  one-walked x y z v later e h =
+      let a = size-either (sizeAt d (procsIn ws)) x y z in
+      i .walked x later (table-behind ws at q One (blockForms x (Close ∷ later)) (behind .1) e) v (omega arith)
+
+  -- the walk of the either takes two behind that of one
+  one-then : (x y z : Block) (o : Walked) → n < length s → walkWith (walkAt d (procsIn ws) w) w m (take k s₁) x ≡ o
+      → walkWith (walkAt d (procsIn ws) w) w m (take n s) (either x y z) ≡ andThen o (λ q. walkWith (walkAt d (procsIn ws) w) w m (take n s) (either done y z))
+  one-then x y z o h e =
+      walk-either (walkAt d (procsIn ws) w) w m (take n s) x y z
+      ∙ ap (λ q. andThen q (λ q. walkWith (walkAt d (procsIn ws) w) w m (take n s) (either done y z))) (ap (λ q. walkWith (walkAt d (procsIn ws) w) w m q x) (sym (u .put h)) ∙ e)
+
+  pub one-walks-found : r .reached ≡ true → Walks ws d (Either ∷ tableForms (drop at ws)) at m w s n r s₂
+  one-walks-found a = record {
+      buffer = kept-then (u .buffer) (i .buffer);
+      forward = λ b. not-both a b;
+      walked = λ b later e v.
+          either-only (λ q. q < length (procsIn ws)) later (tableForms (drop at ws)) (λ b. n + sizeWith (sizeAt d (procsIn ws)) b ≤ length s → BlockWalked ws d m w s n b later r s₂) (go later) b v e;
+    }
+    where
+      go : (later : List Form) (x y z : Block) → Written (λ q. q < length (procsIn ws)) x → Written (λ q. q < length (procsIn ws)) y → Written (λ q. q < length (procsIn ws)) z
+          → tableForms (drop at ws) ≡ One ∷ blockForms x (Close ∷ Two ∷ blockForms y (Close ∷ Close ∷ blockForms z (Close ∷ later)))
+          → n + sizeWith (sizeAt d (procsIn ws)) (either x y z) ≤ length s → BlockWalked ws d m w s n (either x y z) later r s₂
+      go later x y z v v′ v″ e h =
+          let c = size-either (sizeAt d (procsIn ws)) x y z in
+          let o = one-walked x y z v (Two ∷ blockForms y (Close ∷ Close ∷ blockForms z (Close ∷ later))) e h in
+          record {
+            outcome = says-found a (one-then x y z (found (take (r .count) s₂)) (omega arith) (was-found o a));
+            next = λ b. not-both a b;
+            short = omega (arith, o .short);
+          }
+
+  pub one-walks-past : {r′ : Stop} {s₃ : List ℕ} → r .reached ≡ false
+      → Walks ws d (Either ∷ One ∷ Close ∷ tableForms (drop (r .next) ws)) (r .next) m w s₂ n r′ s₃ → Walks ws d (Either ∷ tableForms (drop at ws)) at m w s n r′ s₃
+  unfolding blockForms Written
+  one-walks-past {r′} {s₃} a i′ = record {
+      buffer = kept-back (kept-then (u .buffer) (i .buffer)) (i′ .buffer);
+      forward = λ b. let c = i .forward a in let c′ = i′ .forward b in omega (arith, behind .0);
+      walked = λ b later e v.
+          either-only (λ q. q < length (procsIn ws)) later (tableForms (drop at ws)) (λ b. n + sizeWith (sizeAt d (procsIn ws)) b ≤ length s → BlockWalked ws d m w s n b later r′ s₃) (go later) b v e;
+    }
+    where
+      go : (later : List Form) (x y z : Block) → Written (λ q. q < length (procsIn ws)) x → Written (λ q. q < length (procsIn ws)) y → Written (λ q. q < length (procsIn ws)) z
+          → tableForms (drop at ws) ≡ One ∷ blockForms x (Close ∷ Two ∷ blockForms y (Close ∷ Close ∷ blockForms z (Close ∷ later)))
+          → n + sizeWith (sizeAt d (procsIn ws)) (either x y z) ≤ length s → BlockWalked ws d m w s n (either x y z) later r′ s₃
+      go later x y z v v′ v″ e h =
+          let c = size-either (sizeAt d (procsIn ws)) x y z in
+          let c′ = size-two (sizeAt d (procsIn ws)) y z in
+          let o = one-walked x y z v (Two ∷ blockForms y (Close ∷ Close ∷ blockForms z (Close ∷ later))) e h in
+          let back = kept-then (u .buffer) (i .buffer) in
+          let o′ = i′ .walked (either done y z) later (ap (λ (l : List Form). Either ∷ One ∷ Close ∷ l) (o .next a)) (tt, v′, v″) (omega arith) in
+          record {
+            outcome = one-then x y z (passed (take (r .count) s₂)) (omega arith) (was-passed o a)
+                ∙ ap (λ q. walkWith (walkAt d (procsIn ws) w) w m q (either done y z)) (sym (back .same)) ∙ o′ .outcome;
+            next = o′ .next;
+            short = omega (arith, o′ .short);
+          }
+
+-- its second block, as if the first were empty
+module _ {ws : List ℕ} {d at q m w n k : ℕ} {s s₁ s₂ : List ℕ} {r : Stop} (u : PutAt s n (stepOf 2 m) k s₁) (behind : (at ≤ q) × (at < length ws → q ≡ at + 1))
+    (i : Walks ws d (tableForms (drop q ws)) q m w s₁ k r s₂) where
+  two-only : (later : List Form) (P : Block → Type 0)
+      → ((y z : Block) → Written (λ q. q < length (procsIn ws)) y → Written (λ q. q < length (procsIn ws)) z → tableForms (drop at ws) ≡ Two ∷ blockForms y (Close ∷ Close ∷ blockForms z (Close ∷ later)) → P (either done y z))
+      → (b : Block) → Written (λ q. q < length (procsIn ws)) b → Either ∷ One ∷ Close ∷ tableForms (drop at ws) ≡ blockForms b (Close ∷ later) → P b
+  two-only later P g = either-only (λ q. q < length (procsIn ws)) later (One ∷ Close ∷ tableForms (drop at ws)) P go
+    where
+      go : (x y z : Block) → Written (λ q. q < length (procsIn ws)) x → Written (λ q. q < length (procsIn ws)) y → Written (λ q. q < length (procsIn ws)) z
+          → One ∷ Close ∷ tableForms (drop at ws) ≡ One ∷ blockForms x (Close ∷ Two ∷ blockForms y (Close ∷ Close ∷ blockForms z (Close ∷ later))) → P (either x y z)
+      go x y z v v′ v″ e =
+          close-only (λ q. q < length (procsIn ws)) (Two ∷ blockForms y (Close ∷ Close ∷ blockForms z (Close ∷ later))) (tableForms (drop at ws)) (λ x. P (either x y z)) (λ h. g y z v′ v″ h) x v (cc)
+
+  two-walked : (y z : Block) → Written (λ q. q < length (procsIn ws)) y → (later : List Form) → tableForms (drop at ws) ≡ Two ∷ blockForms y (Close ∷ later)
+      → n + sizeWith (sizeAt d (procsIn ws)) (either done y z) ≤ length s → BlockWalked ws d m w s₁ k y later r s₂
+  two-walked y z v later e h =
+      let a = size-two (sizeAt d (procsIn ws)) y z in
+      i .walked y later (table-behind ws at q Two (blockForms y (Close ∷ later)) (behind .1) e) v (omega arith)
+
+  two-then : (y z : Block) (o : Walked) → n < length s → walkWith (walkAt d (procsIn ws) w) w m (take k s₁) y ≡ o
+      → walkWith (walkAt d (procsIn ws) w) w m (take n s) (either done y z) ≡ andThen o (λ q. walkWith (walkAt d (procsIn ws) w) w m q z)
+  two-then y z o h e =
+      walk-two (walkAt d (procsIn ws) w) w m (take n s) y z ∙ ap (λ q. andThen q (λ q. walkWith (walkAt d (procsIn ws) w) w m q z)) (ap (λ q. walkWith (walkAt d (procsIn ws) w) w m q y) (sym (u .put h)) ∙ e)
+
+  pub two-walks-found : r .reached ≡ true → Walks ws d (Either ∷ One ∷ Close ∷ tableForms (drop at ws)) at m w s n r s₂
+  two-walks-found a = record {
+    buffer = kept-then (u .buffer) (i .buffer);
+    forward = λ b. not-both a b;
+    walked = λ b later e v. two-only later (λ b. n + sizeWith (sizeAt d (procsIn ws)) b ≤ length s → BlockWalked ws d m w s n b later r s₂) (go later) b v e;
+  }
+    where
+      go : (later : List Form) (y z : Block) → Written (λ q. q < length (procsIn ws)) y → Written (λ q. q < length (procsIn ws)) z → tableForms (drop at ws) ≡ Two ∷ blockForms y (Close ∷ Close ∷ blockForms z (Close ∷ later))
+          → n + sizeWith (sizeAt d (procsIn ws)) (either done y z) ≤ length s → BlockWalked ws d m w s n (either done y z) later r s₂
+      go later y z v v′ e h =
+          let c = size-two (sizeAt d (procsIn ws)) y z in
+          let o = two-walked y z v (Close ∷ blockForms z (Close ∷ later)) e h in
+          record {
+            outcome = says-found a (two-then y z (found (take (r .count) s₂)) (omega arith) (was-found o a));
+            next = λ b. not-both a b;
+            short = omega (arith, o .short);
+          }
+
+  pub two-walks-past : {q′ : ℕ} {r′ : Stop} {s₃ : List ℕ} → r .reached ≡ false → (r .next ≤ q′) × (r .next < length ws → q′ ≡ r .next + 1)
+      → Walks ws d (tableForms (drop q′ ws)) q′ m w s₂ (r .count) r′ s₃ → Walks ws d (Either ∷ One ∷ Close ∷ tableForms (drop at ws)) at m w s n r′ s₃
+  two-walks-past {q′} {r′} {s₃} a behind′ i′ = record {
+    buffer = kept-then (kept-then (u .buffer) (i .buffer)) (i′ .buffer);
+    forward = λ b. let c = i .forward a in let c′ = i′ .forward b in omega (arith, behind .0, behind′ .0);
+    walked = λ b later e v. two-only later (λ b. n + sizeWith (sizeAt d (procsIn ws)) b ≤ length s → BlockWalked ws d m w s n b later r′ s₃) (go later) b v e;
+  }
+    where
+      go : (later : List Form) (y z : Block) → Written (λ q. q < length (procsIn ws)) y → Written (λ q. q < length (procsIn ws)) z → tableForms (drop at ws) ≡ Two ∷ blockForms y (Close ∷ Close ∷ blockForms z (Close ∷ later))
+          → n + sizeWith (sizeAt d (procsIn ws)) (either done y z) ≤ length s → BlockWalked ws d m w s n (either done y z) later r′ s₃
+      go later y z v v′ e h =
+          let c = size-two (sizeAt d (procsIn ws)) y z in
+          let o = two-walked y z v (Close ∷ blockForms z (Close ∷ later)) e h in
+          let same = i .buffer .size ∙ u .buffer .size in
+          let there = table-behind ws (r .next) q′ Close (blockForms z (Close ∷ later)) (behind′ .1) (o .next a) in
+          let o′ = i′ .walked z later there v′ (omega (arith, o .short)) in
+          record {
+            outcome = two-then y z (passed (take (r .count) s₂)) (omega arith) (was-passed o a) ∙ o′ .outcome;
+            next = o′ .next;
+            short = omega (arith, o .short, o′ .short);
+          }
