@@ -7,7 +7,6 @@ use mathlib.Core.Bool.{Bool, true, false, cond}
 use mathlib.Core.List.{List, [], _∷_, _++_}
 use mathlib.Core.Path.{_≡_, refl, sym, ap, _∙_}
 use lib.ListN.{length, take, drop, getD}
-use lib.Seq.{take-take}
 use Rattle.text.specs.declared.Form.{Form}
 use Rattle.text.specs.declared.Form.the-variants.{Close, Skip, Call, Hold, Loop, Either, One, Two}
 use Rattle.semantics.specs.Plan.{Block, done, skip, call, hold, loop, either, bodyIn, Written}
@@ -19,28 +18,9 @@ use Rattle.plan.specs.Table.{formAt, tableForms}
 use Rattle.plan.specs.Settled.{PlanTable}
 use Rattle.plan.specs.Starts.{Starts}
 use Rattle.paths.specs.declared.Stop.{Stop}
-use Rattle.paths.specs.Walks.{procsIn, Kept, PutAt, Ready, outcomeOf, BlockWalked, Walks}
+use Rattle.paths.specs.Walks.{procsIn, Kept, PutAt, Ready, stopped, outcomeOf, BlockWalked, Walks}
+use Rattle.paths.proofs.Buffers.{kept-same, kept-then, kept-back}
 use Rattle.paths.proofs.Blocks.{inBlock, none-begins, begins-in, close-only, skip-only, call-only, hold-only, loop-only, either-only, table-more, table-none, table-behind}
-
--- ---- the buffer
-
-pub kept-same : (s : List ℕ) (n : ℕ) → n ≤ length s → Kept s n s n
-kept-same s n h = record { grows = le-refl n; room = h; size = refl; same = refl }
-
-shorter : (n k : ℕ) (s t : List ℕ) → n ≤ k → take k s ≡ take k t → take n s ≡ take n t
-shorter n k s t h e = sym (take-take n k s h) ∙ ap (take n) e ∙ take-take n k t h
-
-pub kept-then : {s s₁ s₂ : List ℕ} {n k j : ℕ} → Kept s n s₁ k → Kept s₁ k s₂ j → Kept s n s₂ j
-kept-then {s} {s₁} {s₂} {n} {k} a b = record {
-  grows = omega arith;
-  room = b .room;
-  size = b .size ∙ a .size;
-  same = shorter n k s₂ s₁ (a .grows) (b .same) ∙ a .same;
-}
-
--- back to the first n
-pub kept-back : {s s₁ s₂ : List ℕ} {n k j : ℕ} → Kept s n s₁ k → Kept s₁ n s₂ j → Kept s n s₂ j
-kept-back a b = record { grows = b .grows; room = b .room; size = b .size ∙ a .size; same = b .same ∙ a .same }
 
 -- ---- the theory's walk and sizes, by the first statement
 
@@ -137,32 +117,32 @@ says-found f e = rw f e
 not-both : {A : Type 0} {t : Bool} → t ≡ true → t ≡ false → A
 not-both e f = let z : _≡_ {A = ℕ} 0 1 = cc in absurd (omega arith)
 
--- ---- where no block begins
+-- ---- where no block begins, or it has ended
 
-module _ {ws : List ℕ} {d at m w n : ℕ} {s : List ℕ} where
-  pub ended-walks : length ws ≤ at → n ≤ length s → Walks ws d (tableForms (drop at ws)) at m w s n (record { reached = false; next = at; count = n }) s
-  ended-walks h room = record {
+module _ {ws : List ℕ} {d at m w n : ℕ} {s : List ℕ} (r : Stop) (answer : r ≡ stopped false at n) (room : n ≤ length s) where
+  pub ended-walks : length ws ≤ at → Walks ws d (tableForms (drop at ws)) at m w s n r s
+  ended-walks h = rw answer (record {
     buffer = kept-same s n room;
     forward = λ f. le-refl at;
     walked = λ b later e v k. absurd (none-begins (λ q. q < length (procsIn ws)) later [] b v (sym (table-none ws at h) ∙ e));
-  }
+  })
 
-  pub other-walks : {fs : List Form} (f : Form) → inBlock f ≡ false → n ≤ length s → Walks ws d (f ∷ fs) at m w s n (record { reached = false; next = at; count = n }) s
-  other-walks {fs} f z room = record {
+  pub other-walks : {fs : List Form} (f : Form) → inBlock f ≡ false → Walks ws d (f ∷ fs) at m w s n r s
+  other-walks {fs} f z = rw answer (record {
     buffer = kept-same s n room;
     forward = λ f. le-refl at;
     walked = λ b later e v k. not-both (begins-in (λ q. q < length (procsIn ws)) later fs f b v e) z;
-  }
+  })
 
-  pub close-walks : n ≤ length s → Walks ws d (Close ∷ tableForms (drop at ws)) at m w s n (record { reached = false; next = at; count = n }) s
-  close-walks room = record {
+  pub close-walks : Walks ws d (Close ∷ tableForms (drop at ws)) at m w s n r s
+  close-walks = rw answer (record {
     buffer = kept-same s n room;
     forward = λ f. le-refl at;
     walked = λ b later e v.
         close-only (λ q. q < length (procsIn ws)) later (tableForms (drop at ws))
-        (λ b. n + sizeWith (sizeAt d (procsIn ws)) b ≤ length s → BlockWalked ws d m w s n b later (record { reached = false; next = at; count = n }) s)
+        (λ b. n + sizeWith (sizeAt d (procsIn ws)) b ≤ length s → BlockWalked ws d m w s n b later (stopped false at n) s)
         (λ e h. record { outcome = walk-done (walkAt d (procsIn ws) w) w m (take n s); next = λ f. e; short = omega arith }) b v e;
-  }
+  })
 
 -- the form at a place, and what was walked from it
 pub walks-at : {ws : List ℕ} {d at m w n : ℕ} {s s₁ : List ℕ} {r : Stop} (f k : Form) → at < length ws → f ≡ formAt (getD ws at 0) → f ≡ k
@@ -228,8 +208,7 @@ module _ {ws starts : List ℕ} {d m w n k p at : ℕ} {s s₁ s₂ : List ℕ} 
   called c h =
       let there = ready .begins .stands p c in
       let y = size-deeper (procsIn ws) d p z in
-      let place : at ≡ getD starts p 0 = begin (omega (arith, ready .begins .room)) in
-      (
+      let place : at ≡ getD starts p 0 = begin (omega (arith, ready .begins .room)) in (
         there .later,
         i .walked (bodyIn (procsIn ws) p) (there .later) (rw place (there .written))
             (body-below (procsIn ws) (λ q. q) (ready .plan .settled .sound) (length (procsIn ws)) p (omega arith)) (omega arith),
@@ -288,16 +267,16 @@ module _ {ws starts : List ℕ} {d m w n k p at : ℕ} {s s₁ s₂ : List ℕ} 
 -- ---- a hold
 
 pub hold-walks-here : {ws : List ℕ} {d at m w n l : ℕ} {s : List ℕ} {fs : List Form} {t : Bool} → n ≤ length s → (l < 32 → t ≡ gives w m l) → t ≡ true
-    → Walks ws d (Hold l ∷ fs) at m w s n (record { reached = true; next = at; count = n }) s
+    → Walks ws d (Hold l ∷ fs) at m w s n (stopped true at n) s
 hold-walks-here {ws} {d} {at} {m} {w} {n} {l} {s} {fs} room g f = record {
-    buffer = kept-same s n room;
-    forward = λ h. le-refl at;
-    walked = λ b later e v.
-        hold-only (λ q. q < length (procsIn ws)) later fs l (λ b. n + sizeWith (sizeAt d (procsIn ws)) b ≤ length s → BlockWalked ws d m w s n b later (record { reached = true; next = at; count = n }) s) (go later) b v e;
-  }
+  buffer = kept-same s n room;
+  forward = λ h. le-refl at;
+  walked = λ b later e v.
+      hold-only (λ q. q < length (procsIn ws)) later fs l (λ b. n + sizeWith (sizeAt d (procsIn ws)) b ≤ length s → BlockWalked ws d m w s n b later (stopped true at n) s) (go later) b v e;
+}
   where
     go : (later : List Form) (x y : Block) → l < 32 → Written (λ q. q < length (procsIn ws)) x → Written (λ q. q < length (procsIn ws)) y → fs ≡ blockForms x (Close ∷ blockForms y (Close ∷ later))
-        → n + sizeWith (sizeAt d (procsIn ws)) (hold l x y) ≤ length s → BlockWalked ws d m w s n (hold l x y) later (record { reached = true; next = at; count = n }) s
+        → n + sizeWith (sizeAt d (procsIn ws)) (hold l x y) ≤ length s → BlockWalked ws d m w s n (hold l x y) later (stopped true at n) s
     go later x y c v v′ e h = record {
       outcome = walk-hold (walkAt d (procsIn ws) w) w m (take n s) l x y
           ∙ ap (λ t. cond t (found (take n s)) (andThen (walkWith (walkAt d (procsIn ws) w) w (holding m l) (put (take n s) 0 (holding m l)) x) (λ q. walkWith (walkAt d (procsIn ws) w) w m (put q 0 m) y)))
@@ -325,11 +304,11 @@ module _ (m l : ℕ) {ws : List ℕ} {d at m′ w n k : ℕ} {s s₁ s₂ : List
 
   pub hold-walks-found : r .reached ≡ true → Walks ws d (Hold l ∷ tableForms (drop at ws)) at m w s n r s₂
   hold-walks-found a = record {
-      buffer = kept-then (u .buffer) (i .buffer);
-      forward = λ b. not-both a b;
-      walked = λ b later e v.
-          hold-only (λ q. q < length (procsIn ws)) later (tableForms (drop at ws)) l (λ b. n + sizeWith (sizeAt d (procsIn ws)) b ≤ length s → BlockWalked ws d m w s n b later r s₂) (go later) b v e;
-    }
+    buffer = kept-then (u .buffer) (i .buffer);
+    forward = λ b. not-both a b;
+    walked = λ b later e v.
+        hold-only (λ q. q < length (procsIn ws)) later (tableForms (drop at ws)) l (λ b. n + sizeWith (sizeAt d (procsIn ws)) b ≤ length s → BlockWalked ws d m w s n b later r s₂) (go later) b v e;
+  }
     where
       go : (later : List Form) (x y : Block) → l < 32 → Written (λ q. q < length (procsIn ws)) x → Written (λ q. q < length (procsIn ws)) y → tableForms (drop at ws) ≡ blockForms x (Close ∷ blockForms y (Close ∷ later))
           → n + sizeWith (sizeAt d (procsIn ws)) (hold l x y) ≤ length s → BlockWalked ws d m w s n (hold l x y) later r s₂
@@ -345,11 +324,11 @@ module _ (m l : ℕ) {ws : List ℕ} {d at m′ w n k : ℕ} {s s₁ s₂ : List
   pub hold-walks-past : {j : ℕ} {r′ : Stop} {s₃ s₄ : List ℕ} → r .reached ≡ false → PutAt s₂ (r .count) (stepOf 0 m) j s₃
       → Walks ws d (tableForms (drop (r .next) ws)) (r .next) m w s₃ j r′ s₄ → Walks ws d (Hold l ∷ tableForms (drop at ws)) at m w s n r′ s₄
   hold-walks-past {j} {r′} {s₃} {s₄} a u′ i′ = record {
-      buffer = kept-then (kept-then (u .buffer) (i .buffer)) (kept-then (u′ .buffer) (i′ .buffer));
-      forward = λ b. let q = i .forward a in let q′ = i′ .forward b in omega arith;
-      walked = λ b later e v.
-          hold-only (λ q. q < length (procsIn ws)) later (tableForms (drop at ws)) l (λ b. n + sizeWith (sizeAt d (procsIn ws)) b ≤ length s → BlockWalked ws d m w s n b later r′ s₄) (go later) b v e;
-    }
+    buffer = kept-then (kept-then (u .buffer) (i .buffer)) (kept-then (u′ .buffer) (i′ .buffer));
+    forward = λ b. let q = i .forward a in let q′ = i′ .forward b in omega arith;
+    walked = λ b later e v.
+        hold-only (λ q. q < length (procsIn ws)) later (tableForms (drop at ws)) l (λ b. n + sizeWith (sizeAt d (procsIn ws)) b ≤ length s → BlockWalked ws d m w s n b later r′ s₄) (go later) b v e;
+  }
     where
       go : (later : List Form) (x y : Block) → l < 32 → Written (λ q. q < length (procsIn ws)) x → Written (λ q. q < length (procsIn ws)) y → tableForms (drop at ws) ≡ blockForms x (Close ∷ blockForms y (Close ∷ later))
           → n + sizeWith (sizeAt d (procsIn ws)) (hold l x y) ≤ length s → BlockWalked ws d m w s n (hold l x y) later r′ s₄
@@ -381,11 +360,11 @@ module _ {ws : List ℕ} {d at m w n k : ℕ} {s s₁ s₂ : List ℕ} {r : Stop
 
   pub loop-walks-found : r .reached ≡ true → Walks ws d (Loop ∷ tableForms (drop at ws)) at m w s n r s₂
   loop-walks-found a = record {
-      buffer = kept-then (u .buffer) (i .buffer);
-      forward = λ b. not-both a b;
-      walked = λ b later e v.
-          loop-only (λ q. q < length (procsIn ws)) later (tableForms (drop at ws)) (λ b. n + sizeWith (sizeAt d (procsIn ws)) b ≤ length s → BlockWalked ws d m w s n b later r s₂) (go later) b v e;
-    }
+    buffer = kept-then (u .buffer) (i .buffer);
+    forward = λ b. not-both a b;
+    walked = λ b later e v.
+        loop-only (λ q. q < length (procsIn ws)) later (tableForms (drop at ws)) (λ b. n + sizeWith (sizeAt d (procsIn ws)) b ≤ length s → BlockWalked ws d m w s n b later r s₂) (go later) b v e;
+  }
     where
       go : (later : List Form) (x y : Block) → Written (λ q. q < length (procsIn ws)) x → Written (λ q. q < length (procsIn ws)) y → tableForms (drop at ws) ≡ blockForms x (Close ∷ blockForms y (Close ∷ later))
           → n + sizeWith (sizeAt d (procsIn ws)) (loop x y) ≤ length s → BlockWalked ws d m w s n (loop x y) later r s₂
@@ -401,11 +380,11 @@ module _ {ws : List ℕ} {d at m w n k : ℕ} {s s₁ s₂ : List ℕ} {r : Stop
   pub loop-walks-past : {j : ℕ} {r′ : Stop} {s₃ s₄ : List ℕ} → r .reached ≡ false → PutAt s₂ n (stepOf 2 m) j s₃
       → Walks ws d (tableForms (drop (r .next) ws)) (r .next) m w s₃ j r′ s₄ → Walks ws d (Loop ∷ tableForms (drop at ws)) at m w s n r′ s₄
   loop-walks-past {j} {r′} {s₃} {s₄} a u′ i′ = record {
-      buffer = kept-back (kept-then (u .buffer) (i .buffer)) (kept-then (u′ .buffer) (i′ .buffer));
-      forward = λ b. let q = i .forward a in let q′ = i′ .forward b in omega arith;
-      walked = λ b later e v.
-          loop-only (λ q. q < length (procsIn ws)) later (tableForms (drop at ws)) (λ b. n + sizeWith (sizeAt d (procsIn ws)) b ≤ length s → BlockWalked ws d m w s n b later r′ s₄) (go later) b v e;
-    }
+    buffer = kept-back (kept-then (u .buffer) (i .buffer)) (kept-then (u′ .buffer) (i′ .buffer));
+    forward = λ b. let q = i .forward a in let q′ = i′ .forward b in omega arith;
+    walked = λ b later e v.
+        loop-only (λ q. q < length (procsIn ws)) later (tableForms (drop at ws)) (λ b. n + sizeWith (sizeAt d (procsIn ws)) b ≤ length s → BlockWalked ws d m w s n b later r′ s₄) (go later) b v e;
+  }
     where
       go : (later : List Form) (x y : Block) → Written (λ q. q < length (procsIn ws)) x → Written (λ q. q < length (procsIn ws)) y → tableForms (drop at ws) ≡ blockForms x (Close ∷ blockForms y (Close ∷ later))
           → n + sizeWith (sizeAt d (procsIn ws)) (loop x y) ≤ length s → BlockWalked ws d m w s n (loop x y) later r′ s₄
@@ -442,11 +421,11 @@ module _ {ws : List ℕ} {d at q m w n k : ℕ} {s s₁ s₂ : List ℕ} {r : St
 
   pub one-walks-found : r .reached ≡ true → Walks ws d (Either ∷ tableForms (drop at ws)) at m w s n r s₂
   one-walks-found a = record {
-      buffer = kept-then (u .buffer) (i .buffer);
-      forward = λ b. not-both a b;
-      walked = λ b later e v.
-          either-only (λ q. q < length (procsIn ws)) later (tableForms (drop at ws)) (λ b. n + sizeWith (sizeAt d (procsIn ws)) b ≤ length s → BlockWalked ws d m w s n b later r s₂) (go later) b v e;
-    }
+    buffer = kept-then (u .buffer) (i .buffer);
+    forward = λ b. not-both a b;
+    walked = λ b later e v.
+        either-only (λ q. q < length (procsIn ws)) later (tableForms (drop at ws)) (λ b. n + sizeWith (sizeAt d (procsIn ws)) b ≤ length s → BlockWalked ws d m w s n b later r s₂) (go later) b v e;
+  }
     where
       go : (later : List Form) (x y z : Block) → Written (λ q. q < length (procsIn ws)) x → Written (λ q. q < length (procsIn ws)) y → Written (λ q. q < length (procsIn ws)) z
           → tableForms (drop at ws) ≡ One ∷ blockForms x (Close ∷ Two ∷ blockForms y (Close ∷ Close ∷ blockForms z (Close ∷ later)))
@@ -464,11 +443,11 @@ module _ {ws : List ℕ} {d at q m w n k : ℕ} {s s₁ s₂ : List ℕ} {r : St
       → Walks ws d (Either ∷ One ∷ Close ∷ tableForms (drop (r .next) ws)) (r .next) m w s₂ n r′ s₃ → Walks ws d (Either ∷ tableForms (drop at ws)) at m w s n r′ s₃
   unfolding blockForms Written
   one-walks-past {r′} {s₃} a i′ = record {
-      buffer = kept-back (kept-then (u .buffer) (i .buffer)) (i′ .buffer);
-      forward = λ b. let c = i .forward a in let c′ = i′ .forward b in omega (arith, behind .0);
-      walked = λ b later e v.
-          either-only (λ q. q < length (procsIn ws)) later (tableForms (drop at ws)) (λ b. n + sizeWith (sizeAt d (procsIn ws)) b ≤ length s → BlockWalked ws d m w s n b later r′ s₃) (go later) b v e;
-    }
+    buffer = kept-back (kept-then (u .buffer) (i .buffer)) (i′ .buffer);
+    forward = λ b. let c = i .forward a in let c′ = i′ .forward b in omega (arith, behind .0);
+    walked = λ b later e v.
+        either-only (λ q. q < length (procsIn ws)) later (tableForms (drop at ws)) (λ b. n + sizeWith (sizeAt d (procsIn ws)) b ≤ length s → BlockWalked ws d m w s n b later r′ s₃) (go later) b v e;
+  }
     where
       go : (later : List Form) (x y z : Block) → Written (λ q. q < length (procsIn ws)) x → Written (λ q. q < length (procsIn ws)) y → Written (λ q. q < length (procsIn ws)) z
           → tableForms (drop at ws) ≡ One ∷ blockForms x (Close ∷ Two ∷ blockForms y (Close ∷ Close ∷ blockForms z (Close ∷ later)))

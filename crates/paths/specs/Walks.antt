@@ -40,6 +40,9 @@ pub record Ready (ws starts : List ℕ) (mask : ℕ) (steps : List ℕ) (n : ℕ
   pub locks : mask < 2 ^ 32
   pub room : n ≤ length steps
 
+abbrev pub stopped : Bool → ℕ → ℕ → Stop
+stopped reached next count = record { reached = reached; next = next; count = count }
+
 -- what has been written, by whether the hold was reached
 abbrev pub outcomeOf : Bool → List ℕ → Walked
 outcomeOf true path = found path

@@ -1,5 +1,6 @@
 // The path to a critical pair: the walk of a procedure, with its steps written down as it goes.
 ghost use mathlib.Core.Path.{_≡_};
+ghost use mathlib.Core.Bool.{false};
 ghost use mathlib.Core.List.{_∷_};
 ghost use Prim.Native.Nat.{_+_, _*_, _^_, _<_, _≤_};
 ghost use lib.Bits.{bitOr};
@@ -7,7 +8,7 @@ ghost use lib.ListN.{length, drop, getD};
 ghost use Rattle.text.specs.declared.Form.the-variants.{Close, Skip, Call, Hold, Loop, Either, One};
 ghost use Rattle.semantics.proofs.Paths.{stepOf, gives, holding};
 ghost use Rattle.plan.specs.Table.{tableForms};
-ghost use Rattle.paths.specs.Walks.{PutAt, Ready, Walks, Asked, PathWritten};
+ghost use Rattle.paths.specs.Walks.{stopped, PutAt, Ready, Walks, Asked, PathWritten};
 ghost use Rattle.paths.specs.Wishes.{WishAt};
 use text::Form;
 
@@ -80,6 +81,17 @@ fn start_of(starts: &[u64], p: u16) -> usize
     0
 }
 
+// A walk that has passed its block.
+fn passed(next: usize, count: usize) -> Stop
+    ensures { λ r. ⌜ r ≡ stopped false next count ⌝ }
+{
+    Stop {
+        reached: false,
+        next,
+        count,
+    }
+}
+
 // The walk of the block at a place, up to the hold that gives the word, or to the block's end.
 fn walk(
     table: &[u64],
@@ -95,49 +107,22 @@ fn walk(
     ensures { λ r. ⌜ Walks (now (table .entry)) depth (tableForms (drop at (now (table .entry)))) at mask word (now (steps .entry)) n r (now (steps .exit)) ⌝ }
 {
     if table.len() <= at {
-        return Stop {
-            reached: false,
-            next: at,
-            count: n,
-        };
+        return passed(at, n);
     }
     let form = plan::form_at(table[at]);
+    let next = at + 1;
     match form {
-        Form::Plan => Stop {
-            reached: false,
-            next: at + 1,
-            count: n,
-        },
-        Form::Proc => Stop {
-            reached: false,
-            next: at + 1,
-            count: n,
-        },
-        Form::Thread(_) => Stop {
-            reached: false,
-            next: at + 1,
-            count: n,
-        },
-        Form::Close => Stop {
-            reached: false,
-            next: at + 1,
-            count: n,
-        },
-        Form::Skip => walk_skip(table, starts, depth, at + 1, mask, word, steps, n),
-        Form::Call(p) => walk_call(table, starts, depth, at + 1, p, mask, word, steps, n),
-        Form::Hold(l) => walk_hold(table, starts, depth, at + 1, l, mask, word, steps, n),
-        Form::Loop => walk_loop(table, starts, depth, at + 1, mask, word, steps, n),
-        Form::Either => walk_either(table, starts, depth, at + 1, mask, word, steps, n),
-        Form::One => Stop {
-            reached: false,
-            next: at + 1,
-            count: n,
-        },
-        Form::Two => Stop {
-            reached: false,
-            next: at + 1,
-            count: n,
-        },
+        Form::Plan => passed(next, n),
+        Form::Proc => passed(next, n),
+        Form::Thread(_) => passed(next, n),
+        Form::Close => passed(next, n),
+        Form::Skip => walk_skip(table, starts, depth, next, mask, word, steps, n),
+        Form::Call(p) => walk_call(table, starts, depth, next, p, mask, word, steps, n),
+        Form::Hold(l) => walk_hold(table, starts, depth, next, l, mask, word, steps, n),
+        Form::Loop => walk_loop(table, starts, depth, next, mask, word, steps, n),
+        Form::Either => walk_either(table, starts, depth, next, mask, word, steps, n),
+        Form::One => passed(next, n),
+        Form::Two => passed(next, n),
     }
 }
 

@@ -24,6 +24,7 @@ use Rattle.paths.proofs.walk_two.Kinds as walk-two-kinds
 use Rattle.paths.proofs.+walk+walk_call+walk_either+walk_hold+walk_loop+walk_skip+walk_two.Lts-walk_two as walk-two-lts
 use Rattle.paths.proofs.after.Reads as after-reads
 use Rattle.paths.proofs.gives_word.Reads as gives-word-reads
+use Rattle.paths.proofs.passed.Reads as passed-reads
 use Rattle.paths.proofs.put.Reads as put-reads
 use Rattle.paths.proofs.start_of.Reads as start-of-reads
 use Rattle.paths.proofs.with_lock.Reads as with-lock-reads
@@ -105,8 +106,29 @@ abbrev walk-two-below : ℕ → In 3 walk-two-kinds.ps
 walk-two-below t =
     and 3 walk-two-kinds.ps (falls 3 walk-two-kinds.ps _<_ μ-walk-two t) walk-two.Pre
 
--- src/lib.rt:98:9
+-- src/lib.rt:110:9
+walk-passed-requires : (t : ℕ) → walk-lts.Need-passed-requires (
+  passed-reads.Asked,
+  passed-reads.Learnt,
+  form-at-reads.Asked,
+  form-at-reads.Learnt,
+  walk-skip-below t,
+  walk-skip.Post,
+  walk-call-below t,
+  walk-call.Post,
+  walk-hold-below t,
+  walk-hold.Post,
+  walk-loop-below t,
+  walk-loop.Post,
+  walk-either-below t,
+  walk-either.Post,
+) (walk-at t) walk.Post
+walk-passed-requires t c κs = ?
+
+-- src/lib.rt:110:9
 walk-returns : (t : ℕ) → walk-lts.Need-returns (
+  passed-reads.Asked,
+  passed-reads.Learnt,
   form-at-reads.Asked,
   form-at-reads.Learnt,
   walk-skip-below t,
@@ -122,8 +144,10 @@ walk-returns : (t : ℕ) → walk-lts.Need-returns (
 ) (walk-at t) walk.Post
 walk-returns t c = ?
 
--- src/lib.rt:104:30
+-- src/lib.rt:112:30
 walk-mul-form-at : (t : ℕ) → walk-lts.Need-mul-form-at (
+  passed-reads.Asked,
+  passed-reads.Learnt,
   form-at-reads.Asked,
   form-at-reads.Learnt,
   walk-skip-below t,
@@ -139,8 +163,10 @@ walk-mul-form-at : (t : ℕ) → walk-lts.Need-mul-form-at (
 ) (walk-at t) walk.Post
 walk-mul-form-at t c = ?
 
--- src/lib.rt:104:30
+-- src/lib.rt:112:30
 walk-shared-slice-read-form-at : (t : ℕ) → walk-lts.Need-shared-slice-read-form-at (
+  passed-reads.Asked,
+  passed-reads.Learnt,
   form-at-reads.Asked,
   form-at-reads.Learnt,
   walk-skip-below t,
@@ -156,8 +182,10 @@ walk-shared-slice-read-form-at : (t : ℕ) → walk-lts.Need-shared-slice-read-f
 ) (walk-at t) walk.Post
 walk-shared-slice-read-form-at t c = ?
 
--- src/lib.rt:104:9
+-- src/lib.rt:112:9
 walk-form-at-requires : (t : ℕ) → walk-lts.Need-form-at-requires (
+  passed-reads.Asked,
+  passed-reads.Learnt,
   form-at-reads.Asked,
   form-at-reads.Learnt,
   walk-skip-below t,
@@ -173,8 +201,29 @@ walk-form-at-requires : (t : ℕ) → walk-lts.Need-form-at-requires (
 ) (walk-at t) walk.Post
 walk-form-at-requires t c κs = ?
 
--- src/lib.rt:108:19
+-- src/lib.rt:113:16
+walk-add-next : (t : ℕ) → walk-lts.Need-add-next (
+  passed-reads.Asked,
+  passed-reads.Learnt,
+  form-at-reads.Asked,
+  form-at-reads.Learnt,
+  walk-skip-below t,
+  walk-skip.Post,
+  walk-call-below t,
+  walk-call.Post,
+  walk-hold-below t,
+  walk-hold.Post,
+  walk-loop-below t,
+  walk-loop.Post,
+  walk-either-below t,
+  walk-either.Post,
+) (walk-at t) walk.Post
+walk-add-next t c = ?
+
+-- src/lib.rt:115:23
 walk-enum-told : (t : ℕ) → walk-lts.Need-enum-told (
+  passed-reads.Asked,
+  passed-reads.Learnt,
   form-at-reads.Asked,
   form-at-reads.Learnt,
   walk-skip-below t,
@@ -190,8 +239,10 @@ walk-enum-told : (t : ℕ) → walk-lts.Need-enum-told (
 ) (walk-at t) walk.Post
 walk-enum-told t c = ?
 
--- src/lib.rt:108:19
-walk-add-t17 : (t : ℕ) → walk-lts.Need-add-t17 (
+-- src/lib.rt:115:23
+walk-passed-requires-2 : (t : ℕ) → walk-lts.Need-passed-requires-2 (
+  passed-reads.Asked,
+  passed-reads.Learnt,
   form-at-reads.Asked,
   form-at-reads.Learnt,
   walk-skip-below t,
@@ -205,10 +256,12 @@ walk-add-t17 : (t : ℕ) → walk-lts.Need-add-t17 (
   walk-either-below t,
   walk-either.Post,
 ) (walk-at t) walk.Post
-walk-add-t17 t c = ?
+walk-passed-requires-2 t c κs = ?
 
--- src/lib.rt:113:19
+-- src/lib.rt:116:23
 walk-enum-told-2 : (t : ℕ) → walk-lts.Need-enum-told-2 (
+  passed-reads.Asked,
+  passed-reads.Learnt,
   form-at-reads.Asked,
   form-at-reads.Learnt,
   walk-skip-below t,
@@ -224,8 +277,10 @@ walk-enum-told-2 : (t : ℕ) → walk-lts.Need-enum-told-2 (
 ) (walk-at t) walk.Post
 walk-enum-told-2 t c = ?
 
--- src/lib.rt:113:19
-walk-add-t18 : (t : ℕ) → walk-lts.Need-add-t18 (
+-- src/lib.rt:116:23
+walk-passed-requires-3 : (t : ℕ) → walk-lts.Need-passed-requires-3 (
+  passed-reads.Asked,
+  passed-reads.Learnt,
   form-at-reads.Asked,
   form-at-reads.Learnt,
   walk-skip-below t,
@@ -239,10 +294,12 @@ walk-add-t18 : (t : ℕ) → walk-lts.Need-add-t18 (
   walk-either-below t,
   walk-either.Post,
 ) (walk-at t) walk.Post
-walk-add-t18 t c = ?
+walk-passed-requires-3 t c κs = ?
 
--- src/lib.rt:118:19
+-- src/lib.rt:117:28
 walk-enum-told-3 : (t : ℕ) → walk-lts.Need-enum-told-3 (
+  passed-reads.Asked,
+  passed-reads.Learnt,
   form-at-reads.Asked,
   form-at-reads.Learnt,
   walk-skip-below t,
@@ -258,8 +315,10 @@ walk-enum-told-3 : (t : ℕ) → walk-lts.Need-enum-told-3 (
 ) (walk-at t) walk.Post
 walk-enum-told-3 t c = ?
 
--- src/lib.rt:118:19
-walk-add-t19 : (t : ℕ) → walk-lts.Need-add-t19 (
+-- src/lib.rt:117:28
+walk-passed-requires-4 : (t : ℕ) → walk-lts.Need-passed-requires-4 (
+  passed-reads.Asked,
+  passed-reads.Learnt,
   form-at-reads.Asked,
   form-at-reads.Learnt,
   walk-skip-below t,
@@ -273,10 +332,12 @@ walk-add-t19 : (t : ℕ) → walk-lts.Need-add-t19 (
   walk-either-below t,
   walk-either.Post,
 ) (walk-at t) walk.Post
-walk-add-t19 t c = ?
+walk-passed-requires-4 t c κs = ?
 
--- src/lib.rt:123:19
+-- src/lib.rt:118:24
 walk-enum-told-4 : (t : ℕ) → walk-lts.Need-enum-told-4 (
+  passed-reads.Asked,
+  passed-reads.Learnt,
   form-at-reads.Asked,
   form-at-reads.Learnt,
   walk-skip-below t,
@@ -292,8 +353,10 @@ walk-enum-told-4 : (t : ℕ) → walk-lts.Need-enum-told-4 (
 ) (walk-at t) walk.Post
 walk-enum-told-4 t c = ?
 
--- src/lib.rt:123:19
-walk-add-t20 : (t : ℕ) → walk-lts.Need-add-t20 (
+-- src/lib.rt:118:24
+walk-passed-requires-5 : (t : ℕ) → walk-lts.Need-passed-requires-5 (
+  passed-reads.Asked,
+  passed-reads.Learnt,
   form-at-reads.Asked,
   form-at-reads.Learnt,
   walk-skip-below t,
@@ -307,10 +370,12 @@ walk-add-t20 : (t : ℕ) → walk-lts.Need-add-t20 (
   walk-either-below t,
   walk-either.Post,
 ) (walk-at t) walk.Post
-walk-add-t20 t c = ?
+walk-passed-requires-5 t c κs = ?
 
--- src/lib.rt:126:55
+-- src/lib.rt:119:73
 walk-enum-told-5 : (t : ℕ) → walk-lts.Need-enum-told-5 (
+  passed-reads.Asked,
+  passed-reads.Learnt,
   form-at-reads.Asked,
   form-at-reads.Learnt,
   walk-skip-below t,
@@ -326,25 +391,10 @@ walk-enum-told-5 : (t : ℕ) → walk-lts.Need-enum-told-5 (
 ) (walk-at t) walk.Post
 walk-enum-told-5 t c = ?
 
--- src/lib.rt:126:55
-walk-add-walk-skip : (t : ℕ) → walk-lts.Need-add-walk-skip (
-  form-at-reads.Asked,
-  form-at-reads.Learnt,
-  walk-skip-below t,
-  walk-skip.Post,
-  walk-call-below t,
-  walk-call.Post,
-  walk-hold-below t,
-  walk-hold.Post,
-  walk-loop-below t,
-  walk-loop.Post,
-  walk-either-below t,
-  walk-either.Post,
-) (walk-at t) walk.Post
-walk-add-walk-skip t c = ?
-
--- src/lib.rt:126:23
+-- src/lib.rt:119:23
 walk-walk-skip-requires : (t : ℕ) → walk-lts.Need-walk-skip-requires (
+  passed-reads.Asked,
+  passed-reads.Learnt,
   form-at-reads.Asked,
   form-at-reads.Learnt,
   walk-skip-below t,
@@ -360,8 +410,10 @@ walk-walk-skip-requires : (t : ℕ) → walk-lts.Need-walk-skip-requires (
 ) (walk-at t) walk.Post
 walk-walk-skip-requires t c κs = ?
 
--- src/lib.rt:127:20
+-- src/lib.rt:120:20
 walk-enum-known-form : (t : ℕ) → walk-lts.Need-enum-known-form (
+  passed-reads.Asked,
+  passed-reads.Learnt,
   form-at-reads.Asked,
   form-at-reads.Learnt,
   walk-skip-below t,
@@ -377,25 +429,10 @@ walk-enum-known-form : (t : ℕ) → walk-lts.Need-enum-known-form (
 ) (walk-at t) walk.Post
 walk-enum-known-form t c = ?
 
--- src/lib.rt:127:58
-walk-add-walk-call : (t : ℕ) → walk-lts.Need-add-walk-call (
-  form-at-reads.Asked,
-  form-at-reads.Learnt,
-  walk-skip-below t,
-  walk-skip.Post,
-  walk-call-below t,
-  walk-call.Post,
-  walk-hold-below t,
-  walk-hold.Post,
-  walk-loop-below t,
-  walk-loop.Post,
-  walk-either-below t,
-  walk-either.Post,
-) (walk-at t) walk.Post
-walk-add-walk-call t c = ?
-
--- src/lib.rt:127:26
+-- src/lib.rt:120:26
 walk-walk-call-requires : (t : ℕ) → walk-lts.Need-walk-call-requires (
+  passed-reads.Asked,
+  passed-reads.Learnt,
   form-at-reads.Asked,
   form-at-reads.Learnt,
   walk-skip-below t,
@@ -411,8 +448,10 @@ walk-walk-call-requires : (t : ℕ) → walk-lts.Need-walk-call-requires (
 ) (walk-at t) walk.Post
 walk-walk-call-requires t c κs = ?
 
--- src/lib.rt:128:20
+-- src/lib.rt:121:20
 walk-enum-known-form-2 : (t : ℕ) → walk-lts.Need-enum-known-form-2 (
+  passed-reads.Asked,
+  passed-reads.Learnt,
   form-at-reads.Asked,
   form-at-reads.Learnt,
   walk-skip-below t,
@@ -428,25 +467,10 @@ walk-enum-known-form-2 : (t : ℕ) → walk-lts.Need-enum-known-form-2 (
 ) (walk-at t) walk.Post
 walk-enum-known-form-2 t c = ?
 
--- src/lib.rt:128:58
-walk-add-walk-hold : (t : ℕ) → walk-lts.Need-add-walk-hold (
-  form-at-reads.Asked,
-  form-at-reads.Learnt,
-  walk-skip-below t,
-  walk-skip.Post,
-  walk-call-below t,
-  walk-call.Post,
-  walk-hold-below t,
-  walk-hold.Post,
-  walk-loop-below t,
-  walk-loop.Post,
-  walk-either-below t,
-  walk-either.Post,
-) (walk-at t) walk.Post
-walk-add-walk-hold t c = ?
-
--- src/lib.rt:128:26
+-- src/lib.rt:121:26
 walk-walk-hold-requires : (t : ℕ) → walk-lts.Need-walk-hold-requires (
+  passed-reads.Asked,
+  passed-reads.Learnt,
   form-at-reads.Asked,
   form-at-reads.Learnt,
   walk-skip-below t,
@@ -462,8 +486,10 @@ walk-walk-hold-requires : (t : ℕ) → walk-lts.Need-walk-hold-requires (
 ) (walk-at t) walk.Post
 walk-walk-hold-requires t c κs = ?
 
--- src/lib.rt:129:55
+-- src/lib.rt:122:73
 walk-enum-told-6 : (t : ℕ) → walk-lts.Need-enum-told-6 (
+  passed-reads.Asked,
+  passed-reads.Learnt,
   form-at-reads.Asked,
   form-at-reads.Learnt,
   walk-skip-below t,
@@ -479,25 +505,10 @@ walk-enum-told-6 : (t : ℕ) → walk-lts.Need-enum-told-6 (
 ) (walk-at t) walk.Post
 walk-enum-told-6 t c = ?
 
--- src/lib.rt:129:55
-walk-add-walk-loop : (t : ℕ) → walk-lts.Need-add-walk-loop (
-  form-at-reads.Asked,
-  form-at-reads.Learnt,
-  walk-skip-below t,
-  walk-skip.Post,
-  walk-call-below t,
-  walk-call.Post,
-  walk-hold-below t,
-  walk-hold.Post,
-  walk-loop-below t,
-  walk-loop.Post,
-  walk-either-below t,
-  walk-either.Post,
-) (walk-at t) walk.Post
-walk-add-walk-loop t c = ?
-
--- src/lib.rt:129:23
+-- src/lib.rt:122:23
 walk-walk-loop-requires : (t : ℕ) → walk-lts.Need-walk-loop-requires (
+  passed-reads.Asked,
+  passed-reads.Learnt,
   form-at-reads.Asked,
   form-at-reads.Learnt,
   walk-skip-below t,
@@ -513,8 +524,10 @@ walk-walk-loop-requires : (t : ℕ) → walk-lts.Need-walk-loop-requires (
 ) (walk-at t) walk.Post
 walk-walk-loop-requires t c κs = ?
 
--- src/lib.rt:130:59
+-- src/lib.rt:123:77
 walk-enum-told-7 : (t : ℕ) → walk-lts.Need-enum-told-7 (
+  passed-reads.Asked,
+  passed-reads.Learnt,
   form-at-reads.Asked,
   form-at-reads.Learnt,
   walk-skip-below t,
@@ -530,25 +543,10 @@ walk-enum-told-7 : (t : ℕ) → walk-lts.Need-enum-told-7 (
 ) (walk-at t) walk.Post
 walk-enum-told-7 t c = ?
 
--- src/lib.rt:130:59
-walk-add-walk-either : (t : ℕ) → walk-lts.Need-add-walk-either (
-  form-at-reads.Asked,
-  form-at-reads.Learnt,
-  walk-skip-below t,
-  walk-skip.Post,
-  walk-call-below t,
-  walk-call.Post,
-  walk-hold-below t,
-  walk-hold.Post,
-  walk-loop-below t,
-  walk-loop.Post,
-  walk-either-below t,
-  walk-either.Post,
-) (walk-at t) walk.Post
-walk-add-walk-either t c = ?
-
--- src/lib.rt:130:25
+-- src/lib.rt:123:25
 walk-walk-either-requires : (t : ℕ) → walk-lts.Need-walk-either-requires (
+  passed-reads.Asked,
+  passed-reads.Learnt,
   form-at-reads.Asked,
   form-at-reads.Learnt,
   walk-skip-below t,
@@ -564,8 +562,10 @@ walk-walk-either-requires : (t : ℕ) → walk-lts.Need-walk-either-requires (
 ) (walk-at t) walk.Post
 walk-walk-either-requires t c κs = ?
 
--- src/lib.rt:133:19
+-- src/lib.rt:124:22
 walk-enum-told-8 : (t : ℕ) → walk-lts.Need-enum-told-8 (
+  passed-reads.Asked,
+  passed-reads.Learnt,
   form-at-reads.Asked,
   form-at-reads.Learnt,
   walk-skip-below t,
@@ -581,8 +581,10 @@ walk-enum-told-8 : (t : ℕ) → walk-lts.Need-enum-told-8 (
 ) (walk-at t) walk.Post
 walk-enum-told-8 t c = ?
 
--- src/lib.rt:133:19
-walk-add-t36 : (t : ℕ) → walk-lts.Need-add-t36 (
+-- src/lib.rt:124:22
+walk-passed-requires-6 : (t : ℕ) → walk-lts.Need-passed-requires-6 (
+  passed-reads.Asked,
+  passed-reads.Learnt,
   form-at-reads.Asked,
   form-at-reads.Learnt,
   walk-skip-below t,
@@ -596,10 +598,12 @@ walk-add-t36 : (t : ℕ) → walk-lts.Need-add-t36 (
   walk-either-below t,
   walk-either.Post,
 ) (walk-at t) walk.Post
-walk-add-t36 t c = ?
+walk-passed-requires-6 t c κs = ?
 
--- src/lib.rt:138:19
+-- src/lib.rt:125:22
 walk-enum-told-9 : (t : ℕ) → walk-lts.Need-enum-told-9 (
+  passed-reads.Asked,
+  passed-reads.Learnt,
   form-at-reads.Asked,
   form-at-reads.Learnt,
   walk-skip-below t,
@@ -615,8 +619,10 @@ walk-enum-told-9 : (t : ℕ) → walk-lts.Need-enum-told-9 (
 ) (walk-at t) walk.Post
 walk-enum-told-9 t c = ?
 
--- src/lib.rt:138:19
-walk-add-t37 : (t : ℕ) → walk-lts.Need-add-t37 (
+-- src/lib.rt:125:22
+walk-passed-requires-7 : (t : ℕ) → walk-lts.Need-passed-requires-7 (
+  passed-reads.Asked,
+  passed-reads.Learnt,
   form-at-reads.Asked,
   form-at-reads.Learnt,
   walk-skip-below t,
@@ -630,10 +636,12 @@ walk-add-t37 : (t : ℕ) → walk-lts.Need-add-t37 (
   walk-either-below t,
   walk-either.Post,
 ) (walk-at t) walk.Post
-walk-add-t37 t c = ?
+walk-passed-requires-7 t c κs = ?
 
--- src/lib.rt:84:1
+-- src/lib.rt:96:1
 walk-returns-2 : (t : ℕ) → walk-lts.Need-returns-2 (
+  passed-reads.Asked,
+  passed-reads.Learnt,
   form-at-reads.Asked,
   form-at-reads.Learnt,
   walk-skip-below t,
@@ -649,8 +657,10 @@ walk-returns-2 : (t : ℕ) → walk-lts.Need-returns-2 (
 ) (walk-at t) walk.Post
 walk-returns-2 t c = ?
 
--- src/lib.rt:84:1
+-- src/lib.rt:96:1
 walk-returns-3 : (t : ℕ) → walk-lts.Need-returns-3 (
+  passed-reads.Asked,
+  passed-reads.Learnt,
   form-at-reads.Asked,
   form-at-reads.Learnt,
   walk-skip-below t,
@@ -666,8 +676,10 @@ walk-returns-3 : (t : ℕ) → walk-lts.Need-returns-3 (
 ) (walk-at t) walk.Post
 walk-returns-3 t c = ?
 
--- src/lib.rt:84:1
+-- src/lib.rt:96:1
 walk-returns-4 : (t : ℕ) → walk-lts.Need-returns-4 (
+  passed-reads.Asked,
+  passed-reads.Learnt,
   form-at-reads.Asked,
   form-at-reads.Learnt,
   walk-skip-below t,
@@ -683,8 +695,10 @@ walk-returns-4 : (t : ℕ) → walk-lts.Need-returns-4 (
 ) (walk-at t) walk.Post
 walk-returns-4 t c = ?
 
--- src/lib.rt:84:1
+-- src/lib.rt:96:1
 walk-returns-5 : (t : ℕ) → walk-lts.Need-returns-5 (
+  passed-reads.Asked,
+  passed-reads.Learnt,
   form-at-reads.Asked,
   form-at-reads.Learnt,
   walk-skip-below t,
@@ -700,8 +714,10 @@ walk-returns-5 : (t : ℕ) → walk-lts.Need-returns-5 (
 ) (walk-at t) walk.Post
 walk-returns-5 t c = ?
 
--- src/lib.rt:84:1
+-- src/lib.rt:96:1
 walk-same-length : (t : ℕ) → walk-lts.Need-same-length (
+  passed-reads.Asked,
+  passed-reads.Learnt,
   form-at-reads.Asked,
   form-at-reads.Learnt,
   walk-skip-below t,
@@ -717,8 +733,10 @@ walk-same-length : (t : ℕ) → walk-lts.Need-same-length (
 ) (walk-at t) walk.Post
 walk-same-length t c = ?
 
--- src/lib.rt:84:1
+-- src/lib.rt:96:1
 walk-returns-6 : (t : ℕ) → walk-lts.Need-returns-6 (
+  passed-reads.Asked,
+  passed-reads.Learnt,
   form-at-reads.Asked,
   form-at-reads.Learnt,
   walk-skip-below t,
@@ -734,8 +752,10 @@ walk-returns-6 : (t : ℕ) → walk-lts.Need-returns-6 (
 ) (walk-at t) walk.Post
 walk-returns-6 t c = ?
 
--- src/lib.rt:84:1
+-- src/lib.rt:96:1
 walk-same-length-2 : (t : ℕ) → walk-lts.Need-same-length-2 (
+  passed-reads.Asked,
+  passed-reads.Learnt,
   form-at-reads.Asked,
   form-at-reads.Learnt,
   walk-skip-below t,
@@ -751,8 +771,10 @@ walk-same-length-2 : (t : ℕ) → walk-lts.Need-same-length-2 (
 ) (walk-at t) walk.Post
 walk-same-length-2 t c = ?
 
--- src/lib.rt:84:1
+-- src/lib.rt:96:1
 walk-returns-7 : (t : ℕ) → walk-lts.Need-returns-7 (
+  passed-reads.Asked,
+  passed-reads.Learnt,
   form-at-reads.Asked,
   form-at-reads.Learnt,
   walk-skip-below t,
@@ -768,8 +790,10 @@ walk-returns-7 : (t : ℕ) → walk-lts.Need-returns-7 (
 ) (walk-at t) walk.Post
 walk-returns-7 t c = ?
 
--- src/lib.rt:84:1
+-- src/lib.rt:96:1
 walk-same-length-3 : (t : ℕ) → walk-lts.Need-same-length-3 (
+  passed-reads.Asked,
+  passed-reads.Learnt,
   form-at-reads.Asked,
   form-at-reads.Learnt,
   walk-skip-below t,
@@ -785,8 +809,10 @@ walk-same-length-3 : (t : ℕ) → walk-lts.Need-same-length-3 (
 ) (walk-at t) walk.Post
 walk-same-length-3 t c = ?
 
--- src/lib.rt:84:1
+-- src/lib.rt:96:1
 walk-returns-8 : (t : ℕ) → walk-lts.Need-returns-8 (
+  passed-reads.Asked,
+  passed-reads.Learnt,
   form-at-reads.Asked,
   form-at-reads.Learnt,
   walk-skip-below t,
@@ -802,8 +828,10 @@ walk-returns-8 : (t : ℕ) → walk-lts.Need-returns-8 (
 ) (walk-at t) walk.Post
 walk-returns-8 t c = ?
 
--- src/lib.rt:84:1
+-- src/lib.rt:96:1
 walk-same-length-4 : (t : ℕ) → walk-lts.Need-same-length-4 (
+  passed-reads.Asked,
+  passed-reads.Learnt,
   form-at-reads.Asked,
   form-at-reads.Learnt,
   walk-skip-below t,
@@ -819,8 +847,10 @@ walk-same-length-4 : (t : ℕ) → walk-lts.Need-same-length-4 (
 ) (walk-at t) walk.Post
 walk-same-length-4 t c = ?
 
--- src/lib.rt:84:1
+-- src/lib.rt:96:1
 walk-returns-9 : (t : ℕ) → walk-lts.Need-returns-9 (
+  passed-reads.Asked,
+  passed-reads.Learnt,
   form-at-reads.Asked,
   form-at-reads.Learnt,
   walk-skip-below t,
@@ -836,8 +866,10 @@ walk-returns-9 : (t : ℕ) → walk-lts.Need-returns-9 (
 ) (walk-at t) walk.Post
 walk-returns-9 t c = ?
 
--- src/lib.rt:84:1
+-- src/lib.rt:96:1
 walk-same-length-5 : (t : ℕ) → walk-lts.Need-same-length-5 (
+  passed-reads.Asked,
+  passed-reads.Learnt,
   form-at-reads.Asked,
   form-at-reads.Learnt,
   walk-skip-below t,
@@ -853,8 +885,10 @@ walk-same-length-5 : (t : ℕ) → walk-lts.Need-same-length-5 (
 ) (walk-at t) walk.Post
 walk-same-length-5 t c = ?
 
--- src/lib.rt:84:1
+-- src/lib.rt:96:1
 walk-returns-10 : (t : ℕ) → walk-lts.Need-returns-10 (
+  passed-reads.Asked,
+  passed-reads.Learnt,
   form-at-reads.Asked,
   form-at-reads.Learnt,
   walk-skip-below t,
@@ -870,8 +904,10 @@ walk-returns-10 : (t : ℕ) → walk-lts.Need-returns-10 (
 ) (walk-at t) walk.Post
 walk-returns-10 t c = ?
 
--- src/lib.rt:84:1
+-- src/lib.rt:96:1
 walk-returns-11 : (t : ℕ) → walk-lts.Need-returns-11 (
+  passed-reads.Asked,
+  passed-reads.Learnt,
   form-at-reads.Asked,
   form-at-reads.Learnt,
   walk-skip-below t,
@@ -887,8 +923,10 @@ walk-returns-11 : (t : ℕ) → walk-lts.Need-returns-11 (
 ) (walk-at t) walk.Post
 walk-returns-11 t c = ?
 
--- src/lib.rt:84:1
+-- src/lib.rt:96:1
 walk-returns-12 : (t : ℕ) → walk-lts.Need-returns-12 (
+  passed-reads.Asked,
+  passed-reads.Learnt,
   form-at-reads.Asked,
   form-at-reads.Learnt,
   walk-skip-below t,
@@ -904,7 +942,7 @@ walk-returns-12 : (t : ℕ) → walk-lts.Need-returns-12 (
 ) (walk-at t) walk.Post
 walk-returns-12 t c = ?
 
--- src/lib.rt:177:9
+-- src/lib.rt:162:9
 walk-call-put-requires : (t : ℕ) → walk-call-lts.Need-put-requires (
   put-reads.Asked,
   put-reads.Learnt,
@@ -915,7 +953,7 @@ walk-call-put-requires : (t : ℕ) → walk-call-lts.Need-put-requires (
 ) (walk-call-at t) walk-call.Post
 walk-call-put-requires t c κs = ?
 
--- src/lib.rt:179:9
+-- src/lib.rt:164:9
 walk-call-walk-requires : (t : ℕ) → walk-call-lts.Need-walk-requires (
   put-reads.Asked,
   put-reads.Learnt,
@@ -926,7 +964,7 @@ walk-call-walk-requires : (t : ℕ) → walk-call-lts.Need-walk-requires (
 ) (walk-call-at t) walk-call.Post
 walk-call-walk-requires t c κs = ?
 
--- src/lib.rt:179:9
+-- src/lib.rt:164:9
 walk-call-same-length : (t : ℕ) → walk-call-lts.Need-same-length (
   put-reads.Asked,
   put-reads.Learnt,
@@ -937,7 +975,7 @@ walk-call-same-length : (t : ℕ) → walk-call-lts.Need-same-length (
 ) (walk-call-at t) walk-call.Post
 walk-call-same-length t c = ?
 
--- src/lib.rt:179:9
+-- src/lib.rt:164:9
 walk-call-returns : (t : ℕ) → walk-call-lts.Need-returns (
   put-reads.Asked,
   put-reads.Learnt,
@@ -948,7 +986,7 @@ walk-call-returns : (t : ℕ) → walk-call-lts.Need-returns (
 ) (walk-call-at t) walk-call.Post
 walk-call-returns t c = ?
 
--- src/lib.rt:184:9
+-- src/lib.rt:169:9
 walk-call-sub-walk : (t : ℕ) → walk-call-lts.Need-sub-walk (
   put-reads.Asked,
   put-reads.Learnt,
@@ -959,7 +997,7 @@ walk-call-sub-walk : (t : ℕ) → walk-call-lts.Need-sub-walk (
 ) (walk-call-at t) walk-call.Post
 walk-call-sub-walk t c = ?
 
--- src/lib.rt:185:9
+-- src/lib.rt:170:9
 walk-call-start-of-requires : (t : ℕ) → walk-call-lts.Need-start-of-requires (
   put-reads.Asked,
   put-reads.Learnt,
@@ -970,7 +1008,7 @@ walk-call-start-of-requires : (t : ℕ) → walk-call-lts.Need-start-of-requires
 ) (walk-call-at t) walk-call.Post
 walk-call-start-of-requires t c κs = ?
 
--- src/lib.rt:181:9
+-- src/lib.rt:166:9
 walk-call-walk-requires-2 : (t : ℕ) → walk-call-lts.Need-walk-requires-2 (
   put-reads.Asked,
   put-reads.Learnt,
@@ -981,7 +1019,7 @@ walk-call-walk-requires-2 : (t : ℕ) → walk-call-lts.Need-walk-requires-2 (
 ) (walk-call-at t) walk-call.Post
 walk-call-walk-requires-2 t c κs = ?
 
--- src/lib.rt:192:9
+-- src/lib.rt:177:9
 walk-call-same-length-2 : (t : ℕ) → walk-call-lts.Need-same-length-2 (
   put-reads.Asked,
   put-reads.Learnt,
@@ -992,7 +1030,7 @@ walk-call-same-length-2 : (t : ℕ) → walk-call-lts.Need-same-length-2 (
 ) (walk-call-at t) walk-call.Post
 walk-call-same-length-2 t c = ?
 
--- src/lib.rt:192:9
+-- src/lib.rt:177:9
 walk-call-returns-2 : (t : ℕ) → walk-call-lts.Need-returns-2 (
   put-reads.Asked,
   put-reads.Learnt,
@@ -1003,7 +1041,7 @@ walk-call-returns-2 : (t : ℕ) → walk-call-lts.Need-returns-2 (
 ) (walk-call-at t) walk-call.Post
 walk-call-returns-2 t c = ?
 
--- src/lib.rt:194:5
+-- src/lib.rt:179:5
 walk-call-walk-requires-3 : (t : ℕ) → walk-call-lts.Need-walk-requires-3 (
   put-reads.Asked,
   put-reads.Learnt,
@@ -1014,7 +1052,7 @@ walk-call-walk-requires-3 : (t : ℕ) → walk-call-lts.Need-walk-requires-3 (
 ) (walk-call-at t) walk-call.Post
 walk-call-walk-requires-3 t c κs = ?
 
--- src/lib.rt:163:1
+-- src/lib.rt:148:1
 walk-call-same-length-3 : (t : ℕ) → walk-call-lts.Need-same-length-3 (
   put-reads.Asked,
   put-reads.Learnt,
@@ -1025,7 +1063,7 @@ walk-call-same-length-3 : (t : ℕ) → walk-call-lts.Need-same-length-3 (
 ) (walk-call-at t) walk-call.Post
 walk-call-same-length-3 t c = ?
 
--- src/lib.rt:163:1
+-- src/lib.rt:148:1
 walk-call-returns-3 : (t : ℕ) → walk-call-lts.Need-returns-3 (
   put-reads.Asked,
   put-reads.Learnt,
@@ -1036,7 +1074,7 @@ walk-call-returns-3 : (t : ℕ) → walk-call-lts.Need-returns-3 (
 ) (walk-call-at t) walk-call.Post
 walk-call-returns-3 t c = ?
 
--- src/lib.rt:266:9
+-- src/lib.rt:251:9
 walk-either-put-requires : (t : ℕ) → walk-either-lts.Need-put-requires (
   put-reads.Asked,
   put-reads.Learnt,
@@ -1049,7 +1087,7 @@ walk-either-put-requires : (t : ℕ) → walk-either-lts.Need-put-requires (
 ) (walk-either-at t) walk-either.Post
 walk-either-put-requires t c κs = ?
 
--- src/lib.rt:267:42
+-- src/lib.rt:252:42
 walk-either-after-requires : (t : ℕ) → walk-either-lts.Need-after-requires (
   put-reads.Asked,
   put-reads.Learnt,
@@ -1062,7 +1100,7 @@ walk-either-after-requires : (t : ℕ) → walk-either-lts.Need-after-requires (
 ) (walk-either-at t) walk-either.Post
 walk-either-after-requires t c κs = ?
 
--- src/lib.rt:267:9
+-- src/lib.rt:252:9
 walk-either-walk-requires : (t : ℕ) → walk-either-lts.Need-walk-requires (
   put-reads.Asked,
   put-reads.Learnt,
@@ -1075,7 +1113,7 @@ walk-either-walk-requires : (t : ℕ) → walk-either-lts.Need-walk-requires (
 ) (walk-either-at t) walk-either.Post
 walk-either-walk-requires t c κs = ?
 
--- src/lib.rt:269:9
+-- src/lib.rt:254:9
 walk-either-same-length : (t : ℕ) → walk-either-lts.Need-same-length (
   put-reads.Asked,
   put-reads.Learnt,
@@ -1088,7 +1126,7 @@ walk-either-same-length : (t : ℕ) → walk-either-lts.Need-same-length (
 ) (walk-either-at t) walk-either.Post
 walk-either-same-length t c = ?
 
--- src/lib.rt:269:9
+-- src/lib.rt:254:9
 walk-either-returns : (t : ℕ) → walk-either-lts.Need-returns (
   put-reads.Asked,
   put-reads.Learnt,
@@ -1101,7 +1139,7 @@ walk-either-returns : (t : ℕ) → walk-either-lts.Need-returns (
 ) (walk-either-at t) walk-either.Post
 walk-either-returns t c = ?
 
--- src/lib.rt:271:5
+-- src/lib.rt:256:5
 walk-either-walk-two-requires : (t : ℕ) → walk-either-lts.Need-walk-two-requires (
   put-reads.Asked,
   put-reads.Learnt,
@@ -1114,7 +1152,7 @@ walk-either-walk-two-requires : (t : ℕ) → walk-either-lts.Need-walk-two-requ
 ) (walk-either-at t) walk-either.Post
 walk-either-walk-two-requires t c κs = ?
 
--- src/lib.rt:253:1
+-- src/lib.rt:238:1
 walk-either-same-length-2 : (t : ℕ) → walk-either-lts.Need-same-length-2 (
   put-reads.Asked,
   put-reads.Learnt,
@@ -1127,7 +1165,7 @@ walk-either-same-length-2 : (t : ℕ) → walk-either-lts.Need-same-length-2 (
 ) (walk-either-at t) walk-either.Post
 walk-either-same-length-2 t c = ?
 
--- src/lib.rt:253:1
+-- src/lib.rt:238:1
 walk-either-returns-2 : (t : ℕ) → walk-either-lts.Need-returns-2 (
   put-reads.Asked,
   put-reads.Learnt,
@@ -1140,7 +1178,7 @@ walk-either-returns-2 : (t : ℕ) → walk-either-lts.Need-returns-2 (
 ) (walk-either-at t) walk-either.Post
 walk-either-returns-2 t c = ?
 
--- src/lib.rt:212:8
+-- src/lib.rt:197:8
 walk-hold-gives-word-requires : (t : ℕ) → walk-hold-lts.Need-gives-word-requires (
   gives-word-reads.Asked,
   gives-word-reads.Learnt,
@@ -1153,7 +1191,7 @@ walk-hold-gives-word-requires : (t : ℕ) → walk-hold-lts.Need-gives-word-requ
 ) (walk-hold-at t) walk-hold.Post
 walk-hold-gives-word-requires t c κs = ?
 
--- src/lib.rt:213:9
+-- src/lib.rt:198:9
 walk-hold-returns : (t : ℕ) → walk-hold-lts.Need-returns (
   gives-word-reads.Asked,
   gives-word-reads.Learnt,
@@ -1166,7 +1204,7 @@ walk-hold-returns : (t : ℕ) → walk-hold-lts.Need-returns (
 ) (walk-hold-at t) walk-hold.Post
 walk-hold-returns t c = ?
 
--- src/lib.rt:219:9
+-- src/lib.rt:204:9
 walk-hold-with-lock-requires : (t : ℕ) → walk-hold-lts.Need-with-lock-requires (
   gives-word-reads.Asked,
   gives-word-reads.Learnt,
@@ -1179,7 +1217,7 @@ walk-hold-with-lock-requires : (t : ℕ) → walk-hold-lts.Need-with-lock-requir
 ) (walk-hold-at t) walk-hold.Post
 walk-hold-with-lock-requires t c κs = ?
 
--- src/lib.rt:220:9
+-- src/lib.rt:205:9
 walk-hold-put-requires : (t : ℕ) → walk-hold-lts.Need-put-requires (
   gives-word-reads.Asked,
   gives-word-reads.Learnt,
@@ -1192,7 +1230,7 @@ walk-hold-put-requires : (t : ℕ) → walk-hold-lts.Need-put-requires (
 ) (walk-hold-at t) walk-hold.Post
 walk-hold-put-requires t c κs = ?
 
--- src/lib.rt:221:9
+-- src/lib.rt:206:9
 walk-hold-walk-requires : (t : ℕ) → walk-hold-lts.Need-walk-requires (
   gives-word-reads.Asked,
   gives-word-reads.Learnt,
@@ -1205,7 +1243,7 @@ walk-hold-walk-requires : (t : ℕ) → walk-hold-lts.Need-walk-requires (
 ) (walk-hold-at t) walk-hold.Post
 walk-hold-walk-requires t c κs = ?
 
--- src/lib.rt:223:9
+-- src/lib.rt:208:9
 walk-hold-same-length : (t : ℕ) → walk-hold-lts.Need-same-length (
   gives-word-reads.Asked,
   gives-word-reads.Learnt,
@@ -1218,7 +1256,7 @@ walk-hold-same-length : (t : ℕ) → walk-hold-lts.Need-same-length (
 ) (walk-hold-at t) walk-hold.Post
 walk-hold-same-length t c = ?
 
--- src/lib.rt:223:9
+-- src/lib.rt:208:9
 walk-hold-returns-2 : (t : ℕ) → walk-hold-lts.Need-returns-2 (
   gives-word-reads.Asked,
   gives-word-reads.Learnt,
@@ -1231,7 +1269,7 @@ walk-hold-returns-2 : (t : ℕ) → walk-hold-lts.Need-returns-2 (
 ) (walk-hold-at t) walk-hold.Post
 walk-hold-returns-2 t c = ?
 
--- src/lib.rt:225:9
+-- src/lib.rt:210:9
 walk-hold-put-requires-2 : (t : ℕ) → walk-hold-lts.Need-put-requires-2 (
   gives-word-reads.Asked,
   gives-word-reads.Learnt,
@@ -1244,7 +1282,7 @@ walk-hold-put-requires-2 : (t : ℕ) → walk-hold-lts.Need-put-requires-2 (
 ) (walk-hold-at t) walk-hold.Post
 walk-hold-put-requires-2 t c κs = ?
 
--- src/lib.rt:226:5
+-- src/lib.rt:211:5
 walk-hold-walk-requires-2 : (t : ℕ) → walk-hold-lts.Need-walk-requires-2 (
   gives-word-reads.Asked,
   gives-word-reads.Learnt,
@@ -1257,7 +1295,7 @@ walk-hold-walk-requires-2 : (t : ℕ) → walk-hold-lts.Need-walk-requires-2 (
 ) (walk-hold-at t) walk-hold.Post
 walk-hold-walk-requires-2 t c κs = ?
 
--- src/lib.rt:198:1
+-- src/lib.rt:183:1
 walk-hold-same-length-2 : (t : ℕ) → walk-hold-lts.Need-same-length-2 (
   gives-word-reads.Asked,
   gives-word-reads.Learnt,
@@ -1270,7 +1308,7 @@ walk-hold-same-length-2 : (t : ℕ) → walk-hold-lts.Need-same-length-2 (
 ) (walk-hold-at t) walk-hold.Post
 walk-hold-same-length-2 t c = ?
 
--- src/lib.rt:198:1
+-- src/lib.rt:183:1
 walk-hold-returns-3 : (t : ℕ) → walk-hold-lts.Need-returns-3 (
   gives-word-reads.Asked,
   gives-word-reads.Learnt,
@@ -1283,7 +1321,7 @@ walk-hold-returns-3 : (t : ℕ) → walk-hold-lts.Need-returns-3 (
 ) (walk-hold-at t) walk-hold.Post
 walk-hold-returns-3 t c = ?
 
--- src/lib.rt:243:9
+-- src/lib.rt:228:9
 walk-loop-put-requires : (t : ℕ) → walk-loop-lts.Need-put-requires (
   put-reads.Asked,
   put-reads.Learnt,
@@ -1292,7 +1330,7 @@ walk-loop-put-requires : (t : ℕ) → walk-loop-lts.Need-put-requires (
 ) (walk-loop-at t) walk-loop.Post
 walk-loop-put-requires t c κs = ?
 
--- src/lib.rt:244:9
+-- src/lib.rt:229:9
 walk-loop-walk-requires : (t : ℕ) → walk-loop-lts.Need-walk-requires (
   put-reads.Asked,
   put-reads.Learnt,
@@ -1301,7 +1339,7 @@ walk-loop-walk-requires : (t : ℕ) → walk-loop-lts.Need-walk-requires (
 ) (walk-loop-at t) walk-loop.Post
 walk-loop-walk-requires t c κs = ?
 
--- src/lib.rt:246:9
+-- src/lib.rt:231:9
 walk-loop-same-length : (t : ℕ) → walk-loop-lts.Need-same-length (
   put-reads.Asked,
   put-reads.Learnt,
@@ -1310,7 +1348,7 @@ walk-loop-same-length : (t : ℕ) → walk-loop-lts.Need-same-length (
 ) (walk-loop-at t) walk-loop.Post
 walk-loop-same-length t c = ?
 
--- src/lib.rt:246:9
+-- src/lib.rt:231:9
 walk-loop-returns : (t : ℕ) → walk-loop-lts.Need-returns (
   put-reads.Asked,
   put-reads.Learnt,
@@ -1319,7 +1357,7 @@ walk-loop-returns : (t : ℕ) → walk-loop-lts.Need-returns (
 ) (walk-loop-at t) walk-loop.Post
 walk-loop-returns t c = ?
 
--- src/lib.rt:248:9
+-- src/lib.rt:233:9
 walk-loop-put-requires-2 : (t : ℕ) → walk-loop-lts.Need-put-requires-2 (
   put-reads.Asked,
   put-reads.Learnt,
@@ -1328,7 +1366,7 @@ walk-loop-put-requires-2 : (t : ℕ) → walk-loop-lts.Need-put-requires-2 (
 ) (walk-loop-at t) walk-loop.Post
 walk-loop-put-requires-2 t c κs = ?
 
--- src/lib.rt:249:5
+-- src/lib.rt:234:5
 walk-loop-walk-requires-2 : (t : ℕ) → walk-loop-lts.Need-walk-requires-2 (
   put-reads.Asked,
   put-reads.Learnt,
@@ -1337,7 +1375,7 @@ walk-loop-walk-requires-2 : (t : ℕ) → walk-loop-lts.Need-walk-requires-2 (
 ) (walk-loop-at t) walk-loop.Post
 walk-loop-walk-requires-2 t c κs = ?
 
--- src/lib.rt:230:1
+-- src/lib.rt:215:1
 walk-loop-same-length-2 : (t : ℕ) → walk-loop-lts.Need-same-length-2 (
   put-reads.Asked,
   put-reads.Learnt,
@@ -1346,7 +1384,7 @@ walk-loop-same-length-2 : (t : ℕ) → walk-loop-lts.Need-same-length-2 (
 ) (walk-loop-at t) walk-loop.Post
 walk-loop-same-length-2 t c = ?
 
--- src/lib.rt:230:1
+-- src/lib.rt:215:1
 walk-loop-returns-2 : (t : ℕ) → walk-loop-lts.Need-returns-2 (
   put-reads.Asked,
   put-reads.Learnt,
@@ -1355,7 +1393,7 @@ walk-loop-returns-2 : (t : ℕ) → walk-loop-lts.Need-returns-2 (
 ) (walk-loop-at t) walk-loop.Post
 walk-loop-returns-2 t c = ?
 
--- src/lib.rt:158:9
+-- src/lib.rt:143:9
 walk-skip-put-requires : (t : ℕ) → walk-skip-lts.Need-put-requires (
   put-reads.Asked,
   put-reads.Learnt,
@@ -1364,7 +1402,7 @@ walk-skip-put-requires : (t : ℕ) → walk-skip-lts.Need-put-requires (
 ) (walk-skip-at t) walk-skip.Post
 walk-skip-put-requires t c κs = ?
 
--- src/lib.rt:159:5
+-- src/lib.rt:144:5
 walk-skip-walk-requires : (t : ℕ) → walk-skip-lts.Need-walk-requires (
   put-reads.Asked,
   put-reads.Learnt,
@@ -1373,7 +1411,7 @@ walk-skip-walk-requires : (t : ℕ) → walk-skip-lts.Need-walk-requires (
 ) (walk-skip-at t) walk-skip.Post
 walk-skip-walk-requires t c κs = ?
 
--- src/lib.rt:145:1
+-- src/lib.rt:130:1
 walk-skip-same-length : (t : ℕ) → walk-skip-lts.Need-same-length (
   put-reads.Asked,
   put-reads.Learnt,
@@ -1382,7 +1420,7 @@ walk-skip-same-length : (t : ℕ) → walk-skip-lts.Need-same-length (
 ) (walk-skip-at t) walk-skip.Post
 walk-skip-same-length t c = ?
 
--- src/lib.rt:145:1
+-- src/lib.rt:130:1
 walk-skip-returns : (t : ℕ) → walk-skip-lts.Need-returns (
   put-reads.Asked,
   put-reads.Learnt,
@@ -1391,7 +1429,7 @@ walk-skip-returns : (t : ℕ) → walk-skip-lts.Need-returns (
 ) (walk-skip-at t) walk-skip.Post
 walk-skip-returns t c = ?
 
--- src/lib.rt:288:9
+-- src/lib.rt:273:9
 walk-two-put-requires : (t : ℕ) → walk-two-lts.Need-put-requires (
   put-reads.Asked,
   put-reads.Learnt,
@@ -1402,7 +1440,7 @@ walk-two-put-requires : (t : ℕ) → walk-two-lts.Need-put-requires (
 ) (walk-two-at t) walk-two.Post
 walk-two-put-requires t c κs = ?
 
--- src/lib.rt:289:42
+-- src/lib.rt:274:42
 walk-two-after-requires : (t : ℕ) → walk-two-lts.Need-after-requires (
   put-reads.Asked,
   put-reads.Learnt,
@@ -1413,7 +1451,7 @@ walk-two-after-requires : (t : ℕ) → walk-two-lts.Need-after-requires (
 ) (walk-two-at t) walk-two.Post
 walk-two-after-requires t c κs = ?
 
--- src/lib.rt:289:9
+-- src/lib.rt:274:9
 walk-two-walk-requires : (t : ℕ) → walk-two-lts.Need-walk-requires (
   put-reads.Asked,
   put-reads.Learnt,
@@ -1424,7 +1462,7 @@ walk-two-walk-requires : (t : ℕ) → walk-two-lts.Need-walk-requires (
 ) (walk-two-at t) walk-two.Post
 walk-two-walk-requires t c κs = ?
 
--- src/lib.rt:291:9
+-- src/lib.rt:276:9
 walk-two-same-length : (t : ℕ) → walk-two-lts.Need-same-length (
   put-reads.Asked,
   put-reads.Learnt,
@@ -1435,7 +1473,7 @@ walk-two-same-length : (t : ℕ) → walk-two-lts.Need-same-length (
 ) (walk-two-at t) walk-two.Post
 walk-two-same-length t c = ?
 
--- src/lib.rt:291:9
+-- src/lib.rt:276:9
 walk-two-returns : (t : ℕ) → walk-two-lts.Need-returns (
   put-reads.Asked,
   put-reads.Learnt,
@@ -1446,7 +1484,7 @@ walk-two-returns : (t : ℕ) → walk-two-lts.Need-returns (
 ) (walk-two-at t) walk-two.Post
 walk-two-returns t c = ?
 
--- src/lib.rt:297:9
+-- src/lib.rt:282:9
 walk-two-after-requires-2 : (t : ℕ) → walk-two-lts.Need-after-requires-2 (
   put-reads.Asked,
   put-reads.Learnt,
@@ -1457,7 +1495,7 @@ walk-two-after-requires-2 : (t : ℕ) → walk-two-lts.Need-after-requires-2 (
 ) (walk-two-at t) walk-two.Post
 walk-two-after-requires-2 t c κs = ?
 
--- src/lib.rt:293:5
+-- src/lib.rt:278:5
 walk-two-walk-requires-2 : (t : ℕ) → walk-two-lts.Need-walk-requires-2 (
   put-reads.Asked,
   put-reads.Learnt,
@@ -1468,7 +1506,7 @@ walk-two-walk-requires-2 : (t : ℕ) → walk-two-lts.Need-walk-requires-2 (
 ) (walk-two-at t) walk-two.Post
 walk-two-walk-requires-2 t c κs = ?
 
--- src/lib.rt:275:1
+-- src/lib.rt:260:1
 walk-two-same-length-2 : (t : ℕ) → walk-two-lts.Need-same-length-2 (
   put-reads.Asked,
   put-reads.Learnt,
@@ -1479,7 +1517,7 @@ walk-two-same-length-2 : (t : ℕ) → walk-two-lts.Need-same-length-2 (
 ) (walk-two-at t) walk-two.Post
 walk-two-same-length-2 t c = ?
 
--- src/lib.rt:275:1
+-- src/lib.rt:260:1
 walk-two-returns-2 : (t : ℕ) → walk-two-lts.Need-returns-2 (
   put-reads.Asked,
   put-reads.Learnt,
@@ -1502,6 +1540,8 @@ pub +walk+walk-call+walk-either+walk-hold+walk-loop+walk-skip+walk-two-spec :
     μ-walk-skip
     μ-walk-two
     (λ t. walk-lts.spec (
+      passed-reads.Asked,
+      passed-reads.Learnt,
       form-at-reads.Asked,
       form-at-reads.Learnt,
       walk-skip-below t,
@@ -1517,37 +1557,34 @@ pub +walk+walk-call+walk-either+walk-hold+walk-loop+walk-skip+walk-two-spec :
     )
     (walk-at t)
     walk.Post
+    (walk-passed-requires t)
     (walk-returns t)
     (walk-mul-form-at t)
     (walk-shared-slice-read-form-at t)
     (walk-form-at-requires t)
+    (walk-add-next t)
     (walk-enum-told t)
-    (walk-add-t17 t)
+    (walk-passed-requires-2 t)
     (walk-enum-told-2 t)
-    (walk-add-t18 t)
+    (walk-passed-requires-3 t)
     (walk-enum-told-3 t)
-    (walk-add-t19 t)
+    (walk-passed-requires-4 t)
     (walk-enum-told-4 t)
-    (walk-add-t20 t)
+    (walk-passed-requires-5 t)
     (walk-enum-told-5 t)
-    (walk-add-walk-skip t)
     (walk-walk-skip-requires t)
     (walk-enum-known-form t)
-    (walk-add-walk-call t)
     (walk-walk-call-requires t)
     (walk-enum-known-form-2 t)
-    (walk-add-walk-hold t)
     (walk-walk-hold-requires t)
     (walk-enum-told-6 t)
-    (walk-add-walk-loop t)
     (walk-walk-loop-requires t)
     (walk-enum-told-7 t)
-    (walk-add-walk-either t)
     (walk-walk-either-requires t)
     (walk-enum-told-8 t)
-    (walk-add-t36 t)
+    (walk-passed-requires-6 t)
     (walk-enum-told-9 t)
-    (walk-add-t37 t)
+    (walk-passed-requires-7 t)
     (walk-returns-2 t)
     (walk-returns-3 t)
     (walk-returns-4 t)

@@ -1,3 +1,5 @@
+-- The meet with the mask of one lock is 0 where the lock is not in the set.
+use Rattle.paths.proofs.Locks.{gives-not, gives-tested}
 use borrow.Author.Needs.{needs}
 use Rattle.paths.proofs.gives_word.Statement.{statement}
 use Rattle.paths.proofs.gives_word.Tie as tie
@@ -11,7 +13,7 @@ lock-bit-requires c κs = search needs
 
 -- src/lib.rt:45:9
 returns : tie.Need-returns
-returns c = ?
+returns c = gives-not _ _ _ _ (c .before .lock-bit .ensures .1) (c .if1 .taken)
 
 -- src/lib.rt:47:5
 mul-result : tie.Need-mul-result
@@ -23,7 +25,7 @@ add-result c = search needs
 
 -- src/lib.rt:40:1
 returns-2 : tie.Need-returns-2
-returns-2 c = ?
+returns-2 c = gives-tested _ _ _ _ (c .before .lock-bit .ensures .1) (c .if1 .left)
 
 pub gives-word-spec : {M : Type 1} → statement M
 gives-word-spec = tie.close (tie.spec lock-bit-requires returns mul-result add-result returns-2)

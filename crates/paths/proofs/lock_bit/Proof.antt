@@ -1,3 +1,5 @@
+-- A shift of 1 by less than 64 is a power of two.
+use Rattle.paths.proofs.Locks.{bit-shifted}
 use borrow.Author.Needs.{needs}
 use Rattle.paths.proofs.lock_bit.Statement.{statement}
 use Rattle.paths.proofs.lock_bit.Tie as tie
@@ -10,7 +12,7 @@ shl-result c = search needs
 
 -- src/lib.rt:26:9
 returns : tie.Need-returns
-returns c = ?
+returns c = search (bit-shifted, needs)
 
 -- src/lib.rt:22:1
 returns-2 : tie.Need-returns-2

@@ -1,3 +1,5 @@
+-- What is stored at n is the next entry behind the first n.
+use Rattle.paths.proofs.Buffers.{put-stored, put-full}
 use borrow.Author.Needs.{needs}
 use Rattle.paths.proofs.put.Statement.{statement}
 use Rattle.paths.proofs.put.Tie as tie
@@ -30,11 +32,11 @@ same-length c = search needs
 
 -- src/lib.rt:57:9
 returns : tie.Need-returns
-returns c = ?
+returns c = search (put-stored, needs)
 
 -- src/lib.rt:51:1
 returns-2 : tie.Need-returns-2
-returns-2 c = ?
+returns-2 c = search (put-full, needs)
 
 pub put-spec : {M : Type 1} → statement M
 put-spec =
