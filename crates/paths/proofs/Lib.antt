@@ -4,3 +4,4 @@ pub mod Blocks
 pub mod Buffers
 pub mod Walking
 pub mod Wishes
+pub mod Measure

@@ -1,3 +1,18 @@
+-- The measure falls.
+use borrow.Author.Needs.{needs}
+use native.Mathlib.Omega.{arith}
+use Prim.Native.Nat.{_+_, _*_, _-_}
+use lib.ListN.{length}
+use denote.Ref.{now}
+use native.Mathlib.Nat.{le-refl, le-trans}
+use mathlib.Core.Path.{refl}
+use Rattle.text.specs.declared.Form.the-variants.{Plan, Proc, Thread, Close, Skip, Call, Hold, Loop, Either, One, Two}
+use Rattle.paths.proofs.Blocks.{inBlock}
+use Rattle.paths.proofs.Measure.{measure, forward-falls, here-falls, deeper-falls}
+use Rattle.paths.proofs.Buffers.{ready-next, ready-back}
+use Rattle.paths.proofs.Walking.{ended-walks, other-walks, close-walks, walks-at, skip-walks, call-walks-none, call-walks-found, call-walks-past}
+use Rattle.paths.proofs.Walking.{hold-walks-here, hold-walks-found, hold-walks-past, loop-walks-found, loop-walks-past}
+use Rattle.paths.proofs.Walking.{one-walks-found, one-walks-past, two-walks-found, two-walks-past}
 use Prim.Native.Nat.{ℕ, _<_}
 use borrow.Fn.Kinds.{In}
 use borrow.Fn.PlainCycle.{Measures, is, falls, and}
@@ -37,25 +52,25 @@ use Rattle.paths.proofs.+walk+walk_call+walk_either+walk_hold+walk_loop
 }
 
 abbrev μ-walk : Measures 3 walk-kinds.ps ℕ
-μ-walk κs a = ?
+μ-walk κs a = measure (a .1 .1 .0) (length (now (a .0))) (a .1 .1 .1 .0) 0
 
 abbrev μ-walk-call : Measures 3 walk-call-kinds.ps ℕ
-μ-walk-call κs a = ?
+μ-walk-call κs a = measure (a .1 .1 .0) (length (now (a .0))) (a .1 .1 .1 .0) 2
 
 abbrev μ-walk-either : Measures 3 walk-either-kinds.ps ℕ
-μ-walk-either κs a = ?
+μ-walk-either κs a = measure (a .1 .1 .0) (length (now (a .0))) (a .1 .1 .1 .0) 2
 
 abbrev μ-walk-hold : Measures 3 walk-hold-kinds.ps ℕ
-μ-walk-hold κs a = ?
+μ-walk-hold κs a = measure (a .1 .1 .0) (length (now (a .0))) (a .1 .1 .1 .0) 2
 
 abbrev μ-walk-loop : Measures 3 walk-loop-kinds.ps ℕ
-μ-walk-loop κs a = ?
+μ-walk-loop κs a = measure (a .1 .1 .0) (length (now (a .0))) (a .1 .1 .1 .0) 2
 
 abbrev μ-walk-skip : Measures 3 walk-skip-kinds.ps ℕ
-μ-walk-skip κs a = ?
+μ-walk-skip κs a = measure (a .1 .1 .0) (length (now (a .0))) (a .1 .1 .1 .0) 2
 
 abbrev μ-walk-two : Measures 3 walk-two-kinds.ps ℕ
-μ-walk-two κs a = ?
+μ-walk-two κs a = measure (a .1 .1 .0) (length (now (a .0))) (a .1 .1 .1 .0) 1
 
 abbrev walk-at : ℕ → In 3 walk-kinds.ps
 walk-at t = and 3 walk-kinds.ps (is 3 walk-kinds.ps μ-walk t) walk.Pre
@@ -106,1427 +121,319 @@ abbrev walk-two-below : ℕ → In 3 walk-two-kinds.ps
 walk-two-below t =
     and 3 walk-two-kinds.ps (falls 3 walk-two-kinds.ps _<_ μ-walk-two t) walk-two.Pre
 
--- src/lib.rt:110:9
-walk-passed-requires : (t : ℕ) → walk-lts.Need-passed-requires (
-  passed-reads.Asked,
-  passed-reads.Learnt,
-  form-at-reads.Asked,
-  form-at-reads.Learnt,
-  walk-skip-below t,
-  walk-skip.Post,
-  walk-call-below t,
-  walk-call.Post,
-  walk-hold-below t,
-  walk-hold.Post,
-  walk-loop-below t,
-  walk-loop.Post,
-  walk-either-below t,
-  walk-either.Post,
-) (walk-at t) walk.Post
-walk-passed-requires t c κs = ?
-
--- src/lib.rt:110:9
-walk-returns : (t : ℕ) → walk-lts.Need-returns (
-  passed-reads.Asked,
-  passed-reads.Learnt,
-  form-at-reads.Asked,
-  form-at-reads.Learnt,
-  walk-skip-below t,
-  walk-skip.Post,
-  walk-call-below t,
-  walk-call.Post,
-  walk-hold-below t,
-  walk-hold.Post,
-  walk-loop-below t,
-  walk-loop.Post,
-  walk-either-below t,
-  walk-either.Post,
-) (walk-at t) walk.Post
-walk-returns t c = ?
-
--- src/lib.rt:112:30
-walk-mul-form-at : (t : ℕ) → walk-lts.Need-mul-form-at (
-  passed-reads.Asked,
-  passed-reads.Learnt,
-  form-at-reads.Asked,
-  form-at-reads.Learnt,
-  walk-skip-below t,
-  walk-skip.Post,
-  walk-call-below t,
-  walk-call.Post,
-  walk-hold-below t,
-  walk-hold.Post,
-  walk-loop-below t,
-  walk-loop.Post,
-  walk-either-below t,
-  walk-either.Post,
-) (walk-at t) walk.Post
-walk-mul-form-at t c = ?
-
--- src/lib.rt:112:30
-walk-shared-slice-read-form-at : (t : ℕ) → walk-lts.Need-shared-slice-read-form-at (
-  passed-reads.Asked,
-  passed-reads.Learnt,
-  form-at-reads.Asked,
-  form-at-reads.Learnt,
-  walk-skip-below t,
-  walk-skip.Post,
-  walk-call-below t,
-  walk-call.Post,
-  walk-hold-below t,
-  walk-hold.Post,
-  walk-loop-below t,
-  walk-loop.Post,
-  walk-either-below t,
-  walk-either.Post,
-) (walk-at t) walk.Post
-walk-shared-slice-read-form-at t c = ?
-
--- src/lib.rt:112:9
-walk-form-at-requires : (t : ℕ) → walk-lts.Need-form-at-requires (
-  passed-reads.Asked,
-  passed-reads.Learnt,
-  form-at-reads.Asked,
-  form-at-reads.Learnt,
-  walk-skip-below t,
-  walk-skip.Post,
-  walk-call-below t,
-  walk-call.Post,
-  walk-hold-below t,
-  walk-hold.Post,
-  walk-loop-below t,
-  walk-loop.Post,
-  walk-either-below t,
-  walk-either.Post,
-) (walk-at t) walk.Post
-walk-form-at-requires t c κs = ?
-
--- src/lib.rt:113:16
-walk-add-next : (t : ℕ) → walk-lts.Need-add-next (
-  passed-reads.Asked,
-  passed-reads.Learnt,
-  form-at-reads.Asked,
-  form-at-reads.Learnt,
-  walk-skip-below t,
-  walk-skip.Post,
-  walk-call-below t,
-  walk-call.Post,
-  walk-hold-below t,
-  walk-hold.Post,
-  walk-loop-below t,
-  walk-loop.Post,
-  walk-either-below t,
-  walk-either.Post,
-) (walk-at t) walk.Post
-walk-add-next t c = ?
-
--- src/lib.rt:115:23
-walk-enum-told : (t : ℕ) → walk-lts.Need-enum-told (
-  passed-reads.Asked,
-  passed-reads.Learnt,
-  form-at-reads.Asked,
-  form-at-reads.Learnt,
-  walk-skip-below t,
-  walk-skip.Post,
-  walk-call-below t,
-  walk-call.Post,
-  walk-hold-below t,
-  walk-hold.Post,
-  walk-loop-below t,
-  walk-loop.Post,
-  walk-either-below t,
-  walk-either.Post,
-) (walk-at t) walk.Post
-walk-enum-told t c = ?
-
--- src/lib.rt:115:23
-walk-passed-requires-2 : (t : ℕ) → walk-lts.Need-passed-requires-2 (
-  passed-reads.Asked,
-  passed-reads.Learnt,
-  form-at-reads.Asked,
-  form-at-reads.Learnt,
-  walk-skip-below t,
-  walk-skip.Post,
-  walk-call-below t,
-  walk-call.Post,
-  walk-hold-below t,
-  walk-hold.Post,
-  walk-loop-below t,
-  walk-loop.Post,
-  walk-either-below t,
-  walk-either.Post,
-) (walk-at t) walk.Post
-walk-passed-requires-2 t c κs = ?
-
--- src/lib.rt:116:23
-walk-enum-told-2 : (t : ℕ) → walk-lts.Need-enum-told-2 (
-  passed-reads.Asked,
-  passed-reads.Learnt,
-  form-at-reads.Asked,
-  form-at-reads.Learnt,
-  walk-skip-below t,
-  walk-skip.Post,
-  walk-call-below t,
-  walk-call.Post,
-  walk-hold-below t,
-  walk-hold.Post,
-  walk-loop-below t,
-  walk-loop.Post,
-  walk-either-below t,
-  walk-either.Post,
-) (walk-at t) walk.Post
-walk-enum-told-2 t c = ?
-
--- src/lib.rt:116:23
-walk-passed-requires-3 : (t : ℕ) → walk-lts.Need-passed-requires-3 (
-  passed-reads.Asked,
-  passed-reads.Learnt,
-  form-at-reads.Asked,
-  form-at-reads.Learnt,
-  walk-skip-below t,
-  walk-skip.Post,
-  walk-call-below t,
-  walk-call.Post,
-  walk-hold-below t,
-  walk-hold.Post,
-  walk-loop-below t,
-  walk-loop.Post,
-  walk-either-below t,
-  walk-either.Post,
-) (walk-at t) walk.Post
-walk-passed-requires-3 t c κs = ?
-
--- src/lib.rt:117:28
-walk-enum-told-3 : (t : ℕ) → walk-lts.Need-enum-told-3 (
-  passed-reads.Asked,
-  passed-reads.Learnt,
-  form-at-reads.Asked,
-  form-at-reads.Learnt,
-  walk-skip-below t,
-  walk-skip.Post,
-  walk-call-below t,
-  walk-call.Post,
-  walk-hold-below t,
-  walk-hold.Post,
-  walk-loop-below t,
-  walk-loop.Post,
-  walk-either-below t,
-  walk-either.Post,
-) (walk-at t) walk.Post
-walk-enum-told-3 t c = ?
-
--- src/lib.rt:117:28
-walk-passed-requires-4 : (t : ℕ) → walk-lts.Need-passed-requires-4 (
-  passed-reads.Asked,
-  passed-reads.Learnt,
-  form-at-reads.Asked,
-  form-at-reads.Learnt,
-  walk-skip-below t,
-  walk-skip.Post,
-  walk-call-below t,
-  walk-call.Post,
-  walk-hold-below t,
-  walk-hold.Post,
-  walk-loop-below t,
-  walk-loop.Post,
-  walk-either-below t,
-  walk-either.Post,
-) (walk-at t) walk.Post
-walk-passed-requires-4 t c κs = ?
-
--- src/lib.rt:118:24
-walk-enum-told-4 : (t : ℕ) → walk-lts.Need-enum-told-4 (
-  passed-reads.Asked,
-  passed-reads.Learnt,
-  form-at-reads.Asked,
-  form-at-reads.Learnt,
-  walk-skip-below t,
-  walk-skip.Post,
-  walk-call-below t,
-  walk-call.Post,
-  walk-hold-below t,
-  walk-hold.Post,
-  walk-loop-below t,
-  walk-loop.Post,
-  walk-either-below t,
-  walk-either.Post,
-) (walk-at t) walk.Post
-walk-enum-told-4 t c = ?
-
--- src/lib.rt:118:24
-walk-passed-requires-5 : (t : ℕ) → walk-lts.Need-passed-requires-5 (
-  passed-reads.Asked,
-  passed-reads.Learnt,
-  form-at-reads.Asked,
-  form-at-reads.Learnt,
-  walk-skip-below t,
-  walk-skip.Post,
-  walk-call-below t,
-  walk-call.Post,
-  walk-hold-below t,
-  walk-hold.Post,
-  walk-loop-below t,
-  walk-loop.Post,
-  walk-either-below t,
-  walk-either.Post,
-) (walk-at t) walk.Post
-walk-passed-requires-5 t c κs = ?
-
--- src/lib.rt:119:73
-walk-enum-told-5 : (t : ℕ) → walk-lts.Need-enum-told-5 (
-  passed-reads.Asked,
-  passed-reads.Learnt,
-  form-at-reads.Asked,
-  form-at-reads.Learnt,
-  walk-skip-below t,
-  walk-skip.Post,
-  walk-call-below t,
-  walk-call.Post,
-  walk-hold-below t,
-  walk-hold.Post,
-  walk-loop-below t,
-  walk-loop.Post,
-  walk-either-below t,
-  walk-either.Post,
-) (walk-at t) walk.Post
-walk-enum-told-5 t c = ?
-
--- src/lib.rt:119:23
-walk-walk-skip-requires : (t : ℕ) → walk-lts.Need-walk-skip-requires (
-  passed-reads.Asked,
-  passed-reads.Learnt,
-  form-at-reads.Asked,
-  form-at-reads.Learnt,
-  walk-skip-below t,
-  walk-skip.Post,
-  walk-call-below t,
-  walk-call.Post,
-  walk-hold-below t,
-  walk-hold.Post,
-  walk-loop-below t,
-  walk-loop.Post,
-  walk-either-below t,
-  walk-either.Post,
-) (walk-at t) walk.Post
-walk-walk-skip-requires t c κs = ?
-
--- src/lib.rt:120:20
-walk-enum-known-form : (t : ℕ) → walk-lts.Need-enum-known-form (
-  passed-reads.Asked,
-  passed-reads.Learnt,
-  form-at-reads.Asked,
-  form-at-reads.Learnt,
-  walk-skip-below t,
-  walk-skip.Post,
-  walk-call-below t,
-  walk-call.Post,
-  walk-hold-below t,
-  walk-hold.Post,
-  walk-loop-below t,
-  walk-loop.Post,
-  walk-either-below t,
-  walk-either.Post,
-) (walk-at t) walk.Post
-walk-enum-known-form t c = ?
-
--- src/lib.rt:120:26
-walk-walk-call-requires : (t : ℕ) → walk-lts.Need-walk-call-requires (
-  passed-reads.Asked,
-  passed-reads.Learnt,
-  form-at-reads.Asked,
-  form-at-reads.Learnt,
-  walk-skip-below t,
-  walk-skip.Post,
-  walk-call-below t,
-  walk-call.Post,
-  walk-hold-below t,
-  walk-hold.Post,
-  walk-loop-below t,
-  walk-loop.Post,
-  walk-either-below t,
-  walk-either.Post,
-) (walk-at t) walk.Post
-walk-walk-call-requires t c κs = ?
-
--- src/lib.rt:121:20
-walk-enum-known-form-2 : (t : ℕ) → walk-lts.Need-enum-known-form-2 (
-  passed-reads.Asked,
-  passed-reads.Learnt,
-  form-at-reads.Asked,
-  form-at-reads.Learnt,
-  walk-skip-below t,
-  walk-skip.Post,
-  walk-call-below t,
-  walk-call.Post,
-  walk-hold-below t,
-  walk-hold.Post,
-  walk-loop-below t,
-  walk-loop.Post,
-  walk-either-below t,
-  walk-either.Post,
-) (walk-at t) walk.Post
-walk-enum-known-form-2 t c = ?
-
--- src/lib.rt:121:26
-walk-walk-hold-requires : (t : ℕ) → walk-lts.Need-walk-hold-requires (
-  passed-reads.Asked,
-  passed-reads.Learnt,
-  form-at-reads.Asked,
-  form-at-reads.Learnt,
-  walk-skip-below t,
-  walk-skip.Post,
-  walk-call-below t,
-  walk-call.Post,
-  walk-hold-below t,
-  walk-hold.Post,
-  walk-loop-below t,
-  walk-loop.Post,
-  walk-either-below t,
-  walk-either.Post,
-) (walk-at t) walk.Post
-walk-walk-hold-requires t c κs = ?
-
--- src/lib.rt:122:73
-walk-enum-told-6 : (t : ℕ) → walk-lts.Need-enum-told-6 (
-  passed-reads.Asked,
-  passed-reads.Learnt,
-  form-at-reads.Asked,
-  form-at-reads.Learnt,
-  walk-skip-below t,
-  walk-skip.Post,
-  walk-call-below t,
-  walk-call.Post,
-  walk-hold-below t,
-  walk-hold.Post,
-  walk-loop-below t,
-  walk-loop.Post,
-  walk-either-below t,
-  walk-either.Post,
-) (walk-at t) walk.Post
-walk-enum-told-6 t c = ?
-
--- src/lib.rt:122:23
-walk-walk-loop-requires : (t : ℕ) → walk-lts.Need-walk-loop-requires (
-  passed-reads.Asked,
-  passed-reads.Learnt,
-  form-at-reads.Asked,
-  form-at-reads.Learnt,
-  walk-skip-below t,
-  walk-skip.Post,
-  walk-call-below t,
-  walk-call.Post,
-  walk-hold-below t,
-  walk-hold.Post,
-  walk-loop-below t,
-  walk-loop.Post,
-  walk-either-below t,
-  walk-either.Post,
-) (walk-at t) walk.Post
-walk-walk-loop-requires t c κs = ?
-
--- src/lib.rt:123:77
-walk-enum-told-7 : (t : ℕ) → walk-lts.Need-enum-told-7 (
-  passed-reads.Asked,
-  passed-reads.Learnt,
-  form-at-reads.Asked,
-  form-at-reads.Learnt,
-  walk-skip-below t,
-  walk-skip.Post,
-  walk-call-below t,
-  walk-call.Post,
-  walk-hold-below t,
-  walk-hold.Post,
-  walk-loop-below t,
-  walk-loop.Post,
-  walk-either-below t,
-  walk-either.Post,
-) (walk-at t) walk.Post
-walk-enum-told-7 t c = ?
-
--- src/lib.rt:123:25
-walk-walk-either-requires : (t : ℕ) → walk-lts.Need-walk-either-requires (
-  passed-reads.Asked,
-  passed-reads.Learnt,
-  form-at-reads.Asked,
-  form-at-reads.Learnt,
-  walk-skip-below t,
-  walk-skip.Post,
-  walk-call-below t,
-  walk-call.Post,
-  walk-hold-below t,
-  walk-hold.Post,
-  walk-loop-below t,
-  walk-loop.Post,
-  walk-either-below t,
-  walk-either.Post,
-) (walk-at t) walk.Post
-walk-walk-either-requires t c κs = ?
-
--- src/lib.rt:124:22
-walk-enum-told-8 : (t : ℕ) → walk-lts.Need-enum-told-8 (
-  passed-reads.Asked,
-  passed-reads.Learnt,
-  form-at-reads.Asked,
-  form-at-reads.Learnt,
-  walk-skip-below t,
-  walk-skip.Post,
-  walk-call-below t,
-  walk-call.Post,
-  walk-hold-below t,
-  walk-hold.Post,
-  walk-loop-below t,
-  walk-loop.Post,
-  walk-either-below t,
-  walk-either.Post,
-) (walk-at t) walk.Post
-walk-enum-told-8 t c = ?
-
--- src/lib.rt:124:22
-walk-passed-requires-6 : (t : ℕ) → walk-lts.Need-passed-requires-6 (
-  passed-reads.Asked,
-  passed-reads.Learnt,
-  form-at-reads.Asked,
-  form-at-reads.Learnt,
-  walk-skip-below t,
-  walk-skip.Post,
-  walk-call-below t,
-  walk-call.Post,
-  walk-hold-below t,
-  walk-hold.Post,
-  walk-loop-below t,
-  walk-loop.Post,
-  walk-either-below t,
-  walk-either.Post,
-) (walk-at t) walk.Post
-walk-passed-requires-6 t c κs = ?
-
--- src/lib.rt:125:22
-walk-enum-told-9 : (t : ℕ) → walk-lts.Need-enum-told-9 (
-  passed-reads.Asked,
-  passed-reads.Learnt,
-  form-at-reads.Asked,
-  form-at-reads.Learnt,
-  walk-skip-below t,
-  walk-skip.Post,
-  walk-call-below t,
-  walk-call.Post,
-  walk-hold-below t,
-  walk-hold.Post,
-  walk-loop-below t,
-  walk-loop.Post,
-  walk-either-below t,
-  walk-either.Post,
-) (walk-at t) walk.Post
-walk-enum-told-9 t c = ?
-
--- src/lib.rt:125:22
-walk-passed-requires-7 : (t : ℕ) → walk-lts.Need-passed-requires-7 (
-  passed-reads.Asked,
-  passed-reads.Learnt,
-  form-at-reads.Asked,
-  form-at-reads.Learnt,
-  walk-skip-below t,
-  walk-skip.Post,
-  walk-call-below t,
-  walk-call.Post,
-  walk-hold-below t,
-  walk-hold.Post,
-  walk-loop-below t,
-  walk-loop.Post,
-  walk-either-below t,
-  walk-either.Post,
-) (walk-at t) walk.Post
-walk-passed-requires-7 t c κs = ?
-
--- src/lib.rt:96:1
-walk-returns-2 : (t : ℕ) → walk-lts.Need-returns-2 (
-  passed-reads.Asked,
-  passed-reads.Learnt,
-  form-at-reads.Asked,
-  form-at-reads.Learnt,
-  walk-skip-below t,
-  walk-skip.Post,
-  walk-call-below t,
-  walk-call.Post,
-  walk-hold-below t,
-  walk-hold.Post,
-  walk-loop-below t,
-  walk-loop.Post,
-  walk-either-below t,
-  walk-either.Post,
-) (walk-at t) walk.Post
-walk-returns-2 t c = ?
-
--- src/lib.rt:96:1
-walk-returns-3 : (t : ℕ) → walk-lts.Need-returns-3 (
-  passed-reads.Asked,
-  passed-reads.Learnt,
-  form-at-reads.Asked,
-  form-at-reads.Learnt,
-  walk-skip-below t,
-  walk-skip.Post,
-  walk-call-below t,
-  walk-call.Post,
-  walk-hold-below t,
-  walk-hold.Post,
-  walk-loop-below t,
-  walk-loop.Post,
-  walk-either-below t,
-  walk-either.Post,
-) (walk-at t) walk.Post
-walk-returns-3 t c = ?
-
--- src/lib.rt:96:1
-walk-returns-4 : (t : ℕ) → walk-lts.Need-returns-4 (
-  passed-reads.Asked,
-  passed-reads.Learnt,
-  form-at-reads.Asked,
-  form-at-reads.Learnt,
-  walk-skip-below t,
-  walk-skip.Post,
-  walk-call-below t,
-  walk-call.Post,
-  walk-hold-below t,
-  walk-hold.Post,
-  walk-loop-below t,
-  walk-loop.Post,
-  walk-either-below t,
-  walk-either.Post,
-) (walk-at t) walk.Post
-walk-returns-4 t c = ?
-
--- src/lib.rt:96:1
-walk-returns-5 : (t : ℕ) → walk-lts.Need-returns-5 (
-  passed-reads.Asked,
-  passed-reads.Learnt,
-  form-at-reads.Asked,
-  form-at-reads.Learnt,
-  walk-skip-below t,
-  walk-skip.Post,
-  walk-call-below t,
-  walk-call.Post,
-  walk-hold-below t,
-  walk-hold.Post,
-  walk-loop-below t,
-  walk-loop.Post,
-  walk-either-below t,
-  walk-either.Post,
-) (walk-at t) walk.Post
-walk-returns-5 t c = ?
-
--- src/lib.rt:96:1
-walk-same-length : (t : ℕ) → walk-lts.Need-same-length (
-  passed-reads.Asked,
-  passed-reads.Learnt,
-  form-at-reads.Asked,
-  form-at-reads.Learnt,
-  walk-skip-below t,
-  walk-skip.Post,
-  walk-call-below t,
-  walk-call.Post,
-  walk-hold-below t,
-  walk-hold.Post,
-  walk-loop-below t,
-  walk-loop.Post,
-  walk-either-below t,
-  walk-either.Post,
-) (walk-at t) walk.Post
-walk-same-length t c = ?
-
--- src/lib.rt:96:1
-walk-returns-6 : (t : ℕ) → walk-lts.Need-returns-6 (
-  passed-reads.Asked,
-  passed-reads.Learnt,
-  form-at-reads.Asked,
-  form-at-reads.Learnt,
-  walk-skip-below t,
-  walk-skip.Post,
-  walk-call-below t,
-  walk-call.Post,
-  walk-hold-below t,
-  walk-hold.Post,
-  walk-loop-below t,
-  walk-loop.Post,
-  walk-either-below t,
-  walk-either.Post,
-) (walk-at t) walk.Post
-walk-returns-6 t c = ?
-
--- src/lib.rt:96:1
-walk-same-length-2 : (t : ℕ) → walk-lts.Need-same-length-2 (
-  passed-reads.Asked,
-  passed-reads.Learnt,
-  form-at-reads.Asked,
-  form-at-reads.Learnt,
-  walk-skip-below t,
-  walk-skip.Post,
-  walk-call-below t,
-  walk-call.Post,
-  walk-hold-below t,
-  walk-hold.Post,
-  walk-loop-below t,
-  walk-loop.Post,
-  walk-either-below t,
-  walk-either.Post,
-) (walk-at t) walk.Post
-walk-same-length-2 t c = ?
-
--- src/lib.rt:96:1
-walk-returns-7 : (t : ℕ) → walk-lts.Need-returns-7 (
-  passed-reads.Asked,
-  passed-reads.Learnt,
-  form-at-reads.Asked,
-  form-at-reads.Learnt,
-  walk-skip-below t,
-  walk-skip.Post,
-  walk-call-below t,
-  walk-call.Post,
-  walk-hold-below t,
-  walk-hold.Post,
-  walk-loop-below t,
-  walk-loop.Post,
-  walk-either-below t,
-  walk-either.Post,
-) (walk-at t) walk.Post
-walk-returns-7 t c = ?
-
--- src/lib.rt:96:1
-walk-same-length-3 : (t : ℕ) → walk-lts.Need-same-length-3 (
-  passed-reads.Asked,
-  passed-reads.Learnt,
-  form-at-reads.Asked,
-  form-at-reads.Learnt,
-  walk-skip-below t,
-  walk-skip.Post,
-  walk-call-below t,
-  walk-call.Post,
-  walk-hold-below t,
-  walk-hold.Post,
-  walk-loop-below t,
-  walk-loop.Post,
-  walk-either-below t,
-  walk-either.Post,
-) (walk-at t) walk.Post
-walk-same-length-3 t c = ?
-
--- src/lib.rt:96:1
-walk-returns-8 : (t : ℕ) → walk-lts.Need-returns-8 (
-  passed-reads.Asked,
-  passed-reads.Learnt,
-  form-at-reads.Asked,
-  form-at-reads.Learnt,
-  walk-skip-below t,
-  walk-skip.Post,
-  walk-call-below t,
-  walk-call.Post,
-  walk-hold-below t,
-  walk-hold.Post,
-  walk-loop-below t,
-  walk-loop.Post,
-  walk-either-below t,
-  walk-either.Post,
-) (walk-at t) walk.Post
-walk-returns-8 t c = ?
-
--- src/lib.rt:96:1
-walk-same-length-4 : (t : ℕ) → walk-lts.Need-same-length-4 (
-  passed-reads.Asked,
-  passed-reads.Learnt,
-  form-at-reads.Asked,
-  form-at-reads.Learnt,
-  walk-skip-below t,
-  walk-skip.Post,
-  walk-call-below t,
-  walk-call.Post,
-  walk-hold-below t,
-  walk-hold.Post,
-  walk-loop-below t,
-  walk-loop.Post,
-  walk-either-below t,
-  walk-either.Post,
-) (walk-at t) walk.Post
-walk-same-length-4 t c = ?
-
--- src/lib.rt:96:1
-walk-returns-9 : (t : ℕ) → walk-lts.Need-returns-9 (
-  passed-reads.Asked,
-  passed-reads.Learnt,
-  form-at-reads.Asked,
-  form-at-reads.Learnt,
-  walk-skip-below t,
-  walk-skip.Post,
-  walk-call-below t,
-  walk-call.Post,
-  walk-hold-below t,
-  walk-hold.Post,
-  walk-loop-below t,
-  walk-loop.Post,
-  walk-either-below t,
-  walk-either.Post,
-) (walk-at t) walk.Post
-walk-returns-9 t c = ?
-
--- src/lib.rt:96:1
-walk-same-length-5 : (t : ℕ) → walk-lts.Need-same-length-5 (
-  passed-reads.Asked,
-  passed-reads.Learnt,
-  form-at-reads.Asked,
-  form-at-reads.Learnt,
-  walk-skip-below t,
-  walk-skip.Post,
-  walk-call-below t,
-  walk-call.Post,
-  walk-hold-below t,
-  walk-hold.Post,
-  walk-loop-below t,
-  walk-loop.Post,
-  walk-either-below t,
-  walk-either.Post,
-) (walk-at t) walk.Post
-walk-same-length-5 t c = ?
-
--- src/lib.rt:96:1
-walk-returns-10 : (t : ℕ) → walk-lts.Need-returns-10 (
-  passed-reads.Asked,
-  passed-reads.Learnt,
-  form-at-reads.Asked,
-  form-at-reads.Learnt,
-  walk-skip-below t,
-  walk-skip.Post,
-  walk-call-below t,
-  walk-call.Post,
-  walk-hold-below t,
-  walk-hold.Post,
-  walk-loop-below t,
-  walk-loop.Post,
-  walk-either-below t,
-  walk-either.Post,
-) (walk-at t) walk.Post
-walk-returns-10 t c = ?
-
--- src/lib.rt:96:1
-walk-returns-11 : (t : ℕ) → walk-lts.Need-returns-11 (
-  passed-reads.Asked,
-  passed-reads.Learnt,
-  form-at-reads.Asked,
-  form-at-reads.Learnt,
-  walk-skip-below t,
-  walk-skip.Post,
-  walk-call-below t,
-  walk-call.Post,
-  walk-hold-below t,
-  walk-hold.Post,
-  walk-loop-below t,
-  walk-loop.Post,
-  walk-either-below t,
-  walk-either.Post,
-) (walk-at t) walk.Post
-walk-returns-11 t c = ?
-
--- src/lib.rt:96:1
-walk-returns-12 : (t : ℕ) → walk-lts.Need-returns-12 (
-  passed-reads.Asked,
-  passed-reads.Learnt,
-  form-at-reads.Asked,
-  form-at-reads.Learnt,
-  walk-skip-below t,
-  walk-skip.Post,
-  walk-call-below t,
-  walk-call.Post,
-  walk-hold-below t,
-  walk-hold.Post,
-  walk-loop-below t,
-  walk-loop.Post,
-  walk-either-below t,
-  walk-either.Post,
-) (walk-at t) walk.Post
-walk-returns-12 t c = ?
-
--- src/lib.rt:162:9
-walk-call-put-requires : (t : ℕ) → walk-call-lts.Need-put-requires (
-  put-reads.Asked,
-  put-reads.Learnt,
-  walk-below t,
-  walk.Post,
-  start-of-reads.Asked,
-  start-of-reads.Learnt,
-) (walk-call-at t) walk-call.Post
-walk-call-put-requires t c κs = ?
-
--- src/lib.rt:164:9
-walk-call-walk-requires : (t : ℕ) → walk-call-lts.Need-walk-requires (
-  put-reads.Asked,
-  put-reads.Learnt,
-  walk-below t,
-  walk.Post,
-  start-of-reads.Asked,
-  start-of-reads.Learnt,
-) (walk-call-at t) walk-call.Post
-walk-call-walk-requires t c κs = ?
-
--- src/lib.rt:164:9
-walk-call-same-length : (t : ℕ) → walk-call-lts.Need-same-length (
-  put-reads.Asked,
-  put-reads.Learnt,
-  walk-below t,
-  walk.Post,
-  start-of-reads.Asked,
-  start-of-reads.Learnt,
-) (walk-call-at t) walk-call.Post
-walk-call-same-length t c = ?
-
--- src/lib.rt:164:9
-walk-call-returns : (t : ℕ) → walk-call-lts.Need-returns (
-  put-reads.Asked,
-  put-reads.Learnt,
-  walk-below t,
-  walk.Post,
-  start-of-reads.Asked,
-  start-of-reads.Learnt,
-) (walk-call-at t) walk-call.Post
-walk-call-returns t c = ?
-
--- src/lib.rt:169:9
-walk-call-sub-walk : (t : ℕ) → walk-call-lts.Need-sub-walk (
-  put-reads.Asked,
-  put-reads.Learnt,
-  walk-below t,
-  walk.Post,
-  start-of-reads.Asked,
-  start-of-reads.Learnt,
-) (walk-call-at t) walk-call.Post
-walk-call-sub-walk t c = ?
-
--- src/lib.rt:170:9
-walk-call-start-of-requires : (t : ℕ) → walk-call-lts.Need-start-of-requires (
-  put-reads.Asked,
-  put-reads.Learnt,
-  walk-below t,
-  walk.Post,
-  start-of-reads.Asked,
-  start-of-reads.Learnt,
-) (walk-call-at t) walk-call.Post
-walk-call-start-of-requires t c κs = ?
-
--- src/lib.rt:166:9
-walk-call-walk-requires-2 : (t : ℕ) → walk-call-lts.Need-walk-requires-2 (
-  put-reads.Asked,
-  put-reads.Learnt,
-  walk-below t,
-  walk.Post,
-  start-of-reads.Asked,
-  start-of-reads.Learnt,
-) (walk-call-at t) walk-call.Post
-walk-call-walk-requires-2 t c κs = ?
-
--- src/lib.rt:177:9
-walk-call-same-length-2 : (t : ℕ) → walk-call-lts.Need-same-length-2 (
-  put-reads.Asked,
-  put-reads.Learnt,
-  walk-below t,
-  walk.Post,
-  start-of-reads.Asked,
-  start-of-reads.Learnt,
-) (walk-call-at t) walk-call.Post
-walk-call-same-length-2 t c = ?
-
--- src/lib.rt:177:9
-walk-call-returns-2 : (t : ℕ) → walk-call-lts.Need-returns-2 (
-  put-reads.Asked,
-  put-reads.Learnt,
-  walk-below t,
-  walk.Post,
-  start-of-reads.Asked,
-  start-of-reads.Learnt,
-) (walk-call-at t) walk-call.Post
-walk-call-returns-2 t c = ?
-
--- src/lib.rt:179:5
-walk-call-walk-requires-3 : (t : ℕ) → walk-call-lts.Need-walk-requires-3 (
-  put-reads.Asked,
-  put-reads.Learnt,
-  walk-below t,
-  walk.Post,
-  start-of-reads.Asked,
-  start-of-reads.Learnt,
-) (walk-call-at t) walk-call.Post
-walk-call-walk-requires-3 t c κs = ?
-
--- src/lib.rt:148:1
-walk-call-same-length-3 : (t : ℕ) → walk-call-lts.Need-same-length-3 (
-  put-reads.Asked,
-  put-reads.Learnt,
-  walk-below t,
-  walk.Post,
-  start-of-reads.Asked,
-  start-of-reads.Learnt,
-) (walk-call-at t) walk-call.Post
-walk-call-same-length-3 t c = ?
-
--- src/lib.rt:148:1
-walk-call-returns-3 : (t : ℕ) → walk-call-lts.Need-returns-3 (
-  put-reads.Asked,
-  put-reads.Learnt,
-  walk-below t,
-  walk.Post,
-  start-of-reads.Asked,
-  start-of-reads.Learnt,
-) (walk-call-at t) walk-call.Post
-walk-call-returns-3 t c = ?
-
--- src/lib.rt:251:9
-walk-either-put-requires : (t : ℕ) → walk-either-lts.Need-put-requires (
-  put-reads.Asked,
-  put-reads.Learnt,
-  after-reads.Asked,
-  after-reads.Learnt,
-  walk-below t,
-  walk.Post,
-  walk-two-below t,
-  walk-two.Post,
-) (walk-either-at t) walk-either.Post
-walk-either-put-requires t c κs = ?
-
--- src/lib.rt:252:42
-walk-either-after-requires : (t : ℕ) → walk-either-lts.Need-after-requires (
-  put-reads.Asked,
-  put-reads.Learnt,
-  after-reads.Asked,
-  after-reads.Learnt,
-  walk-below t,
-  walk.Post,
-  walk-two-below t,
-  walk-two.Post,
-) (walk-either-at t) walk-either.Post
-walk-either-after-requires t c κs = ?
-
--- src/lib.rt:252:9
-walk-either-walk-requires : (t : ℕ) → walk-either-lts.Need-walk-requires (
-  put-reads.Asked,
-  put-reads.Learnt,
-  after-reads.Asked,
-  after-reads.Learnt,
-  walk-below t,
-  walk.Post,
-  walk-two-below t,
-  walk-two.Post,
-) (walk-either-at t) walk-either.Post
-walk-either-walk-requires t c κs = ?
-
--- src/lib.rt:254:9
-walk-either-same-length : (t : ℕ) → walk-either-lts.Need-same-length (
-  put-reads.Asked,
-  put-reads.Learnt,
-  after-reads.Asked,
-  after-reads.Learnt,
-  walk-below t,
-  walk.Post,
-  walk-two-below t,
-  walk-two.Post,
-) (walk-either-at t) walk-either.Post
-walk-either-same-length t c = ?
-
--- src/lib.rt:254:9
-walk-either-returns : (t : ℕ) → walk-either-lts.Need-returns (
-  put-reads.Asked,
-  put-reads.Learnt,
-  after-reads.Asked,
-  after-reads.Learnt,
-  walk-below t,
-  walk.Post,
-  walk-two-below t,
-  walk-two.Post,
-) (walk-either-at t) walk-either.Post
-walk-either-returns t c = ?
-
--- src/lib.rt:256:5
-walk-either-walk-two-requires : (t : ℕ) → walk-either-lts.Need-walk-two-requires (
-  put-reads.Asked,
-  put-reads.Learnt,
-  after-reads.Asked,
-  after-reads.Learnt,
-  walk-below t,
-  walk.Post,
-  walk-two-below t,
-  walk-two.Post,
-) (walk-either-at t) walk-either.Post
-walk-either-walk-two-requires t c κs = ?
-
--- src/lib.rt:238:1
-walk-either-same-length-2 : (t : ℕ) → walk-either-lts.Need-same-length-2 (
-  put-reads.Asked,
-  put-reads.Learnt,
-  after-reads.Asked,
-  after-reads.Learnt,
-  walk-below t,
-  walk.Post,
-  walk-two-below t,
-  walk-two.Post,
-) (walk-either-at t) walk-either.Post
-walk-either-same-length-2 t c = ?
-
--- src/lib.rt:238:1
-walk-either-returns-2 : (t : ℕ) → walk-either-lts.Need-returns-2 (
-  put-reads.Asked,
-  put-reads.Learnt,
-  after-reads.Asked,
-  after-reads.Learnt,
-  walk-below t,
-  walk.Post,
-  walk-two-below t,
-  walk-two.Post,
-) (walk-either-at t) walk-either.Post
-walk-either-returns-2 t c = ?
-
--- src/lib.rt:197:8
-walk-hold-gives-word-requires : (t : ℕ) → walk-hold-lts.Need-gives-word-requires (
-  gives-word-reads.Asked,
-  gives-word-reads.Learnt,
-  with-lock-reads.Asked,
-  with-lock-reads.Learnt,
-  put-reads.Asked,
-  put-reads.Learnt,
-  walk-below t,
-  walk.Post,
-) (walk-hold-at t) walk-hold.Post
-walk-hold-gives-word-requires t c κs = ?
-
--- src/lib.rt:198:9
-walk-hold-returns : (t : ℕ) → walk-hold-lts.Need-returns (
-  gives-word-reads.Asked,
-  gives-word-reads.Learnt,
-  with-lock-reads.Asked,
-  with-lock-reads.Learnt,
-  put-reads.Asked,
-  put-reads.Learnt,
-  walk-below t,
-  walk.Post,
-) (walk-hold-at t) walk-hold.Post
-walk-hold-returns t c = ?
-
--- src/lib.rt:204:9
-walk-hold-with-lock-requires : (t : ℕ) → walk-hold-lts.Need-with-lock-requires (
-  gives-word-reads.Asked,
-  gives-word-reads.Learnt,
-  with-lock-reads.Asked,
-  with-lock-reads.Learnt,
-  put-reads.Asked,
-  put-reads.Learnt,
-  walk-below t,
-  walk.Post,
-) (walk-hold-at t) walk-hold.Post
-walk-hold-with-lock-requires t c κs = ?
-
--- src/lib.rt:205:9
-walk-hold-put-requires : (t : ℕ) → walk-hold-lts.Need-put-requires (
-  gives-word-reads.Asked,
-  gives-word-reads.Learnt,
-  with-lock-reads.Asked,
-  with-lock-reads.Learnt,
-  put-reads.Asked,
-  put-reads.Learnt,
-  walk-below t,
-  walk.Post,
-) (walk-hold-at t) walk-hold.Post
-walk-hold-put-requires t c κs = ?
-
--- src/lib.rt:206:9
-walk-hold-walk-requires : (t : ℕ) → walk-hold-lts.Need-walk-requires (
-  gives-word-reads.Asked,
-  gives-word-reads.Learnt,
-  with-lock-reads.Asked,
-  with-lock-reads.Learnt,
-  put-reads.Asked,
-  put-reads.Learnt,
-  walk-below t,
-  walk.Post,
-) (walk-hold-at t) walk-hold.Post
-walk-hold-walk-requires t c κs = ?
-
--- src/lib.rt:208:9
-walk-hold-same-length : (t : ℕ) → walk-hold-lts.Need-same-length (
-  gives-word-reads.Asked,
-  gives-word-reads.Learnt,
-  with-lock-reads.Asked,
-  with-lock-reads.Learnt,
-  put-reads.Asked,
-  put-reads.Learnt,
-  walk-below t,
-  walk.Post,
-) (walk-hold-at t) walk-hold.Post
-walk-hold-same-length t c = ?
-
--- src/lib.rt:208:9
-walk-hold-returns-2 : (t : ℕ) → walk-hold-lts.Need-returns-2 (
-  gives-word-reads.Asked,
-  gives-word-reads.Learnt,
-  with-lock-reads.Asked,
-  with-lock-reads.Learnt,
-  put-reads.Asked,
-  put-reads.Learnt,
-  walk-below t,
-  walk.Post,
-) (walk-hold-at t) walk-hold.Post
-walk-hold-returns-2 t c = ?
-
--- src/lib.rt:210:9
-walk-hold-put-requires-2 : (t : ℕ) → walk-hold-lts.Need-put-requires-2 (
-  gives-word-reads.Asked,
-  gives-word-reads.Learnt,
-  with-lock-reads.Asked,
-  with-lock-reads.Learnt,
-  put-reads.Asked,
-  put-reads.Learnt,
-  walk-below t,
-  walk.Post,
-) (walk-hold-at t) walk-hold.Post
-walk-hold-put-requires-2 t c κs = ?
-
--- src/lib.rt:211:5
-walk-hold-walk-requires-2 : (t : ℕ) → walk-hold-lts.Need-walk-requires-2 (
-  gives-word-reads.Asked,
-  gives-word-reads.Learnt,
-  with-lock-reads.Asked,
-  with-lock-reads.Learnt,
-  put-reads.Asked,
-  put-reads.Learnt,
-  walk-below t,
-  walk.Post,
-) (walk-hold-at t) walk-hold.Post
-walk-hold-walk-requires-2 t c κs = ?
-
--- src/lib.rt:183:1
-walk-hold-same-length-2 : (t : ℕ) → walk-hold-lts.Need-same-length-2 (
-  gives-word-reads.Asked,
-  gives-word-reads.Learnt,
-  with-lock-reads.Asked,
-  with-lock-reads.Learnt,
-  put-reads.Asked,
-  put-reads.Learnt,
-  walk-below t,
-  walk.Post,
-) (walk-hold-at t) walk-hold.Post
-walk-hold-same-length-2 t c = ?
-
--- src/lib.rt:183:1
-walk-hold-returns-3 : (t : ℕ) → walk-hold-lts.Need-returns-3 (
-  gives-word-reads.Asked,
-  gives-word-reads.Learnt,
-  with-lock-reads.Asked,
-  with-lock-reads.Learnt,
-  put-reads.Asked,
-  put-reads.Learnt,
-  walk-below t,
-  walk.Post,
-) (walk-hold-at t) walk-hold.Post
-walk-hold-returns-3 t c = ?
-
--- src/lib.rt:228:9
-walk-loop-put-requires : (t : ℕ) → walk-loop-lts.Need-put-requires (
-  put-reads.Asked,
-  put-reads.Learnt,
-  walk-below t,
-  walk.Post,
-) (walk-loop-at t) walk-loop.Post
-walk-loop-put-requires t c κs = ?
-
--- src/lib.rt:229:9
-walk-loop-walk-requires : (t : ℕ) → walk-loop-lts.Need-walk-requires (
-  put-reads.Asked,
-  put-reads.Learnt,
-  walk-below t,
-  walk.Post,
-) (walk-loop-at t) walk-loop.Post
-walk-loop-walk-requires t c κs = ?
-
--- src/lib.rt:231:9
-walk-loop-same-length : (t : ℕ) → walk-loop-lts.Need-same-length (
-  put-reads.Asked,
-  put-reads.Learnt,
-  walk-below t,
-  walk.Post,
-) (walk-loop-at t) walk-loop.Post
-walk-loop-same-length t c = ?
-
--- src/lib.rt:231:9
-walk-loop-returns : (t : ℕ) → walk-loop-lts.Need-returns (
-  put-reads.Asked,
-  put-reads.Learnt,
-  walk-below t,
-  walk.Post,
-) (walk-loop-at t) walk-loop.Post
-walk-loop-returns t c = ?
-
--- src/lib.rt:233:9
-walk-loop-put-requires-2 : (t : ℕ) → walk-loop-lts.Need-put-requires-2 (
-  put-reads.Asked,
-  put-reads.Learnt,
-  walk-below t,
-  walk.Post,
-) (walk-loop-at t) walk-loop.Post
-walk-loop-put-requires-2 t c κs = ?
-
--- src/lib.rt:234:5
-walk-loop-walk-requires-2 : (t : ℕ) → walk-loop-lts.Need-walk-requires-2 (
-  put-reads.Asked,
-  put-reads.Learnt,
-  walk-below t,
-  walk.Post,
-) (walk-loop-at t) walk-loop.Post
-walk-loop-walk-requires-2 t c κs = ?
-
--- src/lib.rt:215:1
-walk-loop-same-length-2 : (t : ℕ) → walk-loop-lts.Need-same-length-2 (
-  put-reads.Asked,
-  put-reads.Learnt,
-  walk-below t,
-  walk.Post,
-) (walk-loop-at t) walk-loop.Post
-walk-loop-same-length-2 t c = ?
-
--- src/lib.rt:215:1
-walk-loop-returns-2 : (t : ℕ) → walk-loop-lts.Need-returns-2 (
-  put-reads.Asked,
-  put-reads.Learnt,
-  walk-below t,
-  walk.Post,
-) (walk-loop-at t) walk-loop.Post
-walk-loop-returns-2 t c = ?
-
--- src/lib.rt:143:9
-walk-skip-put-requires : (t : ℕ) → walk-skip-lts.Need-put-requires (
-  put-reads.Asked,
-  put-reads.Learnt,
-  walk-below t,
-  walk.Post,
-) (walk-skip-at t) walk-skip.Post
-walk-skip-put-requires t c κs = ?
-
--- src/lib.rt:144:5
-walk-skip-walk-requires : (t : ℕ) → walk-skip-lts.Need-walk-requires (
-  put-reads.Asked,
-  put-reads.Learnt,
-  walk-below t,
-  walk.Post,
-) (walk-skip-at t) walk-skip.Post
-walk-skip-walk-requires t c κs = ?
-
--- src/lib.rt:130:1
-walk-skip-same-length : (t : ℕ) → walk-skip-lts.Need-same-length (
-  put-reads.Asked,
-  put-reads.Learnt,
-  walk-below t,
-  walk.Post,
-) (walk-skip-at t) walk-skip.Post
-walk-skip-same-length t c = ?
-
--- src/lib.rt:130:1
-walk-skip-returns : (t : ℕ) → walk-skip-lts.Need-returns (
-  put-reads.Asked,
-  put-reads.Learnt,
-  walk-below t,
-  walk.Post,
-) (walk-skip-at t) walk-skip.Post
-walk-skip-returns t c = ?
-
--- src/lib.rt:273:9
-walk-two-put-requires : (t : ℕ) → walk-two-lts.Need-put-requires (
-  put-reads.Asked,
-  put-reads.Learnt,
-  after-reads.Asked,
-  after-reads.Learnt,
-  walk-below t,
-  walk.Post,
-) (walk-two-at t) walk-two.Post
-walk-two-put-requires t c κs = ?
-
--- src/lib.rt:274:42
-walk-two-after-requires : (t : ℕ) → walk-two-lts.Need-after-requires (
-  put-reads.Asked,
-  put-reads.Learnt,
-  after-reads.Asked,
-  after-reads.Learnt,
-  walk-below t,
-  walk.Post,
-) (walk-two-at t) walk-two.Post
-walk-two-after-requires t c κs = ?
-
--- src/lib.rt:274:9
-walk-two-walk-requires : (t : ℕ) → walk-two-lts.Need-walk-requires (
-  put-reads.Asked,
-  put-reads.Learnt,
-  after-reads.Asked,
-  after-reads.Learnt,
-  walk-below t,
-  walk.Post,
-) (walk-two-at t) walk-two.Post
-walk-two-walk-requires t c κs = ?
-
--- src/lib.rt:276:9
-walk-two-same-length : (t : ℕ) → walk-two-lts.Need-same-length (
-  put-reads.Asked,
-  put-reads.Learnt,
-  after-reads.Asked,
-  after-reads.Learnt,
-  walk-below t,
-  walk.Post,
-) (walk-two-at t) walk-two.Post
-walk-two-same-length t c = ?
-
--- src/lib.rt:276:9
-walk-two-returns : (t : ℕ) → walk-two-lts.Need-returns (
-  put-reads.Asked,
-  put-reads.Learnt,
-  after-reads.Asked,
-  after-reads.Learnt,
-  walk-below t,
-  walk.Post,
-) (walk-two-at t) walk-two.Post
-walk-two-returns t c = ?
-
--- src/lib.rt:282:9
-walk-two-after-requires-2 : (t : ℕ) → walk-two-lts.Need-after-requires-2 (
-  put-reads.Asked,
-  put-reads.Learnt,
-  after-reads.Asked,
-  after-reads.Learnt,
-  walk-below t,
-  walk.Post,
-) (walk-two-at t) walk-two.Post
-walk-two-after-requires-2 t c κs = ?
-
--- src/lib.rt:278:5
-walk-two-walk-requires-2 : (t : ℕ) → walk-two-lts.Need-walk-requires-2 (
-  put-reads.Asked,
-  put-reads.Learnt,
-  after-reads.Asked,
-  after-reads.Learnt,
-  walk-below t,
-  walk.Post,
-) (walk-two-at t) walk-two.Post
-walk-two-walk-requires-2 t c κs = ?
-
--- src/lib.rt:260:1
-walk-two-same-length-2 : (t : ℕ) → walk-two-lts.Need-same-length-2 (
-  put-reads.Asked,
-  put-reads.Learnt,
-  after-reads.Asked,
-  after-reads.Learnt,
-  walk-below t,
-  walk.Post,
-) (walk-two-at t) walk-two.Post
-walk-two-same-length-2 t c = ?
-
--- src/lib.rt:260:1
-walk-two-returns-2 : (t : ℕ) → walk-two-lts.Need-returns-2 (
-  put-reads.Asked,
-  put-reads.Learnt,
-  after-reads.Asked,
-  after-reads.Learnt,
-  walk-below t,
-  walk.Post,
-) (walk-two-at t) walk-two.Post
-walk-two-returns-2 t c = ?
+abbrev walk-calls : ℕ → walk-lts.Claims
+walk-calls t = (passed-reads.Asked, passed-reads.Learnt, form-at-reads.Asked, form-at-reads.Learnt, walk-skip-below t, walk-skip.Post, walk-call-below t, walk-call.Post, walk-hold-below t, walk-hold.Post, walk-loop-below t, walk-loop.Post, walk-either-below t, walk-either.Post)
+
+abbrev walk-call-calls : ℕ → walk-call-lts.Claims
+walk-call-calls t = (put-reads.Asked, put-reads.Learnt, walk-below t, walk.Post, start-of-reads.Asked, start-of-reads.Learnt)
+
+abbrev walk-either-calls : ℕ → walk-either-lts.Claims
+walk-either-calls t = (put-reads.Asked, put-reads.Learnt, after-reads.Asked, after-reads.Learnt, walk-below t, walk.Post, walk-two-below t, walk-two.Post)
+
+abbrev walk-hold-calls : ℕ → walk-hold-lts.Claims
+walk-hold-calls t = (gives-word-reads.Asked, gives-word-reads.Learnt, with-lock-reads.Asked, with-lock-reads.Learnt, put-reads.Asked, put-reads.Learnt, walk-below t, walk.Post)
+
+abbrev walk-loop-calls : ℕ → walk-loop-lts.Claims
+walk-loop-calls t = (put-reads.Asked, put-reads.Learnt, walk-below t, walk.Post)
+
+abbrev walk-skip-calls : ℕ → walk-skip-lts.Claims
+walk-skip-calls t = (put-reads.Asked, put-reads.Learnt, walk-below t, walk.Post)
+
+abbrev walk-two-calls : ℕ → walk-two-lts.Claims
+walk-two-calls t = (put-reads.Asked, put-reads.Learnt, after-reads.Asked, after-reads.Learnt, walk-below t, walk.Post)
+
+walk-passed-requires : (t : ℕ) → walk-lts.Need-passed-requires (walk-calls t) (walk-at t) walk.Post
+walk-passed-requires t c κs = search needs
+
+walk-returns : (t : ℕ) → walk-lts.Need-returns (walk-calls t) (walk-at t) walk.Post
+walk-returns t c = ended-walks _ (c .passed .ensures) (c .before .before .before .before .before .pre .1 .room) (c .before .if1 .taken)
+
+walk-mul-form-at : (t : ℕ) → walk-lts.Need-mul-form-at (walk-calls t) (walk-at t) walk.Post
+walk-mul-form-at t c = search needs
+
+walk-shared-slice-read-form-at : (t : ℕ) → walk-lts.Need-shared-slice-read-form-at (walk-calls t) (walk-at t) walk.Post
+walk-shared-slice-read-form-at t c = search needs
+
+walk-form-at-requires : (t : ℕ) → walk-lts.Need-form-at-requires (walk-calls t) (walk-at t) walk.Post
+walk-form-at-requires t c κs = search needs
+
+walk-add-next : (t : ℕ) → walk-lts.Need-add-next (walk-calls t) (walk-at t) walk.Post
+walk-add-next t c = search needs
+
+walk-enum-told : (t : ℕ) → walk-lts.Need-enum-told (walk-calls t) (walk-at t) walk.Post
+walk-enum-told t c = search needs
+
+walk-passed-requires-2 : (t : ℕ) → walk-lts.Need-passed-requires-2 (walk-calls t) (walk-at t) walk.Post
+walk-passed-requires-2 t c κs = search needs
+
+walk-enum-told-2 : (t : ℕ) → walk-lts.Need-enum-told-2 (walk-calls t) (walk-at t) walk.Post
+walk-enum-told-2 t c = search needs
+
+walk-passed-requires-3 : (t : ℕ) → walk-lts.Need-passed-requires-3 (walk-calls t) (walk-at t) walk.Post
+walk-passed-requires-3 t c κs = search needs
+
+walk-enum-told-3 : (t : ℕ) → walk-lts.Need-enum-told-3 (walk-calls t) (walk-at t) walk.Post
+walk-enum-told-3 t c = search needs
+
+walk-passed-requires-4 : (t : ℕ) → walk-lts.Need-passed-requires-4 (walk-calls t) (walk-at t) walk.Post
+walk-passed-requires-4 t c κs = search needs
+
+walk-enum-told-4 : (t : ℕ) → walk-lts.Need-enum-told-4 (walk-calls t) (walk-at t) walk.Post
+walk-enum-told-4 t c = search needs
+
+walk-passed-requires-5 : (t : ℕ) → walk-lts.Need-passed-requires-5 (walk-calls t) (walk-at t) walk.Post
+walk-passed-requires-5 t c κs = search needs
+
+walk-enum-told-5 : (t : ℕ) → walk-lts.Need-enum-told-5 (walk-calls t) (walk-at t) walk.Post
+walk-enum-told-5 t c = search needs
+
+walk-walk-skip-requires : (t : ℕ) → walk-lts.Need-walk-skip-requires (walk-calls t) (walk-at t) walk.Post
+walk-walk-skip-requires t c κs = (forward-falls (c .before .before .before .before .before .before .before .before .before .args .depth) (length (now (c .before .before .before .before .before .before .before .before .before .args .table))) t (c .before .before .before .before .before .before .before .before .before .args .at) 0 (c .before .before .before .before .before .before .before .before .before .pre .0) (c .before .before .before .before .before .before .before .before .before .args .at + 1) 2 (omega arith) (omega arith) (omega arith), c .before .before .before .before .before .before .before .before .before .pre .1)
+
+walk-enum-known-form : (t : ℕ) → walk-lts.Need-enum-known-form (walk-calls t) (walk-at t) walk.Post
+walk-enum-known-form t c = search needs
+
+walk-walk-call-requires : (t : ℕ) → walk-lts.Need-walk-call-requires (walk-calls t) (walk-at t) walk.Post
+walk-walk-call-requires t c κs = (forward-falls (c .before .before .before .before .before .before .before .before .before .before .args .depth) (length (now (c .before .before .before .before .before .before .before .before .before .before .args .table))) t (c .before .before .before .before .before .before .before .before .before .before .args .at) 0 (c .before .before .before .before .before .before .before .before .before .before .pre .0) (c .before .before .before .before .before .before .before .before .before .before .args .at + 1) 2 (omega arith) (omega arith) (omega arith), c .before .before .before .before .before .before .before .before .before .before .pre .1)
+
+walk-enum-known-form-2 : (t : ℕ) → walk-lts.Need-enum-known-form-2 (walk-calls t) (walk-at t) walk.Post
+walk-enum-known-form-2 t c = search needs
+
+walk-walk-hold-requires : (t : ℕ) → walk-lts.Need-walk-hold-requires (walk-calls t) (walk-at t) walk.Post
+walk-walk-hold-requires t c κs = (forward-falls (c .before .before .before .before .before .before .before .before .before .before .args .depth) (length (now (c .before .before .before .before .before .before .before .before .before .before .args .table))) t (c .before .before .before .before .before .before .before .before .before .before .args .at) 0 (c .before .before .before .before .before .before .before .before .before .before .pre .0) (c .before .before .before .before .before .before .before .before .before .before .args .at + 1) 2 (omega arith) (omega arith) (omega arith), c .before .before .before .before .before .before .before .before .before .before .pre .1)
+
+walk-enum-told-6 : (t : ℕ) → walk-lts.Need-enum-told-6 (walk-calls t) (walk-at t) walk.Post
+walk-enum-told-6 t c = search needs
+
+walk-walk-loop-requires : (t : ℕ) → walk-lts.Need-walk-loop-requires (walk-calls t) (walk-at t) walk.Post
+walk-walk-loop-requires t c κs = (forward-falls (c .before .before .before .before .before .before .before .before .before .args .depth) (length (now (c .before .before .before .before .before .before .before .before .before .args .table))) t (c .before .before .before .before .before .before .before .before .before .args .at) 0 (c .before .before .before .before .before .before .before .before .before .pre .0) (c .before .before .before .before .before .before .before .before .before .args .at + 1) 2 (omega arith) (omega arith) (omega arith), c .before .before .before .before .before .before .before .before .before .pre .1)
+
+walk-enum-told-7 : (t : ℕ) → walk-lts.Need-enum-told-7 (walk-calls t) (walk-at t) walk.Post
+walk-enum-told-7 t c = search needs
+
+walk-walk-either-requires : (t : ℕ) → walk-lts.Need-walk-either-requires (walk-calls t) (walk-at t) walk.Post
+walk-walk-either-requires t c κs = (forward-falls (c .before .before .before .before .before .before .before .before .before .args .depth) (length (now (c .before .before .before .before .before .before .before .before .before .args .table))) t (c .before .before .before .before .before .before .before .before .before .args .at) 0 (c .before .before .before .before .before .before .before .before .before .pre .0) (c .before .before .before .before .before .before .before .before .before .args .at + 1) 2 (omega arith) (omega arith) (omega arith), c .before .before .before .before .before .before .before .before .before .pre .1)
+
+walk-enum-told-8 : (t : ℕ) → walk-lts.Need-enum-told-8 (walk-calls t) (walk-at t) walk.Post
+walk-enum-told-8 t c = search needs
+
+walk-passed-requires-6 : (t : ℕ) → walk-lts.Need-passed-requires-6 (walk-calls t) (walk-at t) walk.Post
+walk-passed-requires-6 t c κs = search needs
+
+walk-enum-told-9 : (t : ℕ) → walk-lts.Need-enum-told-9 (walk-calls t) (walk-at t) walk.Post
+walk-enum-told-9 t c = search needs
+
+walk-passed-requires-7 : (t : ℕ) → walk-lts.Need-passed-requires-7 (walk-calls t) (walk-at t) walk.Post
+walk-passed-requires-7 t c κs = search needs
+
+walk-returns-2 : (t : ℕ) → walk-lts.Need-returns-2 (walk-calls t) (walk-at t) walk.Post
+unfolding inBlock
+walk-returns-2 t c = walks-at _ Plan (c .before .before .before .before .before .if1 .left) (c .before .before .before .form-at .ensures) (c .before .enum-told .given .1) (other-walks _ (c .passed2 .ensures) (c .before .before .before .before .before .before .before .before .before .pre .1 .room) Plan refl)
+
+walk-returns-3 : (t : ℕ) → walk-lts.Need-returns-3 (walk-calls t) (walk-at t) walk.Post
+unfolding inBlock
+walk-returns-3 t c = walks-at _ Proc (c .before .before .before .before .before .if1 .left) (c .before .before .before .form-at .ensures) (c .before .enum-told2 .given .1) (other-walks _ (c .passed3 .ensures) (c .before .before .before .before .before .before .before .before .before .pre .1 .room) Proc refl)
+
+walk-returns-4 : (t : ℕ) → walk-lts.Need-returns-4 (walk-calls t) (walk-at t) walk.Post
+unfolding inBlock
+walk-returns-4 t c = walks-at _ (Thread _) (c .before .before .before .before .before .if1 .left) (c .before .before .before .form-at .ensures) (c .before .enum-told3 .given .1) (other-walks _ (c .passed4 .ensures) (c .before .before .before .before .before .before .before .before .before .pre .1 .room) (Thread _) refl)
+
+walk-returns-5 : (t : ℕ) → walk-lts.Need-returns-5 (walk-calls t) (walk-at t) walk.Post
+walk-returns-5 t c = walks-at _ Close (c .before .before .before .before .before .if1 .left) (c .before .before .before .form-at .ensures) (c .before .enum-told4 .given .1) (close-walks _ (c .passed5 .ensures) (c .before .before .before .before .before .before .before .before .before .pre .1 .room))
+
+walk-same-length : (t : ℕ) → walk-lts.Need-same-length (walk-calls t) (walk-at t) walk.Post
+walk-same-length t c = search needs
+
+walk-returns-6 : (t : ℕ) → walk-lts.Need-returns-6 (walk-calls t) (walk-at t) walk.Post
+walk-returns-6 t c = walks-at _ Skip (c .before .before .before .before .before .before .before .before .if1 .left) (c .before .before .before .before .before .before .form-at .ensures) (c .before .before .before .before .enum-told5 .given .1) (c .before .before .walk-skip .ensures)
+
+walk-same-length-2 : (t : ℕ) → walk-lts.Need-same-length-2 (walk-calls t) (walk-at t) walk.Post
+walk-same-length-2 t c = search needs
+
+walk-returns-7 : (t : ℕ) → walk-lts.Need-returns-7 (walk-calls t) (walk-at t) walk.Post
+walk-returns-7 t c = walks-at _ (Call _) (c .before .before .before .before .before .before .before .before .before .if1 .left) (c .before .before .before .before .before .before .before .form-at .ensures) (c .before .before .before .before .before .form .given .1) (c .before .before .walk-call .ensures)
+
+walk-same-length-3 : (t : ℕ) → walk-lts.Need-same-length-3 (walk-calls t) (walk-at t) walk.Post
+walk-same-length-3 t c = search needs
+
+walk-returns-8 : (t : ℕ) → walk-lts.Need-returns-8 (walk-calls t) (walk-at t) walk.Post
+walk-returns-8 t c = walks-at _ (Hold _) (c .before .before .before .before .before .before .before .before .before .if1 .left) (c .before .before .before .before .before .before .before .form-at .ensures) (c .before .before .before .before .before .form2 .given .1) (c .before .before .walk-hold .ensures)
+
+walk-same-length-4 : (t : ℕ) → walk-lts.Need-same-length-4 (walk-calls t) (walk-at t) walk.Post
+walk-same-length-4 t c = search needs
+
+walk-returns-9 : (t : ℕ) → walk-lts.Need-returns-9 (walk-calls t) (walk-at t) walk.Post
+walk-returns-9 t c = walks-at _ Loop (c .before .before .before .before .before .before .before .before .if1 .left) (c .before .before .before .before .before .before .form-at .ensures) (c .before .before .before .before .enum-told6 .given .1) (c .before .before .walk-loop .ensures)
+
+walk-same-length-5 : (t : ℕ) → walk-lts.Need-same-length-5 (walk-calls t) (walk-at t) walk.Post
+walk-same-length-5 t c = search needs
+
+walk-returns-10 : (t : ℕ) → walk-lts.Need-returns-10 (walk-calls t) (walk-at t) walk.Post
+walk-returns-10 t c = walks-at _ Either (c .before .before .before .before .before .before .before .before .if1 .left) (c .before .before .before .before .before .before .form-at .ensures) (c .before .before .before .before .enum-told7 .given .1) (c .before .before .walk-either .ensures)
+
+walk-returns-11 : (t : ℕ) → walk-lts.Need-returns-11 (walk-calls t) (walk-at t) walk.Post
+unfolding inBlock
+walk-returns-11 t c = walks-at _ One (c .before .before .before .before .before .if1 .left) (c .before .before .before .form-at .ensures) (c .before .enum-told8 .given .1) (other-walks _ (c .passed6 .ensures) (c .before .before .before .before .before .before .before .before .before .pre .1 .room) One refl)
+
+walk-returns-12 : (t : ℕ) → walk-lts.Need-returns-12 (walk-calls t) (walk-at t) walk.Post
+unfolding inBlock
+walk-returns-12 t c = walks-at _ Two (c .before .before .before .before .before .if1 .left) (c .before .before .before .form-at .ensures) (c .before .enum-told9 .given .1) (other-walks _ (c .passed7 .ensures) (c .before .before .before .before .before .before .before .before .before .pre .1 .room) Two refl)
+
+walk-call-put-requires : (t : ℕ) → walk-call-lts.Need-put-requires (walk-call-calls t) (walk-call-at t) walk-call.Post
+walk-call-put-requires t c κs = search needs
+
+walk-call-walk-requires : (t : ℕ) → walk-call-lts.Need-walk-requires (walk-call-calls t) (walk-call-at t) walk-call.Post
+walk-call-walk-requires t c κs = (here-falls (c .before .before .before .before .before .before .before .before .before .args .depth) (length (now (c .before .before .before .before .before .before .before .before .before .args .table))) t (c .before .before .before .before .before .before .before .before .before .args .at) 2 (c .before .before .before .before .before .before .before .before .before .pre .0) (c .before .before .before .before .before .before .before .before .before .args .at) 0 (le-refl (c .before .before .before .before .before .before .before .before .before .args .at)) (omega arith), ready-next (c .before .before .before .before .before .before .before .before .before .pre .1) (c .before .before .before .before .before .before .before .before .before .pre .1 .locks) (c .before .before .before .before .put .ensures .buffer .room))
+
+walk-call-same-length : (t : ℕ) → walk-call-lts.Need-same-length (walk-call-calls t) (walk-call-at t) walk-call.Post
+walk-call-same-length t c = search needs
+
+walk-call-returns : (t : ℕ) → walk-call-lts.Need-returns (walk-call-calls t) (walk-call-at t) walk-call.Post
+walk-call-returns t c = call-walks-none (c .before .before .before .before .before .before .before .put .ensures) (c .before .before .before .before .if1 .taken) (c .before .before .walk .ensures)
+
+walk-call-sub-walk : (t : ℕ) → walk-call-lts.Need-sub-walk (walk-call-calls t) (walk-call-at t) walk-call.Post
+walk-call-sub-walk t c = search needs
+
+walk-call-start-of-requires : (t : ℕ) → walk-call-lts.Need-start-of-requires (walk-call-calls t) (walk-call-at t) walk-call.Post
+walk-call-start-of-requires t c κs = search needs
+
+walk-call-walk-requires-2 : (t : ℕ) → walk-call-lts.Need-walk-requires-2 (walk-call-calls t) (walk-call-at t) walk-call.Post
+walk-call-walk-requires-2 t c κs = (deeper-falls (c .before .before .before .before .before .before .before .before .before .before .args .depth) (length (now (c .before .before .before .before .before .before .before .before .before .before .args .table))) t (c .before .before .before .before .before .before .before .before .before .before .args .at) 2 (c .before .before .before .before .before .before .before .before .before .before .pre .0) (c .before .start-of .result) (c .before .before .if1 .left), ready-next (c .before .before .before .before .before .before .before .before .before .before .pre .1) (c .before .before .before .before .before .before .before .before .before .before .pre .1 .locks) (c .before .before .before .before .before .put .ensures .buffer .room))
+
+walk-call-same-length-2 : (t : ℕ) → walk-call-lts.Need-same-length-2 (walk-call-calls t) (walk-call-at t) walk-call.Post
+walk-call-same-length-2 t c = search needs
+
+walk-call-returns-2 : (t : ℕ) → walk-call-lts.Need-returns-2 (walk-call-calls t) (walk-call-at t) walk-call.Post
+walk-call-returns-2 t c = call-walks-found (c .before .before .before .before .before .before .before .before .before .before .before .before .before .before .pre .1) (c .before .before .before .before .before .before .before .before .before .put .ensures) (c .before .before .before .before .before .before .if1 .left) (c .before .before .before .before .before .start-of .ensures) (c .before .before .before .walk2 .ensures) (c .if2 .taken)
+
+walk-call-walk-requires-3 : (t : ℕ) → walk-call-lts.Need-walk-requires-3 (walk-call-calls t) (walk-call-at t) walk-call.Post
+walk-call-walk-requires-3 t c κs = (here-falls (c .before .before .before .before .before .before .before .before .before .before .before .before .before .before .before .args .depth) (length (now (c .before .before .before .before .before .before .before .before .before .before .before .before .before .before .before .args .table))) t (c .before .before .before .before .before .before .before .before .before .before .before .before .before .before .before .args .at) 2 (c .before .before .before .before .before .before .before .before .before .before .before .before .before .before .before .pre .0) (c .before .before .before .before .before .before .before .before .before .before .before .before .before .before .before .args .at) 0 (le-refl (c .before .before .before .before .before .before .before .before .before .before .before .before .before .before .before .args .at)) (omega arith), ready-next (c .before .before .before .before .before .before .before .before .before .before .before .before .before .before .before .pre .1) (c .before .before .before .before .before .before .before .before .before .before .before .before .before .before .before .pre .1 .locks) (c .before .before .before .before .walk2 .ensures .buffer .room))
+
+walk-call-same-length-3 : (t : ℕ) → walk-call-lts.Need-same-length-3 (walk-call-calls t) (walk-call-at t) walk-call.Post
+walk-call-same-length-3 t c = search needs
+
+walk-call-returns-3 : (t : ℕ) → walk-call-lts.Need-returns-3 (walk-call-calls t) (walk-call-at t) walk-call.Post
+walk-call-returns-3 t c = call-walks-past (c .before .before .before .before .before .before .before .before .before .before .before .before .before .before .before .before .before .before .pre .1) (c .before .before .before .before .before .before .before .before .before .before .before .before .before .put .ensures) (c .before .before .before .before .before .before .before .before .before .before .if1 .left) (c .before .before .before .before .before .before .before .before .before .start-of .ensures) (c .before .before .before .before .before .before .before .walk2 .ensures) (c .before .before .before .before .if2 .left) (c .before .before .walk3 .ensures)
+
+walk-either-put-requires : (t : ℕ) → walk-either-lts.Need-put-requires (walk-either-calls t) (walk-either-at t) walk-either.Post
+walk-either-put-requires t c κs = search needs
+
+walk-either-after-requires : (t : ℕ) → walk-either-lts.Need-after-requires (walk-either-calls t) (walk-either-at t) walk-either.Post
+walk-either-after-requires t c κs = search needs
+
+walk-either-walk-requires : (t : ℕ) → walk-either-lts.Need-walk-requires (walk-either-calls t) (walk-either-at t) walk-either.Post
+walk-either-walk-requires t c κs = (here-falls (c .before .before .before .before .before .before .before .before .before .args .depth) (length (now (c .before .before .before .before .before .before .before .before .before .args .table))) t (c .before .before .before .before .before .before .before .before .before .args .at) 2 (c .before .before .before .before .before .before .before .before .before .pre .0) (c .before .after .result) 0 (c .before .after .ensures .0) (omega arith), ready-next (c .before .before .before .before .before .before .before .before .before .pre .1) (c .before .before .before .before .before .before .before .before .before .pre .1 .locks) (c .before .before .before .before .put .ensures .buffer .room))
+
+walk-either-same-length : (t : ℕ) → walk-either-lts.Need-same-length (walk-either-calls t) (walk-either-at t) walk-either.Post
+walk-either-same-length t c = search needs
+
+walk-either-returns : (t : ℕ) → walk-either-lts.Need-returns (walk-either-calls t) (walk-either-at t) walk-either.Post
+walk-either-returns t c = one-walks-found (c .before .before .before .before .before .before .before .before .put .ensures) (c .before .before .before .before .before .after .ensures) (c .before .before .before .walk .ensures) (c .if1 .taken)
+
+walk-either-walk-two-requires : (t : ℕ) → walk-either-lts.Need-walk-two-requires (walk-either-calls t) (walk-either-at t) walk-either.Post
+walk-either-walk-two-requires t c κs = (here-falls (c .before .before .before .before .before .before .before .before .before .before .before .before .before .before .args .depth) (length (now (c .before .before .before .before .before .before .before .before .before .before .before .before .before .before .args .table))) t (c .before .before .before .before .before .before .before .before .before .before .before .before .before .before .args .at) 2 (c .before .before .before .before .before .before .before .before .before .before .before .before .before .before .pre .0) (c .before .before .before .before .walk .result .next) 1 (le-trans (c .before .before .before .before .before .before .after .ensures .0) (c .before .before .before .before .walk .ensures .forward (c .before .if1 .left))) (omega arith), ready-back (c .before .before .before .before .before .before .before .before .before .before .before .before .before .before .pre .1) (c .before .before .before .before .before .before .before .before .before .put .ensures .buffer) (c .before .before .before .before .walk .ensures .buffer))
+
+walk-either-same-length-2 : (t : ℕ) → walk-either-lts.Need-same-length-2 (walk-either-calls t) (walk-either-at t) walk-either.Post
+walk-either-same-length-2 t c = search needs
+
+walk-either-returns-2 : (t : ℕ) → walk-either-lts.Need-returns-2 (walk-either-calls t) (walk-either-at t) walk-either.Post
+walk-either-returns-2 t c = one-walks-past (c .before .before .before .before .before .before .before .before .before .before .before .before .put .ensures) (c .before .before .before .before .before .before .before .before .before .after .ensures) (c .before .before .before .before .before .before .before .walk .ensures) (c .before .before .before .before .if1 .left) (c .before .before .walk-two .ensures)
+
+walk-hold-gives-word-requires : (t : ℕ) → walk-hold-lts.Need-gives-word-requires (walk-hold-calls t) (walk-hold-at t) walk-hold.Post
+walk-hold-gives-word-requires t c κs = search needs
+
+walk-hold-returns : (t : ℕ) → walk-hold-lts.Need-returns (walk-hold-calls t) (walk-hold-at t) walk-hold.Post
+walk-hold-returns t c = hold-walks-here (c .before .before .before .before .before .pre .1 .room) (c .before .gives-word .ensures) (c .if1 .taken)
+
+walk-hold-with-lock-requires : (t : ℕ) → walk-hold-lts.Need-with-lock-requires (walk-hold-calls t) (walk-hold-at t) walk-hold.Post
+walk-hold-with-lock-requires t c κs = search needs
+
+walk-hold-put-requires : (t : ℕ) → walk-hold-lts.Need-put-requires (walk-hold-calls t) (walk-hold-at t) walk-hold.Post
+walk-hold-put-requires t c κs = search needs
+
+walk-hold-walk-requires : (t : ℕ) → walk-hold-lts.Need-walk-requires (walk-hold-calls t) (walk-hold-at t) walk-hold.Post
+walk-hold-walk-requires t c κs = (here-falls (c .before .before .before .before .before .before .before .before .before .before .before .args .depth) (length (now (c .before .before .before .before .before .before .before .before .before .before .before .args .table))) t (c .before .before .before .before .before .before .before .before .before .before .before .args .at) 2 (c .before .before .before .before .before .before .before .before .before .before .before .pre .0) (c .before .before .before .before .before .before .before .before .before .before .before .args .at) 0 (le-refl (c .before .before .before .before .before .before .before .before .before .before .before .args .at)) (omega arith), ready-next (c .before .before .before .before .before .before .before .before .before .before .before .pre .1) (c .before .before .before .before .before .with-lock .ensures .0) (c .before .before .before .put .ensures .buffer .room))
+
+walk-hold-same-length : (t : ℕ) → walk-hold-lts.Need-same-length (walk-hold-calls t) (walk-hold-at t) walk-hold.Post
+walk-hold-same-length t c = search needs
+
+walk-hold-returns-2 : (t : ℕ) → walk-hold-lts.Need-returns-2 (walk-hold-calls t) (walk-hold-at t) walk-hold.Post
+walk-hold-returns-2 t c = hold-walks-found (c .before .before .before .before .before .before .before .before .before .before .before .before .before .before .before .args .mask) (c .before .before .before .before .before .before .before .before .before .before .before .before .before .before .before .args .l) (c .before .before .before .before .before .before .before .before .before .before .before .gives-word .ensures) (c .before .before .before .before .before .before .before .before .before .before .if1 .left) (c .before .before .before .before .before .before .before .before .before .with-lock .ensures .1) (c .before .before .before .before .before .before .before .put .ensures) (c .before .before .before .walk .ensures) (c .if2 .taken)
+
+walk-hold-put-requires-2 : (t : ℕ) → walk-hold-lts.Need-put-requires-2 (walk-hold-calls t) (walk-hold-at t) walk-hold.Post
+walk-hold-put-requires-2 t c κs = search needs
+
+walk-hold-walk-requires-2 : (t : ℕ) → walk-hold-lts.Need-walk-requires-2 (walk-hold-calls t) (walk-hold-at t) walk-hold.Post
+walk-hold-walk-requires-2 t c κs = (here-falls (c .before .before .before .before .before .before .before .before .before .before .before .before .before .before .before .before .before .before .before .before .args .depth) (length (now (c .before .before .before .before .before .before .before .before .before .before .before .before .before .before .before .before .before .before .before .before .args .table))) t (c .before .before .before .before .before .before .before .before .before .before .before .before .before .before .before .before .before .before .before .before .args .at) 2 (c .before .before .before .before .before .before .before .before .before .before .before .before .before .before .before .before .before .before .before .before .pre .0) (c .before .before .before .before .before .before .before .before .walk .result .next) 0 (c .before .before .before .before .before .before .before .before .walk .ensures .forward (c .before .before .before .before .before .if2 .left)) (omega arith), ready-next (c .before .before .before .before .before .before .before .before .before .before .before .before .before .before .before .before .before .before .before .before .pre .1) (c .before .before .before .before .before .before .before .before .before .before .before .before .before .before .before .before .before .before .before .before .pre .1 .locks) (c .before .before .before .put2 .ensures .buffer .room))
+
+walk-hold-same-length-2 : (t : ℕ) → walk-hold-lts.Need-same-length-2 (walk-hold-calls t) (walk-hold-at t) walk-hold.Post
+walk-hold-same-length-2 t c = search needs
+
+walk-hold-returns-3 : (t : ℕ) → walk-hold-lts.Need-returns-3 (walk-hold-calls t) (walk-hold-at t) walk-hold.Post
+walk-hold-returns-3 t c = hold-walks-past (c .before .before .before .before .before .before .before .before .before .before .before .before .before .before .before .before .before .before .before .before .before .before .before .args .mask) (c .before .before .before .before .before .before .before .before .before .before .before .before .before .before .before .before .before .before .before .before .before .before .before .args .l) (c .before .before .before .before .before .before .before .before .before .before .before .before .before .before .before .before .before .before .before .gives-word .ensures) (c .before .before .before .before .before .before .before .before .before .before .before .before .before .before .before .before .before .before .if1 .left) (c .before .before .before .before .before .before .before .before .before .before .before .before .before .before .before .before .before .with-lock .ensures .1) (c .before .before .before .before .before .before .before .before .before .before .before .before .before .before .before .put .ensures) (c .before .before .before .before .before .before .before .before .before .before .before .walk .ensures) (c .before .before .before .before .before .before .before .before .if2 .left) (c .before .before .before .before .before .before .put2 .ensures) (c .before .before .walk2 .ensures)
+
+walk-loop-put-requires : (t : ℕ) → walk-loop-lts.Need-put-requires (walk-loop-calls t) (walk-loop-at t) walk-loop.Post
+walk-loop-put-requires t c κs = search needs
+
+walk-loop-walk-requires : (t : ℕ) → walk-loop-lts.Need-walk-requires (walk-loop-calls t) (walk-loop-at t) walk-loop.Post
+walk-loop-walk-requires t c κs = (here-falls (c .before .before .before .before .before .before .before .before .args .depth) (length (now (c .before .before .before .before .before .before .before .before .args .table))) t (c .before .before .before .before .before .before .before .before .args .at) 2 (c .before .before .before .before .before .before .before .before .pre .0) (c .before .before .before .before .before .before .before .before .args .at) 0 (le-refl (c .before .before .before .before .before .before .before .before .args .at)) (omega arith), ready-next (c .before .before .before .before .before .before .before .before .pre .1) (c .before .before .before .before .before .before .before .before .pre .1 .locks) (c .before .before .before .put .ensures .buffer .room))
+
+walk-loop-same-length : (t : ℕ) → walk-loop-lts.Need-same-length (walk-loop-calls t) (walk-loop-at t) walk-loop.Post
+walk-loop-same-length t c = search needs
+
+walk-loop-returns : (t : ℕ) → walk-loop-lts.Need-returns (walk-loop-calls t) (walk-loop-at t) walk-loop.Post
+walk-loop-returns t c = loop-walks-found (c .before .before .before .before .before .before .before .put .ensures) (c .before .before .before .walk .ensures) (c .if1 .taken)
+
+walk-loop-put-requires-2 : (t : ℕ) → walk-loop-lts.Need-put-requires-2 (walk-loop-calls t) (walk-loop-at t) walk-loop.Post
+walk-loop-put-requires-2 t c κs = search needs
+
+walk-loop-walk-requires-2 : (t : ℕ) → walk-loop-lts.Need-walk-requires-2 (walk-loop-calls t) (walk-loop-at t) walk-loop.Post
+walk-loop-walk-requires-2 t c κs = (here-falls (c .before .before .before .before .before .before .before .before .before .before .before .before .before .before .before .before .before .args .depth) (length (now (c .before .before .before .before .before .before .before .before .before .before .before .before .before .before .before .before .before .args .table))) t (c .before .before .before .before .before .before .before .before .before .before .before .before .before .before .before .before .before .args .at) 2 (c .before .before .before .before .before .before .before .before .before .before .before .before .before .before .before .before .before .pre .0) (c .before .before .before .before .before .before .before .before .walk .result .next) 0 (c .before .before .before .before .before .before .before .before .walk .ensures .forward (c .before .before .before .before .before .if1 .left)) (omega arith), ready-next (c .before .before .before .before .before .before .before .before .before .before .before .before .before .before .before .before .before .pre .1) (c .before .before .before .before .before .before .before .before .before .before .before .before .before .before .before .before .before .pre .1 .locks) (c .before .before .before .put2 .ensures .buffer .room))
+
+walk-loop-same-length-2 : (t : ℕ) → walk-loop-lts.Need-same-length-2 (walk-loop-calls t) (walk-loop-at t) walk-loop.Post
+walk-loop-same-length-2 t c = search needs
+
+walk-loop-returns-2 : (t : ℕ) → walk-loop-lts.Need-returns-2 (walk-loop-calls t) (walk-loop-at t) walk-loop.Post
+walk-loop-returns-2 t c = loop-walks-past (c .before .before .before .before .before .before .before .before .before .before .before .before .before .before .before .put .ensures) (c .before .before .before .before .before .before .before .before .before .before .before .walk .ensures) (c .before .before .before .before .before .before .before .before .if1 .left) (c .before .before .before .before .before .before .put2 .ensures) (c .before .before .walk2 .ensures)
+
+walk-skip-put-requires : (t : ℕ) → walk-skip-lts.Need-put-requires (walk-skip-calls t) (walk-skip-at t) walk-skip.Post
+walk-skip-put-requires t c κs = search needs
+
+walk-skip-walk-requires : (t : ℕ) → walk-skip-lts.Need-walk-requires (walk-skip-calls t) (walk-skip-at t) walk-skip.Post
+walk-skip-walk-requires t c κs = (here-falls (c .before .before .before .before .before .before .before .before .args .depth) (length (now (c .before .before .before .before .before .before .before .before .args .table))) t (c .before .before .before .before .before .before .before .before .args .at) 2 (c .before .before .before .before .before .before .before .before .pre .0) (c .before .before .before .before .before .before .before .before .args .at) 0 (le-refl (c .before .before .before .before .before .before .before .before .args .at)) (omega arith), ready-next (c .before .before .before .before .before .before .before .before .pre .1) (c .before .before .before .before .before .before .before .before .pre .1 .locks) (c .before .before .before .put .ensures .buffer .room))
+
+walk-skip-same-length : (t : ℕ) → walk-skip-lts.Need-same-length (walk-skip-calls t) (walk-skip-at t) walk-skip.Post
+walk-skip-same-length t c = search needs
+
+walk-skip-returns : (t : ℕ) → walk-skip-lts.Need-returns (walk-skip-calls t) (walk-skip-at t) walk-skip.Post
+walk-skip-returns t c = skip-walks (c .before .before .before .before .before .before .put .ensures) (c .before .before .walk .ensures)
+
+walk-two-put-requires : (t : ℕ) → walk-two-lts.Need-put-requires (walk-two-calls t) (walk-two-at t) walk-two.Post
+walk-two-put-requires t c κs = search needs
+
+walk-two-after-requires : (t : ℕ) → walk-two-lts.Need-after-requires (walk-two-calls t) (walk-two-at t) walk-two.Post
+walk-two-after-requires t c κs = search needs
+
+walk-two-walk-requires : (t : ℕ) → walk-two-lts.Need-walk-requires (walk-two-calls t) (walk-two-at t) walk-two.Post
+walk-two-walk-requires t c κs = (here-falls (c .before .before .before .before .before .before .before .before .before .args .depth) (length (now (c .before .before .before .before .before .before .before .before .before .args .table))) t (c .before .before .before .before .before .before .before .before .before .args .at) 1 (c .before .before .before .before .before .before .before .before .before .pre .0) (c .before .after .result) 0 (c .before .after .ensures .0) (omega arith), ready-next (c .before .before .before .before .before .before .before .before .before .pre .1) (c .before .before .before .before .before .before .before .before .before .pre .1 .locks) (c .before .before .before .before .put .ensures .buffer .room))
+
+walk-two-same-length : (t : ℕ) → walk-two-lts.Need-same-length (walk-two-calls t) (walk-two-at t) walk-two.Post
+walk-two-same-length t c = search needs
+
+walk-two-returns : (t : ℕ) → walk-two-lts.Need-returns (walk-two-calls t) (walk-two-at t) walk-two.Post
+walk-two-returns t c = two-walks-found (c .before .before .before .before .before .before .before .before .put .ensures) (c .before .before .before .before .before .after .ensures) (c .before .before .before .walk .ensures) (c .if1 .taken)
+
+walk-two-after-requires-2 : (t : ℕ) → walk-two-lts.Need-after-requires-2 (walk-two-calls t) (walk-two-at t) walk-two.Post
+walk-two-after-requires-2 t c κs = search needs
+
+walk-two-walk-requires-2 : (t : ℕ) → walk-two-lts.Need-walk-requires-2 (walk-two-calls t) (walk-two-at t) walk-two.Post
+walk-two-walk-requires-2 t c κs = (here-falls (c .before .before .before .before .before .before .before .before .before .before .before .before .before .before .before .args .depth) (length (now (c .before .before .before .before .before .before .before .before .before .before .before .before .before .before .before .args .table))) t (c .before .before .before .before .before .before .before .before .before .before .before .before .before .before .before .args .at) 1 (c .before .before .before .before .before .before .before .before .before .before .before .before .before .before .before .pre .0) (c .before .after2 .result) 0 (le-trans (c .before .before .before .before .before .before .before .after .ensures .0) (le-trans (c .before .before .before .before .before .walk .ensures .forward (c .before .before .if1 .left)) (c .before .after2 .ensures .0))) (omega arith), ready-next (c .before .before .before .before .before .before .before .before .before .before .before .before .before .before .before .pre .1) (c .before .before .before .before .before .before .before .before .before .before .before .before .before .before .before .pre .1 .locks) (c .before .before .before .before .before .walk .ensures .buffer .room))
+
+walk-two-same-length-2 : (t : ℕ) → walk-two-lts.Need-same-length-2 (walk-two-calls t) (walk-two-at t) walk-two.Post
+walk-two-same-length-2 t c = search needs
+
+walk-two-returns-2 : (t : ℕ) → walk-two-lts.Need-returns-2 (walk-two-calls t) (walk-two-at t) walk-two.Post
+walk-two-returns-2 t c = two-walks-past (c .before .before .before .before .before .before .before .before .before .before .before .before .before .put .ensures) (c .before .before .before .before .before .before .before .before .before .before .after .ensures) (c .before .before .before .before .before .before .before .before .walk .ensures) (c .before .before .before .before .before .if1 .left) (c .before .before .before .before .after2 .ensures) (c .before .before .walk2 .ensures)
 
 pub +walk+walk-call+walk-either+walk-hold+walk-loop+walk-skip+walk-two-spec :
     {M : Type 1} → statement M
@@ -1539,23 +446,7 @@ pub +walk+walk-call+walk-either+walk-hold+walk-loop+walk-skip+walk-two-spec :
     μ-walk-loop
     μ-walk-skip
     μ-walk-two
-    (λ t. walk-lts.spec (
-      passed-reads.Asked,
-      passed-reads.Learnt,
-      form-at-reads.Asked,
-      form-at-reads.Learnt,
-      walk-skip-below t,
-      walk-skip.Post,
-      walk-call-below t,
-      walk-call.Post,
-      walk-hold-below t,
-      walk-hold.Post,
-      walk-loop-below t,
-      walk-loop.Post,
-      walk-either-below t,
-      walk-either.Post,
-    )
-    (walk-at t)
+    (λ t. walk-lts.spec (walk-calls t) (walk-at t)
     walk.Post
     (walk-passed-requires t)
     (walk-returns t)
@@ -1601,15 +492,7 @@ pub +walk+walk-call+walk-either+walk-hold+walk-loop+walk-skip+walk-two-spec :
     (walk-returns-10 t)
     (walk-returns-11 t)
     (walk-returns-12 t))
-    (λ t. walk-call-lts.spec (
-      put-reads.Asked,
-      put-reads.Learnt,
-      walk-below t,
-      walk.Post,
-      start-of-reads.Asked,
-      start-of-reads.Learnt,
-    )
-    (walk-call-at t)
+    (λ t. walk-call-lts.spec (walk-call-calls t) (walk-call-at t)
     walk-call.Post
     (walk-call-put-requires t)
     (walk-call-walk-requires t)
@@ -1623,17 +506,7 @@ pub +walk+walk-call+walk-either+walk-hold+walk-loop+walk-skip+walk-two-spec :
     (walk-call-walk-requires-3 t)
     (walk-call-same-length-3 t)
     (walk-call-returns-3 t))
-    (λ t. walk-either-lts.spec (
-      put-reads.Asked,
-      put-reads.Learnt,
-      after-reads.Asked,
-      after-reads.Learnt,
-      walk-below t,
-      walk.Post,
-      walk-two-below t,
-      walk-two.Post,
-    )
-    (walk-either-at t)
+    (λ t. walk-either-lts.spec (walk-either-calls t) (walk-either-at t)
     walk-either.Post
     (walk-either-put-requires t)
     (walk-either-after-requires t)
@@ -1643,17 +516,7 @@ pub +walk+walk-call+walk-either+walk-hold+walk-loop+walk-skip+walk-two-spec :
     (walk-either-walk-two-requires t)
     (walk-either-same-length-2 t)
     (walk-either-returns-2 t))
-    (λ t. walk-hold-lts.spec (
-      gives-word-reads.Asked,
-      gives-word-reads.Learnt,
-      with-lock-reads.Asked,
-      with-lock-reads.Learnt,
-      put-reads.Asked,
-      put-reads.Learnt,
-      walk-below t,
-      walk.Post,
-    )
-    (walk-hold-at t)
+    (λ t. walk-hold-lts.spec (walk-hold-calls t) (walk-hold-at t)
     walk-hold.Post
     (walk-hold-gives-word-requires t)
     (walk-hold-returns t)
@@ -1666,9 +529,7 @@ pub +walk+walk-call+walk-either+walk-hold+walk-loop+walk-skip+walk-two-spec :
     (walk-hold-walk-requires-2 t)
     (walk-hold-same-length-2 t)
     (walk-hold-returns-3 t))
-    (λ t. walk-loop-lts.spec
-    (put-reads.Asked, put-reads.Learnt, walk-below t, walk.Post)
-    (walk-loop-at t)
+    (λ t. walk-loop-lts.spec (walk-loop-calls t) (walk-loop-at t)
     walk-loop.Post
     (walk-loop-put-requires t)
     (walk-loop-walk-requires t)
@@ -1678,23 +539,13 @@ pub +walk+walk-call+walk-either+walk-hold+walk-loop+walk-skip+walk-two-spec :
     (walk-loop-walk-requires-2 t)
     (walk-loop-same-length-2 t)
     (walk-loop-returns-2 t))
-    (λ t. walk-skip-lts.spec
-    (put-reads.Asked, put-reads.Learnt, walk-below t, walk.Post)
-    (walk-skip-at t)
+    (λ t. walk-skip-lts.spec (walk-skip-calls t) (walk-skip-at t)
     walk-skip.Post
     (walk-skip-put-requires t)
     (walk-skip-walk-requires t)
     (walk-skip-same-length t)
     (walk-skip-returns t))
-    λ t. walk-two-lts.spec (
-      put-reads.Asked,
-      put-reads.Learnt,
-      after-reads.Asked,
-      after-reads.Learnt,
-      walk-below t,
-      walk.Post,
-    )
-    (walk-two-at t)
+    λ t. walk-two-lts.spec (walk-two-calls t) (walk-two-at t)
     walk-two.Post
     (walk-two-put-requires t)
     (walk-two-after-requires t)
