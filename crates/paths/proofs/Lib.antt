@@ -5,3 +5,4 @@ pub mod Buffers
 pub mod Walking
 pub mod Wishes
 pub mod Measure
+pub mod Found

@@ -85,7 +85,7 @@ module _ (ps : List Block) (d : ℕ) where
   unfolding walkAt
   no-depth w p m path e = rw e
 
-  one-deeper : (w p m : ℕ) (path : List ℕ) → (d ≡ 0 → ⊥) → walkAt d ps w p m path ≡ walkWith (walkAt (d - 1) ps w) w m path (bodyIn ps p)
+  pub one-deeper : (w p m : ℕ) (path : List ℕ) → (d ≡ 0 → ⊥) → walkAt d ps w p m path ≡ walkWith (walkAt (d - 1) ps w) w m path (bodyIn ps p)
   unfolding walkAt
   one-deeper w p m path n = go d n
     where
@@ -93,7 +93,7 @@ module _ (ps : List Block) (d : ℕ) where
       go zero n = absurd (n refl)
       go (suc d) n = let e : suc d - 1 ≡ d = omega arith in rw e
 
-  size-deeper : (p : ℕ) → (d ≡ 0 → ⊥) → sizeAt d ps p ≡ sizeWith (sizeAt (d - 1) ps) (bodyIn ps p)
+  pub size-deeper : (p : ℕ) → (d ≡ 0 → ⊥) → sizeAt d ps p ≡ sizeWith (sizeAt (d - 1) ps) (bodyIn ps p)
   unfolding sizeAt
   size-deeper p n = go d n
     where
