@@ -27,11 +27,10 @@ module _ {ws starts s s₁ : List ℕ} {procs p word : ℕ} {r : Stop} (a : Aske
       let here : p < length (procsIn ws) = rw (← a .count) (a .present) in
       let there = a .begins .stands p here in
       let size = size-deeper (procsIn ws) (length (procsIn ws)) p (λ z. omega arith) in
-      let small = a .small in
-      (
+      let small = a .small in (
         there .later,
         rw (a .count) at (i .walked (bodyIn (procsIn ws) p) (there .later) (there .written)
-        (body-below (procsIn ws) (λ q. q) (a .plan .settled .sound) (length (procsIn ws)) p (omega arith)) (rw (a .count) (omega arith))),
+            (body-below (procsIn ws) (λ q. q) (a .plan .settled .sound) (length (procsIn ws)) p (omega arith)) (rw (a .count) (omega arith))),
       )
 
   pub path-written : PathWritten ws p word (r .count) s₁

@@ -8,7 +8,7 @@ use native.Mathlib.Nat.{le-refl, le-trans}
 use mathlib.Core.Path.{refl}
 use Rattle.text.specs.declared.Form.the-variants.{Plan, Proc, Thread, Close, Skip, Call, Hold, Loop, Either, One, Two}
 use Rattle.paths.proofs.Blocks.{inBlock}
-use Rattle.paths.proofs.Measure.{measure, forward-falls, here-falls, deeper-falls}
+use Rattle.paths.proofs.Measure.{measure, statement-falls, walk-falls, two-falls, rest-falls, deeper-falls}
 use Rattle.paths.proofs.Buffers.{ready-next, ready-back}
 use Rattle.paths.proofs.Walking.{ended-walks, other-walks, close-walks, walks-at, skip-walks, call-walks-none, call-walks-found, call-walks-past}
 use Rattle.paths.proofs.Walking.{hold-walks-here, hold-walks-found, hold-walks-past, loop-walks-found, loop-walks-past}
@@ -146,7 +146,7 @@ walk-passed-requires : (t : ℕ) → walk-lts.Need-passed-requires (walk-calls t
 walk-passed-requires t c κs = search needs
 
 walk-returns : (t : ℕ) → walk-lts.Need-returns (walk-calls t) (walk-at t) walk.Post
-walk-returns t c = ended-walks _ (c .passed .ensures) (c .before .before .before .before .before .pre .1 .room) (c .before .if1 .taken)
+walk-returns t c = search (ended-walks, needs)
 
 walk-mul-form-at : (t : ℕ) → walk-lts.Need-mul-form-at (walk-calls t) (walk-at t) walk.Post
 walk-mul-form-at t c = search needs
@@ -188,31 +188,46 @@ walk-enum-told-5 : (t : ℕ) → walk-lts.Need-enum-told-5 (walk-calls t) (walk-
 walk-enum-told-5 t c = search needs
 
 walk-walk-skip-requires : (t : ℕ) → walk-lts.Need-walk-skip-requires (walk-calls t) (walk-at t) walk.Post
-walk-walk-skip-requires t c κs = (forward-falls (c .before .before .before .before .before .before .before .before .before .args .depth) (length (now (c .before .before .before .before .before .before .before .before .before .args .table))) t (c .before .before .before .before .before .before .before .before .before .args .at) 0 (c .before .before .before .before .before .before .before .before .before .pre .0) (c .before .before .before .before .before .before .before .before .before .args .at + 1) 2 (omega arith) (omega arith) (omega arith), c .before .before .before .before .before .before .before .before .before .pre .1)
+walk-walk-skip-requires t c κs =
+    let c₁ = c .before .before .before .before .before in
+    let c₂ = c₁ .before .before .before .before in
+    (statement-falls _ _ _ _ (c₂ .pre .0) (c₁ .if1 .left), c₂ .pre .1)
 
 walk-enum-known-form : (t : ℕ) → walk-lts.Need-enum-known-form (walk-calls t) (walk-at t) walk.Post
 walk-enum-known-form t c = search needs
 
 walk-walk-call-requires : (t : ℕ) → walk-lts.Need-walk-call-requires (walk-calls t) (walk-at t) walk.Post
-walk-walk-call-requires t c κs = (forward-falls (c .before .before .before .before .before .before .before .before .before .before .args .depth) (length (now (c .before .before .before .before .before .before .before .before .before .before .args .table))) t (c .before .before .before .before .before .before .before .before .before .before .args .at) 0 (c .before .before .before .before .before .before .before .before .before .before .pre .0) (c .before .before .before .before .before .before .before .before .before .before .args .at + 1) 2 (omega arith) (omega arith) (omega arith), c .before .before .before .before .before .before .before .before .before .before .pre .1)
+walk-walk-call-requires t c κs =
+    let c₁ = c .before .before .before .before .before .before in
+    let c₂ = c₁ .before .before .before .before in
+    (statement-falls _ _ _ _ (c₂ .pre .0) (c₁ .if1 .left), c₂ .pre .1)
 
 walk-enum-known-form-2 : (t : ℕ) → walk-lts.Need-enum-known-form-2 (walk-calls t) (walk-at t) walk.Post
 walk-enum-known-form-2 t c = search needs
 
 walk-walk-hold-requires : (t : ℕ) → walk-lts.Need-walk-hold-requires (walk-calls t) (walk-at t) walk.Post
-walk-walk-hold-requires t c κs = (forward-falls (c .before .before .before .before .before .before .before .before .before .before .args .depth) (length (now (c .before .before .before .before .before .before .before .before .before .before .args .table))) t (c .before .before .before .before .before .before .before .before .before .before .args .at) 0 (c .before .before .before .before .before .before .before .before .before .before .pre .0) (c .before .before .before .before .before .before .before .before .before .before .args .at + 1) 2 (omega arith) (omega arith) (omega arith), c .before .before .before .before .before .before .before .before .before .before .pre .1)
+walk-walk-hold-requires t c κs =
+    let c₁ = c .before .before .before .before .before .before in
+    let c₂ = c₁ .before .before .before .before in
+    (statement-falls _ _ _ _ (c₂ .pre .0) (c₁ .if1 .left), c₂ .pre .1)
 
 walk-enum-told-6 : (t : ℕ) → walk-lts.Need-enum-told-6 (walk-calls t) (walk-at t) walk.Post
 walk-enum-told-6 t c = search needs
 
 walk-walk-loop-requires : (t : ℕ) → walk-lts.Need-walk-loop-requires (walk-calls t) (walk-at t) walk.Post
-walk-walk-loop-requires t c κs = (forward-falls (c .before .before .before .before .before .before .before .before .before .args .depth) (length (now (c .before .before .before .before .before .before .before .before .before .args .table))) t (c .before .before .before .before .before .before .before .before .before .args .at) 0 (c .before .before .before .before .before .before .before .before .before .pre .0) (c .before .before .before .before .before .before .before .before .before .args .at + 1) 2 (omega arith) (omega arith) (omega arith), c .before .before .before .before .before .before .before .before .before .pre .1)
+walk-walk-loop-requires t c κs =
+    let c₁ = c .before .before .before .before .before in
+    let c₂ = c₁ .before .before .before .before in
+    (statement-falls _ _ _ _ (c₂ .pre .0) (c₁ .if1 .left), c₂ .pre .1)
 
 walk-enum-told-7 : (t : ℕ) → walk-lts.Need-enum-told-7 (walk-calls t) (walk-at t) walk.Post
 walk-enum-told-7 t c = search needs
 
 walk-walk-either-requires : (t : ℕ) → walk-lts.Need-walk-either-requires (walk-calls t) (walk-at t) walk.Post
-walk-walk-either-requires t c κs = (forward-falls (c .before .before .before .before .before .before .before .before .before .args .depth) (length (now (c .before .before .before .before .before .before .before .before .before .args .table))) t (c .before .before .before .before .before .before .before .before .before .args .at) 0 (c .before .before .before .before .before .before .before .before .before .pre .0) (c .before .before .before .before .before .before .before .before .before .args .at + 1) 2 (omega arith) (omega arith) (omega arith), c .before .before .before .before .before .before .before .before .before .pre .1)
+walk-walk-either-requires t c κs =
+    let c₁ = c .before .before .before .before .before in
+    let c₂ = c₁ .before .before .before .before in
+    (statement-falls _ _ _ _ (c₂ .pre .0) (c₁ .if1 .left), c₂ .pre .1)
 
 walk-enum-told-8 : (t : ℕ) → walk-lts.Need-enum-told-8 (walk-calls t) (walk-at t) walk.Post
 walk-enum-told-8 t c = search needs
@@ -228,68 +243,71 @@ walk-passed-requires-7 t c κs = search needs
 
 walk-returns-2 : (t : ℕ) → walk-lts.Need-returns-2 (walk-calls t) (walk-at t) walk.Post
 unfolding inBlock
-walk-returns-2 t c = walks-at _ Plan (c .before .before .before .before .before .if1 .left) (c .before .before .before .form-at .ensures) (c .before .enum-told .given .1) (other-walks _ (c .passed2 .ensures) (c .before .before .before .before .before .before .before .before .before .pre .1 .room) Plan refl)
+walk-returns-2 t c = search (walks-at, other-walks, needs)
 
 walk-returns-3 : (t : ℕ) → walk-lts.Need-returns-3 (walk-calls t) (walk-at t) walk.Post
 unfolding inBlock
-walk-returns-3 t c = walks-at _ Proc (c .before .before .before .before .before .if1 .left) (c .before .before .before .form-at .ensures) (c .before .enum-told2 .given .1) (other-walks _ (c .passed3 .ensures) (c .before .before .before .before .before .before .before .before .before .pre .1 .room) Proc refl)
+walk-returns-3 t c = search (walks-at, other-walks, needs)
 
 walk-returns-4 : (t : ℕ) → walk-lts.Need-returns-4 (walk-calls t) (walk-at t) walk.Post
 unfolding inBlock
-walk-returns-4 t c = walks-at _ (Thread _) (c .before .before .before .before .before .if1 .left) (c .before .before .before .form-at .ensures) (c .before .enum-told3 .given .1) (other-walks _ (c .passed4 .ensures) (c .before .before .before .before .before .before .before .before .before .pre .1 .room) (Thread _) refl)
+walk-returns-4 t c = search (walks-at, other-walks, needs)
 
 walk-returns-5 : (t : ℕ) → walk-lts.Need-returns-5 (walk-calls t) (walk-at t) walk.Post
-walk-returns-5 t c = walks-at _ Close (c .before .before .before .before .before .if1 .left) (c .before .before .before .form-at .ensures) (c .before .enum-told4 .given .1) (close-walks _ (c .passed5 .ensures) (c .before .before .before .before .before .before .before .before .before .pre .1 .room))
+walk-returns-5 t c = search (walks-at, close-walks, needs)
 
 walk-same-length : (t : ℕ) → walk-lts.Need-same-length (walk-calls t) (walk-at t) walk.Post
 walk-same-length t c = search needs
 
 walk-returns-6 : (t : ℕ) → walk-lts.Need-returns-6 (walk-calls t) (walk-at t) walk.Post
-walk-returns-6 t c = walks-at _ Skip (c .before .before .before .before .before .before .before .before .if1 .left) (c .before .before .before .before .before .before .form-at .ensures) (c .before .before .before .before .enum-told5 .given .1) (c .before .before .walk-skip .ensures)
+walk-returns-6 t c = search (walks-at, needs)
 
 walk-same-length-2 : (t : ℕ) → walk-lts.Need-same-length-2 (walk-calls t) (walk-at t) walk.Post
 walk-same-length-2 t c = search needs
 
 walk-returns-7 : (t : ℕ) → walk-lts.Need-returns-7 (walk-calls t) (walk-at t) walk.Post
-walk-returns-7 t c = walks-at _ (Call _) (c .before .before .before .before .before .before .before .before .before .if1 .left) (c .before .before .before .before .before .before .before .form-at .ensures) (c .before .before .before .before .before .form .given .1) (c .before .before .walk-call .ensures)
+walk-returns-7 t c = search (walks-at, needs)
 
 walk-same-length-3 : (t : ℕ) → walk-lts.Need-same-length-3 (walk-calls t) (walk-at t) walk.Post
 walk-same-length-3 t c = search needs
 
 walk-returns-8 : (t : ℕ) → walk-lts.Need-returns-8 (walk-calls t) (walk-at t) walk.Post
-walk-returns-8 t c = walks-at _ (Hold _) (c .before .before .before .before .before .before .before .before .before .if1 .left) (c .before .before .before .before .before .before .before .form-at .ensures) (c .before .before .before .before .before .form2 .given .1) (c .before .before .walk-hold .ensures)
+walk-returns-8 t c = search (walks-at, needs)
 
 walk-same-length-4 : (t : ℕ) → walk-lts.Need-same-length-4 (walk-calls t) (walk-at t) walk.Post
 walk-same-length-4 t c = search needs
 
 walk-returns-9 : (t : ℕ) → walk-lts.Need-returns-9 (walk-calls t) (walk-at t) walk.Post
-walk-returns-9 t c = walks-at _ Loop (c .before .before .before .before .before .before .before .before .if1 .left) (c .before .before .before .before .before .before .form-at .ensures) (c .before .before .before .before .enum-told6 .given .1) (c .before .before .walk-loop .ensures)
+walk-returns-9 t c = search (walks-at, needs)
 
 walk-same-length-5 : (t : ℕ) → walk-lts.Need-same-length-5 (walk-calls t) (walk-at t) walk.Post
 walk-same-length-5 t c = search needs
 
 walk-returns-10 : (t : ℕ) → walk-lts.Need-returns-10 (walk-calls t) (walk-at t) walk.Post
-walk-returns-10 t c = walks-at _ Either (c .before .before .before .before .before .before .before .before .if1 .left) (c .before .before .before .before .before .before .form-at .ensures) (c .before .before .before .before .enum-told7 .given .1) (c .before .before .walk-either .ensures)
+walk-returns-10 t c = search (walks-at, needs)
 
 walk-returns-11 : (t : ℕ) → walk-lts.Need-returns-11 (walk-calls t) (walk-at t) walk.Post
 unfolding inBlock
-walk-returns-11 t c = walks-at _ One (c .before .before .before .before .before .if1 .left) (c .before .before .before .form-at .ensures) (c .before .enum-told8 .given .1) (other-walks _ (c .passed6 .ensures) (c .before .before .before .before .before .before .before .before .before .pre .1 .room) One refl)
+walk-returns-11 t c = search (walks-at, other-walks, needs)
 
 walk-returns-12 : (t : ℕ) → walk-lts.Need-returns-12 (walk-calls t) (walk-at t) walk.Post
 unfolding inBlock
-walk-returns-12 t c = walks-at _ Two (c .before .before .before .before .before .if1 .left) (c .before .before .before .form-at .ensures) (c .before .enum-told9 .given .1) (other-walks _ (c .passed7 .ensures) (c .before .before .before .before .before .before .before .before .before .pre .1 .room) Two refl)
+walk-returns-12 t c = search (walks-at, other-walks, needs)
 
 walk-call-put-requires : (t : ℕ) → walk-call-lts.Need-put-requires (walk-call-calls t) (walk-call-at t) walk-call.Post
 walk-call-put-requires t c κs = search needs
 
 walk-call-walk-requires : (t : ℕ) → walk-call-lts.Need-walk-requires (walk-call-calls t) (walk-call-at t) walk-call.Post
-walk-call-walk-requires t c κs = (here-falls (c .before .before .before .before .before .before .before .before .before .args .depth) (length (now (c .before .before .before .before .before .before .before .before .before .args .table))) t (c .before .before .before .before .before .before .before .before .before .args .at) 2 (c .before .before .before .before .before .before .before .before .before .pre .0) (c .before .before .before .before .before .before .before .before .before .args .at) 0 (le-refl (c .before .before .before .before .before .before .before .before .before .args .at)) (omega arith), ready-next (c .before .before .before .before .before .before .before .before .before .pre .1) (c .before .before .before .before .before .before .before .before .before .pre .1 .locks) (c .before .before .before .before .put .ensures .buffer .room))
+walk-call-walk-requires t c κs =
+    let c₁ = c .before .before .before .before in
+    let c₂ = c₁ .before .before .before .before .before in
+    (walk-falls _ _ _ _ _ (c₂ .pre .0) (le-refl _), ready-next (c₂ .pre .1) (c₂ .pre .1 .locks) (c₁ .put .ensures .buffer .room))
 
 walk-call-same-length : (t : ℕ) → walk-call-lts.Need-same-length (walk-call-calls t) (walk-call-at t) walk-call.Post
 walk-call-same-length t c = search needs
 
 walk-call-returns : (t : ℕ) → walk-call-lts.Need-returns (walk-call-calls t) (walk-call-at t) walk-call.Post
-walk-call-returns t c = call-walks-none (c .before .before .before .before .before .before .before .put .ensures) (c .before .before .before .before .if1 .taken) (c .before .before .walk .ensures)
+walk-call-returns t c = search (call-walks-none, needs)
 
 walk-call-sub-walk : (t : ℕ) → walk-call-lts.Need-sub-walk (walk-call-calls t) (walk-call-at t) walk-call.Post
 walk-call-sub-walk t c = search needs
@@ -298,22 +316,29 @@ walk-call-start-of-requires : (t : ℕ) → walk-call-lts.Need-start-of-requires
 walk-call-start-of-requires t c κs = search needs
 
 walk-call-walk-requires-2 : (t : ℕ) → walk-call-lts.Need-walk-requires-2 (walk-call-calls t) (walk-call-at t) walk-call.Post
-walk-call-walk-requires-2 t c κs = (deeper-falls (c .before .before .before .before .before .before .before .before .before .before .args .depth) (length (now (c .before .before .before .before .before .before .before .before .before .before .args .table))) t (c .before .before .before .before .before .before .before .before .before .before .args .at) 2 (c .before .before .before .before .before .before .before .before .before .before .pre .0) (c .before .start-of .result) (c .before .before .if1 .left), ready-next (c .before .before .before .before .before .before .before .before .before .before .pre .1) (c .before .before .before .before .before .before .before .before .before .before .pre .1 .locks) (c .before .before .before .before .before .put .ensures .buffer .room))
+walk-call-walk-requires-2 t c κs =
+    let c₁ = c .before .before in
+    let c₂ = c₁ .before .before .before in
+    let c₃ = c₂ .before .before .before .before .before in
+    (deeper-falls _ _ _ _ _ (c₃ .pre .0) (c₁ .if1 .left), ready-next (c₃ .pre .1) (c₃ .pre .1 .locks) (c₂ .put .ensures .buffer .room))
 
 walk-call-same-length-2 : (t : ℕ) → walk-call-lts.Need-same-length-2 (walk-call-calls t) (walk-call-at t) walk-call.Post
 walk-call-same-length-2 t c = search needs
 
 walk-call-returns-2 : (t : ℕ) → walk-call-lts.Need-returns-2 (walk-call-calls t) (walk-call-at t) walk-call.Post
-walk-call-returns-2 t c = call-walks-found (c .before .before .before .before .before .before .before .before .before .before .before .before .before .before .pre .1) (c .before .before .before .before .before .before .before .before .before .put .ensures) (c .before .before .before .before .before .before .if1 .left) (c .before .before .before .before .before .start-of .ensures) (c .before .before .before .walk2 .ensures) (c .if2 .taken)
+walk-call-returns-2 t c = search (call-walks-found, needs)
 
 walk-call-walk-requires-3 : (t : ℕ) → walk-call-lts.Need-walk-requires-3 (walk-call-calls t) (walk-call-at t) walk-call.Post
-walk-call-walk-requires-3 t c κs = (here-falls (c .before .before .before .before .before .before .before .before .before .before .before .before .before .before .before .args .depth) (length (now (c .before .before .before .before .before .before .before .before .before .before .before .before .before .before .before .args .table))) t (c .before .before .before .before .before .before .before .before .before .before .before .before .before .before .before .args .at) 2 (c .before .before .before .before .before .before .before .before .before .before .before .before .before .before .before .pre .0) (c .before .before .before .before .before .before .before .before .before .before .before .before .before .before .before .args .at) 0 (le-refl (c .before .before .before .before .before .before .before .before .before .before .before .before .before .before .before .args .at)) (omega arith), ready-next (c .before .before .before .before .before .before .before .before .before .before .before .before .before .before .before .pre .1) (c .before .before .before .before .before .before .before .before .before .before .before .before .before .before .before .pre .1 .locks) (c .before .before .before .before .walk2 .ensures .buffer .room))
+walk-call-walk-requires-3 t c κs =
+    let c₁ = c .before .before .before .before in
+    let c₂ = c₁ .before .before .before .before .before .before .before .before .before .before .before in
+    (walk-falls _ _ _ _ _ (c₂ .pre .0) (le-refl _), ready-next (c₂ .pre .1) (c₂ .pre .1 .locks) (c₁ .walk2 .ensures .buffer .room))
 
 walk-call-same-length-3 : (t : ℕ) → walk-call-lts.Need-same-length-3 (walk-call-calls t) (walk-call-at t) walk-call.Post
 walk-call-same-length-3 t c = search needs
 
 walk-call-returns-3 : (t : ℕ) → walk-call-lts.Need-returns-3 (walk-call-calls t) (walk-call-at t) walk-call.Post
-walk-call-returns-3 t c = call-walks-past (c .before .before .before .before .before .before .before .before .before .before .before .before .before .before .before .before .before .before .pre .1) (c .before .before .before .before .before .before .before .before .before .before .before .before .before .put .ensures) (c .before .before .before .before .before .before .before .before .before .before .if1 .left) (c .before .before .before .before .before .before .before .before .before .start-of .ensures) (c .before .before .before .before .before .before .before .walk2 .ensures) (c .before .before .before .before .if2 .left) (c .before .before .walk3 .ensures)
+walk-call-returns-3 t c = search (call-walks-past, needs)
 
 walk-either-put-requires : (t : ℕ) → walk-either-lts.Need-put-requires (walk-either-calls t) (walk-either-at t) walk-either.Post
 walk-either-put-requires t c κs = search needs
@@ -322,28 +347,38 @@ walk-either-after-requires : (t : ℕ) → walk-either-lts.Need-after-requires (
 walk-either-after-requires t c κs = search needs
 
 walk-either-walk-requires : (t : ℕ) → walk-either-lts.Need-walk-requires (walk-either-calls t) (walk-either-at t) walk-either.Post
-walk-either-walk-requires t c κs = (here-falls (c .before .before .before .before .before .before .before .before .before .args .depth) (length (now (c .before .before .before .before .before .before .before .before .before .args .table))) t (c .before .before .before .before .before .before .before .before .before .args .at) 2 (c .before .before .before .before .before .before .before .before .before .pre .0) (c .before .after .result) 0 (c .before .after .ensures .0) (omega arith), ready-next (c .before .before .before .before .before .before .before .before .before .pre .1) (c .before .before .before .before .before .before .before .before .before .pre .1 .locks) (c .before .before .before .before .put .ensures .buffer .room))
+walk-either-walk-requires t c κs =
+    let c₁ = c .before in
+    let c₂ = c₁ .before .before .before in
+    let c₃ = c₂ .before .before .before .before .before in
+    (walk-falls _ _ _ _ _ (c₃ .pre .0) (c₁ .after .ensures .0), ready-next (c₃ .pre .1) (c₃ .pre .1 .locks) (c₂ .put .ensures .buffer .room))
 
 walk-either-same-length : (t : ℕ) → walk-either-lts.Need-same-length (walk-either-calls t) (walk-either-at t) walk-either.Post
 walk-either-same-length t c = search needs
 
 walk-either-returns : (t : ℕ) → walk-either-lts.Need-returns (walk-either-calls t) (walk-either-at t) walk-either.Post
-walk-either-returns t c = one-walks-found (c .before .before .before .before .before .before .before .before .put .ensures) (c .before .before .before .before .before .after .ensures) (c .before .before .before .walk .ensures) (c .if1 .taken)
+walk-either-returns t c = search (one-walks-found, needs)
 
 walk-either-walk-two-requires : (t : ℕ) → walk-either-lts.Need-walk-two-requires (walk-either-calls t) (walk-either-at t) walk-either.Post
-walk-either-walk-two-requires t c κs = (here-falls (c .before .before .before .before .before .before .before .before .before .before .before .before .before .before .args .depth) (length (now (c .before .before .before .before .before .before .before .before .before .before .before .before .before .before .args .table))) t (c .before .before .before .before .before .before .before .before .before .before .before .before .before .before .args .at) 2 (c .before .before .before .before .before .before .before .before .before .before .before .before .before .before .pre .0) (c .before .before .before .before .walk .result .next) 1 (le-trans (c .before .before .before .before .before .before .after .ensures .0) (c .before .before .before .before .walk .ensures .forward (c .before .if1 .left))) (omega arith), ready-back (c .before .before .before .before .before .before .before .before .before .before .before .before .before .before .pre .1) (c .before .before .before .before .before .before .before .before .before .put .ensures .buffer) (c .before .before .before .before .walk .ensures .buffer))
+walk-either-walk-two-requires t c κs =
+    let c₁ = c .before in
+    let c₂ = c₁ .before .before .before in
+    let c₃ = c₂ .before .before in
+    let c₄ = c₃ .before .before .before in
+    let c₅ = c₄ .before .before .before .before .before in
+    (two-falls _ _ _ _ _ (c₅ .pre .0) (le-trans (c₃ .after .ensures .0) (c₂ .walk .ensures .forward (c₁ .if1 .left))), ready-back (c₅ .pre .1) (c₄ .put .ensures .buffer) (c₂ .walk .ensures .buffer))
 
 walk-either-same-length-2 : (t : ℕ) → walk-either-lts.Need-same-length-2 (walk-either-calls t) (walk-either-at t) walk-either.Post
 walk-either-same-length-2 t c = search needs
 
 walk-either-returns-2 : (t : ℕ) → walk-either-lts.Need-returns-2 (walk-either-calls t) (walk-either-at t) walk-either.Post
-walk-either-returns-2 t c = one-walks-past (c .before .before .before .before .before .before .before .before .before .before .before .before .put .ensures) (c .before .before .before .before .before .before .before .before .before .after .ensures) (c .before .before .before .before .before .before .before .walk .ensures) (c .before .before .before .before .if1 .left) (c .before .before .walk-two .ensures)
+walk-either-returns-2 t c = search (one-walks-past, needs)
 
 walk-hold-gives-word-requires : (t : ℕ) → walk-hold-lts.Need-gives-word-requires (walk-hold-calls t) (walk-hold-at t) walk-hold.Post
 walk-hold-gives-word-requires t c κs = search needs
 
 walk-hold-returns : (t : ℕ) → walk-hold-lts.Need-returns (walk-hold-calls t) (walk-hold-at t) walk-hold.Post
-walk-hold-returns t c = hold-walks-here (c .before .before .before .before .before .pre .1 .room) (c .before .gives-word .ensures) (c .if1 .taken)
+walk-hold-returns t c = search (hold-walks-here, needs)
 
 walk-hold-with-lock-requires : (t : ℕ) → walk-hold-lts.Need-with-lock-requires (walk-hold-calls t) (walk-hold-at t) walk-hold.Post
 walk-hold-with-lock-requires t c κs = search needs
@@ -352,61 +387,81 @@ walk-hold-put-requires : (t : ℕ) → walk-hold-lts.Need-put-requires (walk-hol
 walk-hold-put-requires t c κs = search needs
 
 walk-hold-walk-requires : (t : ℕ) → walk-hold-lts.Need-walk-requires (walk-hold-calls t) (walk-hold-at t) walk-hold.Post
-walk-hold-walk-requires t c κs = (here-falls (c .before .before .before .before .before .before .before .before .before .before .before .args .depth) (length (now (c .before .before .before .before .before .before .before .before .before .before .before .args .table))) t (c .before .before .before .before .before .before .before .before .before .before .before .args .at) 2 (c .before .before .before .before .before .before .before .before .before .before .before .pre .0) (c .before .before .before .before .before .before .before .before .before .before .before .args .at) 0 (le-refl (c .before .before .before .before .before .before .before .before .before .before .before .args .at)) (omega arith), ready-next (c .before .before .before .before .before .before .before .before .before .before .before .pre .1) (c .before .before .before .before .before .with-lock .ensures .0) (c .before .before .before .put .ensures .buffer .room))
+walk-hold-walk-requires t c κs =
+    let c₁ = c .before .before .before in
+    let c₂ = c₁ .before .before in
+    let c₃ = c₂ .before .before .before .before .before .before in
+    (walk-falls _ _ _ _ _ (c₃ .pre .0) (le-refl _), ready-next (c₃ .pre .1) (c₂ .with-lock .ensures .0) (c₁ .put .ensures .buffer .room))
 
 walk-hold-same-length : (t : ℕ) → walk-hold-lts.Need-same-length (walk-hold-calls t) (walk-hold-at t) walk-hold.Post
 walk-hold-same-length t c = search needs
 
 walk-hold-returns-2 : (t : ℕ) → walk-hold-lts.Need-returns-2 (walk-hold-calls t) (walk-hold-at t) walk-hold.Post
-walk-hold-returns-2 t c = hold-walks-found (c .before .before .before .before .before .before .before .before .before .before .before .before .before .before .before .args .mask) (c .before .before .before .before .before .before .before .before .before .before .before .before .before .before .before .args .l) (c .before .before .before .before .before .before .before .before .before .before .before .gives-word .ensures) (c .before .before .before .before .before .before .before .before .before .before .if1 .left) (c .before .before .before .before .before .before .before .before .before .with-lock .ensures .1) (c .before .before .before .before .before .before .before .put .ensures) (c .before .before .before .walk .ensures) (c .if2 .taken)
+walk-hold-returns-2 t c = search (hold-walks-found, needs)
 
 walk-hold-put-requires-2 : (t : ℕ) → walk-hold-lts.Need-put-requires-2 (walk-hold-calls t) (walk-hold-at t) walk-hold.Post
 walk-hold-put-requires-2 t c κs = search needs
 
 walk-hold-walk-requires-2 : (t : ℕ) → walk-hold-lts.Need-walk-requires-2 (walk-hold-calls t) (walk-hold-at t) walk-hold.Post
-walk-hold-walk-requires-2 t c κs = (here-falls (c .before .before .before .before .before .before .before .before .before .before .before .before .before .before .before .before .before .before .before .before .args .depth) (length (now (c .before .before .before .before .before .before .before .before .before .before .before .before .before .before .before .before .before .before .before .before .args .table))) t (c .before .before .before .before .before .before .before .before .before .before .before .before .before .before .before .before .before .before .before .before .args .at) 2 (c .before .before .before .before .before .before .before .before .before .before .before .before .before .before .before .before .before .before .before .before .pre .0) (c .before .before .before .before .before .before .before .before .walk .result .next) 0 (c .before .before .before .before .before .before .before .before .walk .ensures .forward (c .before .before .before .before .before .if2 .left)) (omega arith), ready-next (c .before .before .before .before .before .before .before .before .before .before .before .before .before .before .before .before .before .before .before .before .pre .1) (c .before .before .before .before .before .before .before .before .before .before .before .before .before .before .before .before .before .before .before .before .pre .1 .locks) (c .before .before .before .put2 .ensures .buffer .room))
+walk-hold-walk-requires-2 t c κs =
+    let c₁ = c .before .before .before in
+    let c₂ = c₁ .before .before in
+    let c₃ = c₂ .before .before .before in
+    let c₄ = c₃ .before .before .before .before .before .before .before .before .before .before .before .before in
+    (walk-falls _ _ _ _ _ (c₄ .pre .0) (c₃ .walk .ensures .forward (c₂ .if2 .left)), ready-next (c₄ .pre .1) (c₄ .pre .1 .locks) (c₁ .put2 .ensures .buffer .room))
 
 walk-hold-same-length-2 : (t : ℕ) → walk-hold-lts.Need-same-length-2 (walk-hold-calls t) (walk-hold-at t) walk-hold.Post
 walk-hold-same-length-2 t c = search needs
 
 walk-hold-returns-3 : (t : ℕ) → walk-hold-lts.Need-returns-3 (walk-hold-calls t) (walk-hold-at t) walk-hold.Post
-walk-hold-returns-3 t c = hold-walks-past (c .before .before .before .before .before .before .before .before .before .before .before .before .before .before .before .before .before .before .before .before .before .before .before .args .mask) (c .before .before .before .before .before .before .before .before .before .before .before .before .before .before .before .before .before .before .before .before .before .before .before .args .l) (c .before .before .before .before .before .before .before .before .before .before .before .before .before .before .before .before .before .before .before .gives-word .ensures) (c .before .before .before .before .before .before .before .before .before .before .before .before .before .before .before .before .before .before .if1 .left) (c .before .before .before .before .before .before .before .before .before .before .before .before .before .before .before .before .before .with-lock .ensures .1) (c .before .before .before .before .before .before .before .before .before .before .before .before .before .before .before .put .ensures) (c .before .before .before .before .before .before .before .before .before .before .before .walk .ensures) (c .before .before .before .before .before .before .before .before .if2 .left) (c .before .before .before .before .before .before .put2 .ensures) (c .before .before .walk2 .ensures)
+walk-hold-returns-3 t c = search (hold-walks-past, needs)
 
 walk-loop-put-requires : (t : ℕ) → walk-loop-lts.Need-put-requires (walk-loop-calls t) (walk-loop-at t) walk-loop.Post
 walk-loop-put-requires t c κs = search needs
 
 walk-loop-walk-requires : (t : ℕ) → walk-loop-lts.Need-walk-requires (walk-loop-calls t) (walk-loop-at t) walk-loop.Post
-walk-loop-walk-requires t c κs = (here-falls (c .before .before .before .before .before .before .before .before .args .depth) (length (now (c .before .before .before .before .before .before .before .before .args .table))) t (c .before .before .before .before .before .before .before .before .args .at) 2 (c .before .before .before .before .before .before .before .before .pre .0) (c .before .before .before .before .before .before .before .before .args .at) 0 (le-refl (c .before .before .before .before .before .before .before .before .args .at)) (omega arith), ready-next (c .before .before .before .before .before .before .before .before .pre .1) (c .before .before .before .before .before .before .before .before .pre .1 .locks) (c .before .before .before .put .ensures .buffer .room))
+walk-loop-walk-requires t c κs =
+    let c₁ = c .before .before .before in
+    let c₂ = c₁ .before .before .before .before .before in
+    (walk-falls _ _ _ _ _ (c₂ .pre .0) (le-refl _), ready-next (c₂ .pre .1) (c₂ .pre .1 .locks) (c₁ .put .ensures .buffer .room))
 
 walk-loop-same-length : (t : ℕ) → walk-loop-lts.Need-same-length (walk-loop-calls t) (walk-loop-at t) walk-loop.Post
 walk-loop-same-length t c = search needs
 
 walk-loop-returns : (t : ℕ) → walk-loop-lts.Need-returns (walk-loop-calls t) (walk-loop-at t) walk-loop.Post
-walk-loop-returns t c = loop-walks-found (c .before .before .before .before .before .before .before .put .ensures) (c .before .before .before .walk .ensures) (c .if1 .taken)
+walk-loop-returns t c = search (loop-walks-found, needs)
 
 walk-loop-put-requires-2 : (t : ℕ) → walk-loop-lts.Need-put-requires-2 (walk-loop-calls t) (walk-loop-at t) walk-loop.Post
 walk-loop-put-requires-2 t c κs = search needs
 
 walk-loop-walk-requires-2 : (t : ℕ) → walk-loop-lts.Need-walk-requires-2 (walk-loop-calls t) (walk-loop-at t) walk-loop.Post
-walk-loop-walk-requires-2 t c κs = (here-falls (c .before .before .before .before .before .before .before .before .before .before .before .before .before .before .before .before .before .args .depth) (length (now (c .before .before .before .before .before .before .before .before .before .before .before .before .before .before .before .before .before .args .table))) t (c .before .before .before .before .before .before .before .before .before .before .before .before .before .before .before .before .before .args .at) 2 (c .before .before .before .before .before .before .before .before .before .before .before .before .before .before .before .before .before .pre .0) (c .before .before .before .before .before .before .before .before .walk .result .next) 0 (c .before .before .before .before .before .before .before .before .walk .ensures .forward (c .before .before .before .before .before .if1 .left)) (omega arith), ready-next (c .before .before .before .before .before .before .before .before .before .before .before .before .before .before .before .before .before .pre .1) (c .before .before .before .before .before .before .before .before .before .before .before .before .before .before .before .before .before .pre .1 .locks) (c .before .before .before .put2 .ensures .buffer .room))
+walk-loop-walk-requires-2 t c κs =
+    let c₁ = c .before .before .before in
+    let c₂ = c₁ .before .before in
+    let c₃ = c₂ .before .before .before in
+    let c₄ = c₃ .before .before .before .before .before .before .before .before .before in
+    (walk-falls _ _ _ _ _ (c₄ .pre .0) (c₃ .walk .ensures .forward (c₂ .if1 .left)), ready-next (c₄ .pre .1) (c₄ .pre .1 .locks) (c₁ .put2 .ensures .buffer .room))
 
 walk-loop-same-length-2 : (t : ℕ) → walk-loop-lts.Need-same-length-2 (walk-loop-calls t) (walk-loop-at t) walk-loop.Post
 walk-loop-same-length-2 t c = search needs
 
 walk-loop-returns-2 : (t : ℕ) → walk-loop-lts.Need-returns-2 (walk-loop-calls t) (walk-loop-at t) walk-loop.Post
-walk-loop-returns-2 t c = loop-walks-past (c .before .before .before .before .before .before .before .before .before .before .before .before .before .before .before .put .ensures) (c .before .before .before .before .before .before .before .before .before .before .before .walk .ensures) (c .before .before .before .before .before .before .before .before .if1 .left) (c .before .before .before .before .before .before .put2 .ensures) (c .before .before .walk2 .ensures)
+walk-loop-returns-2 t c = search (loop-walks-past, needs)
 
 walk-skip-put-requires : (t : ℕ) → walk-skip-lts.Need-put-requires (walk-skip-calls t) (walk-skip-at t) walk-skip.Post
 walk-skip-put-requires t c κs = search needs
 
 walk-skip-walk-requires : (t : ℕ) → walk-skip-lts.Need-walk-requires (walk-skip-calls t) (walk-skip-at t) walk-skip.Post
-walk-skip-walk-requires t c κs = (here-falls (c .before .before .before .before .before .before .before .before .args .depth) (length (now (c .before .before .before .before .before .before .before .before .args .table))) t (c .before .before .before .before .before .before .before .before .args .at) 2 (c .before .before .before .before .before .before .before .before .pre .0) (c .before .before .before .before .before .before .before .before .args .at) 0 (le-refl (c .before .before .before .before .before .before .before .before .args .at)) (omega arith), ready-next (c .before .before .before .before .before .before .before .before .pre .1) (c .before .before .before .before .before .before .before .before .pre .1 .locks) (c .before .before .before .put .ensures .buffer .room))
+walk-skip-walk-requires t c κs =
+    let c₁ = c .before .before .before in
+    let c₂ = c₁ .before .before .before .before .before in
+    (walk-falls _ _ _ _ _ (c₂ .pre .0) (le-refl _), ready-next (c₂ .pre .1) (c₂ .pre .1 .locks) (c₁ .put .ensures .buffer .room))
 
 walk-skip-same-length : (t : ℕ) → walk-skip-lts.Need-same-length (walk-skip-calls t) (walk-skip-at t) walk-skip.Post
 walk-skip-same-length t c = search needs
 
 walk-skip-returns : (t : ℕ) → walk-skip-lts.Need-returns (walk-skip-calls t) (walk-skip-at t) walk-skip.Post
-walk-skip-returns t c = skip-walks (c .before .before .before .before .before .before .put .ensures) (c .before .before .walk .ensures)
+walk-skip-returns t c = search (skip-walks, needs)
 
 walk-two-put-requires : (t : ℕ) → walk-two-lts.Need-put-requires (walk-two-calls t) (walk-two-at t) walk-two.Post
 walk-two-put-requires t c κs = search needs
@@ -415,25 +470,35 @@ walk-two-after-requires : (t : ℕ) → walk-two-lts.Need-after-requires (walk-t
 walk-two-after-requires t c κs = search needs
 
 walk-two-walk-requires : (t : ℕ) → walk-two-lts.Need-walk-requires (walk-two-calls t) (walk-two-at t) walk-two.Post
-walk-two-walk-requires t c κs = (here-falls (c .before .before .before .before .before .before .before .before .before .args .depth) (length (now (c .before .before .before .before .before .before .before .before .before .args .table))) t (c .before .before .before .before .before .before .before .before .before .args .at) 1 (c .before .before .before .before .before .before .before .before .before .pre .0) (c .before .after .result) 0 (c .before .after .ensures .0) (omega arith), ready-next (c .before .before .before .before .before .before .before .before .before .pre .1) (c .before .before .before .before .before .before .before .before .before .pre .1 .locks) (c .before .before .before .before .put .ensures .buffer .room))
+walk-two-walk-requires t c κs =
+    let c₁ = c .before in
+    let c₂ = c₁ .before .before .before in
+    let c₃ = c₂ .before .before .before .before .before in
+    (rest-falls _ _ _ _ _ (c₃ .pre .0) (c₁ .after .ensures .0), ready-next (c₃ .pre .1) (c₃ .pre .1 .locks) (c₂ .put .ensures .buffer .room))
 
 walk-two-same-length : (t : ℕ) → walk-two-lts.Need-same-length (walk-two-calls t) (walk-two-at t) walk-two.Post
 walk-two-same-length t c = search needs
 
 walk-two-returns : (t : ℕ) → walk-two-lts.Need-returns (walk-two-calls t) (walk-two-at t) walk-two.Post
-walk-two-returns t c = two-walks-found (c .before .before .before .before .before .before .before .before .put .ensures) (c .before .before .before .before .before .after .ensures) (c .before .before .before .walk .ensures) (c .if1 .taken)
+walk-two-returns t c = search (two-walks-found, needs)
 
 walk-two-after-requires-2 : (t : ℕ) → walk-two-lts.Need-after-requires-2 (walk-two-calls t) (walk-two-at t) walk-two.Post
 walk-two-after-requires-2 t c κs = search needs
 
 walk-two-walk-requires-2 : (t : ℕ) → walk-two-lts.Need-walk-requires-2 (walk-two-calls t) (walk-two-at t) walk-two.Post
-walk-two-walk-requires-2 t c κs = (here-falls (c .before .before .before .before .before .before .before .before .before .before .before .before .before .before .before .args .depth) (length (now (c .before .before .before .before .before .before .before .before .before .before .before .before .before .before .before .args .table))) t (c .before .before .before .before .before .before .before .before .before .before .before .before .before .before .before .args .at) 1 (c .before .before .before .before .before .before .before .before .before .before .before .before .before .before .before .pre .0) (c .before .after2 .result) 0 (le-trans (c .before .before .before .before .before .before .before .after .ensures .0) (le-trans (c .before .before .before .before .before .walk .ensures .forward (c .before .before .if1 .left)) (c .before .after2 .ensures .0))) (omega arith), ready-next (c .before .before .before .before .before .before .before .before .before .before .before .before .before .before .before .pre .1) (c .before .before .before .before .before .before .before .before .before .before .before .before .before .before .before .pre .1 .locks) (c .before .before .before .before .before .walk .ensures .buffer .room))
+walk-two-walk-requires-2 t c κs =
+    let c₁ = c .before in
+    let c₂ = c₁ .before in
+    let c₃ = c₂ .before .before .before in
+    let c₄ = c₃ .before .before in
+    let c₅ = c₄ .before .before .before .before .before .before .before .before in
+    (rest-falls _ _ _ _ _ (c₅ .pre .0) (le-trans (c₄ .after .ensures .0) (le-trans (c₃ .walk .ensures .forward (c₂ .if1 .left)) (c₁ .after2 .ensures .0))), ready-next (c₅ .pre .1) (c₅ .pre .1 .locks) (c₃ .walk .ensures .buffer .room))
 
 walk-two-same-length-2 : (t : ℕ) → walk-two-lts.Need-same-length-2 (walk-two-calls t) (walk-two-at t) walk-two.Post
 walk-two-same-length-2 t c = search needs
 
 walk-two-returns-2 : (t : ℕ) → walk-two-lts.Need-returns-2 (walk-two-calls t) (walk-two-at t) walk-two.Post
-walk-two-returns-2 t c = two-walks-past (c .before .before .before .before .before .before .before .before .before .before .before .before .before .put .ensures) (c .before .before .before .before .before .before .before .before .before .before .after .ensures) (c .before .before .before .before .before .before .before .before .walk .ensures) (c .before .before .before .before .before .if1 .left) (c .before .before .before .before .after2 .ensures) (c .before .before .walk2 .ensures)
+walk-two-returns-2 t c = search (two-walks-past, needs)
 
 pub +walk+walk-call+walk-either+walk-hold+walk-loop+walk-skip+walk-two-spec :
     {M : Type 1} → statement M
