@@ -1,0 +1,49 @@
+-- The buffer of steps: what stands in front of the place where a step is put stays, and so does what a walk goes back to.
+use Prim.Native.Nat.{ℕ, _+_, _^_, _<_, _≤_}
+use native.Mathlib.Numerals.{add-one}
+use native.Mathlib.Omega.{arith}
+use native.Mathlib.Nat.{le-refl}
+use mathlib.Core.List.{List}
+use mathlib.Core.Path.{_≡_, refl, sym, ap, _∙_}
+use lib.ListN.{length, take, set, length-set}
+use lib.Seq.{take-take, take-set-le, take-suc-set}
+use Rattle.paths.specs.Walks.{Kept, PutAt, Ready}
+
+pub kept-same : (s : List ℕ) (n : ℕ) → n ≤ length s → Kept s n s n
+kept-same s n h = record { grows = le-refl n; room = h; size = refl; same = refl }
+
+shorter : (n k : ℕ) (s t : List ℕ) → n ≤ k → take k s ≡ take k t → take n s ≡ take n t
+shorter n k s t h e = sym (take-take n k s h) ∙ ap (take n) e ∙ take-take n k t h
+
+pub kept-then : {s s₁ s₂ : List ℕ} {n k j : ℕ} → Kept s n s₁ k → Kept s₁ k s₂ j → Kept s n s₂ j
+kept-then {s} {s₁} {s₂} {n} {k} a b = record {
+  grows = omega arith;
+  room = b .room;
+  size = b .size ∙ a .size;
+  same = shorter n k s₂ s₁ (a .grows) (b .same) ∙ a .same;
+}
+
+-- back to the first n
+pub kept-back : {s s₁ s₂ : List ℕ} {n k j : ℕ} → Kept s n s₁ k → Kept s₁ n s₂ j → Kept s n s₂ j
+kept-back a b = record { grows = b .grows; room = b .room; size = b .size ∙ a .size; same = b .same ∙ a .same }
+
+-- ---- a step that is put
+
+module _ (s : List ℕ) (n e : ℕ) where
+  pub put-stored : n < length s → PutAt s n e (n + 1) (set s n e)
+  put-stored h = record {
+    buffer = record { grows = omega arith; room = rw (length-set s n e) (omega arith); size = length-set s n e; same = take-set-le n s n e (le-refl n) };
+    one = le-refl (n + 1);
+    put = λ k. rw add-one (take-suc-set s n e h);
+  }
+
+  pub put-full : length s ≤ n → n ≤ length s → PutAt s n e n s
+  put-full h k = record { buffer = kept-same s n k; one = omega arith; put = λ l. absurd (omega arith) }
+
+-- ---- what the next walk asks
+
+pub ready-next : {ws starts : List ℕ} {m m′ n k : ℕ} {s s′ : List ℕ} → Ready ws starts m s n → m′ < 2 ^ 32 → k ≤ length s′ → Ready ws starts m′ s′ k
+ready-next r h k = record { plan = r .plan; begins = r .begins; locks = h; room = k }
+
+pub ready-back : {ws starts : List ℕ} {m n k j : ℕ} {s s₁ s₂ : List ℕ} → Ready ws starts m s n → Kept s n s₁ k → Kept s₁ k s₂ j → Ready ws starts m s₂ n
+ready-back r a b = record { plan = r .plan; begins = r .begins; locks = r .locks; room = let c = kept-then a b in omega arith }

@@ -1,0 +1,35 @@
+-- The mask of one lock, and what it tests.
+use Prim.Native.Nat.{ℕ, zero, suc, _+_, _*_, _%_, _^_, _<_}
+use native.Mathlib.Nat.{zero-mul, suc-mul}
+use native.Mathlib.Omega.{arith}
+use mathlib.Core.Bool.{Bool, false, true, _&&_}
+use mathlib.Core.Path.{_≡_, refl, sym, ap, _∙_}
+use lib.Bits.{bitAnd, bitOr, or-lt}
+use lib.Dec.{eqb}
+use lib.Pow.{pow-pos, pow-lt}
+use borrow.Author.Tests.{ne-eqb, eq-eqb}
+use Rattle.laws.specs.Mask.{bit}
+use Rattle.laws.proofs.Bits.{bit-lt}
+use Rattle.laws.proofs.Masks.{shl-one, and-power}
+use Rattle.semantics.proofs.Paths.{gives, holding}
+
+pub bit-shifted : (l : ℕ) → l < 32 → (1 * 2 ^ l % 2 ^ 64 < 2 ^ 32) × (l < 32 → 1 * 2 ^ l % 2 ^ 64 ≡ 2 ^ l)
+bit-shifted l h = let e = shl-one 64 l (omega arith) in (rw e (pow-lt h), λ k. e)
+
+module _ (m l b w : ℕ) (is : l < 32 → b ≡ 2 ^ l) where
+  pub bit-joined : m < 2 ^ 32 → b < 2 ^ 32 → (bitOr m b < 2 ^ 32) × (l < 32 → bitOr m b ≡ holding m l)
+  bit-joined h k = (or-lt 32 m b h k, λ a. ap (bitOr m) (is a))
+
+  -- the lock is held
+  pub gives-not : (bitAnd m b ≡ 0 → ⊥) → l < 32 → false ≡ gives w m l
+  gives-not n h =
+      let z : (bit m l ≡ 0 → ⊥) = λ e. n (ap (bitAnd m) (is h) ∙ and-power m l ∙ ap (λ x. x * 2 ^ l) e ∙ zero-mul (2 ^ l)) in
+      rw (ne-eqb (bit m l) 0 z)
+
+  -- it is not
+  pub gives-tested : bitAnd m b ≡ 0 → l < 32 → eqb (m * 32 + l) w ≡ gives w m l
+  gives-tested e h = rw (eq-eqb (bit m l) 0 (none (bit m l) (sym (and-power m l) ∙ ap (bitAnd m) (sym (is h)) ∙ e)))
+    where
+      none : (x : ℕ) → x * 2 ^ l ≡ 0 → x ≡ 0
+      none zero z = refl
+      none (suc x) z = absurd (omega (arith, suc-mul x (2 ^ l), pow-pos l))
