@@ -1,10 +1,10 @@
 -- The definitions of the crate in the shape of its functions' needs: a table's masks, joins over the threads, the first thread that passes a test, the scan.
 use Prim.Native.Nat.{ℕ, zero, suc, _+_, _-_, _*_, _/_, _%_, _^_, _<_, _≤_}
 use native.Mathlib.Numerals.{add-one}
-use native.Mathlib.Nat.{eq-or-lt-of-le}
+use native.Mathlib.Nat.{add-zero, eq-zero-or-pos, eq-or-lt-of-le}
 use native.Mathlib.Omega.{arith}
 use mathlib.Core.Path.{_≡_, refl, sym, ap, _∙_, subst}
-use mathlib.Core.Logic.{⊎-elim, _≢_}
+use mathlib.Core.Logic.{inl, inr, ⊎-elim, _≢_}
 use mathlib.Core.Bool.{Bool, true, false, cond, not, _&&_}
 use mathlib.Core.List.{List, [], _∷_, _++_, map, append-nil}
 use borrow.Author.Tests.{eq-eqb, ne-eqb, lt-ltb, le-ltb, eqb-true, eqb-false}
@@ -12,7 +12,7 @@ use lib.Bits.{bitOr, bitAnd}
 use lib.Count.{trailingZeros}
 use lib.Dec.{eqb, ltb}
 use lib.ListN.{length, getD, set, take, drop, length-drop, drop-of-length-le, List·getD-map}
-use lib.Seq.{drop-cons, getD-drop, getD-set-same, getD-set-other}
+use lib.Seq.{lt-length-set, drop-length, drop-set-lt, drop-cons, getD-drop, getD-set-same, getD-set-other}
 use Rattle.laws.specs.Choice.{pick}
 use Rattle.laws.specs.Mask.{bit, inMask}
 use Rattle.laws.proofs.Tests.{eq-or-ne}
@@ -24,7 +24,7 @@ use Rattle.semantics.proofs.Dropping.{otherThan}
 use Rattle.semantics.proofs.Closing.{maskBelow, heldByMembers, waitsIn, wanting, stuckRound, stuckRounds}
 use Rattle.semantics.proofs.RetreatMoves.{othersAt, scanBack, scan-again, scan-stops, JumpTo}
 use Rattle.retreat.specs.Paths.{rowStart, masksOf, choiceAt, Within, Holding, heldByOthers, meeting, mayGoBack, NoneMayGoBack}
-use Rattle.retreat.specs.Moves.{NoneBelow, FirstBelow, hasStepped, AtStart, entryOf, Landed}
+use Rattle.retreat.specs.Moves.{NoneBelow, FirstBelow, hasStepped, AtStart, entryOf, Landed, Turned}
 
 -- ---- the masks along a path
 
@@ -244,6 +244,123 @@ module _ (steps : List ℕ) (t l a r : ℕ) (s : scanBack (masksOf steps t) l a 
       out : (a : ℕ) → a ≤ 0 → scanBack row l a ≡ r → a ≡ r
       out zero h s = s
       out (suc a) h s = absurd (omega arith)
+
+-- ---- the jump
+
+module _ (row : List ℕ) (others begin j : ℕ) where
+  pub land-still : (h : ℕ) → j ≡ 0 → h ≡ 0 → JumpTo row others begin j h begin
+  land-still h e z = record {
+    lock = 0;
+    given-up = λ o. absurd (omega arith);
+    place = λ o. absurd (omega arith);
+    wanted = λ o. absurd (omega arith);
+    still = λ _. (z, refl);
+  }
+
+  module _ (a b : ℕ) (n : j ≡ 0 → ⊥) (e : a ≡ getD row (j - 1) 0) (f : b ≡ others) where
+    pub land-some : (0 < j → 0 < bitAnd (getD row (j - 1) 0) others) → 0 < bitAnd a b
+    land-some g = rw (e, f) (g (⊎-elim (λ (z : j ≡ 0). absurd (n z)) (λ (o : 0 < j). o) (eq-zero-or-pos j)))
+
+    pub land-back : (l h : ℕ) → l < 64 → bit (bitAnd a b) l ≡ 1 → h ≡ scanBack row l (j - 1) → JumpTo row others begin j h (1 * 2 ^ l % 2 ^ 64)
+    land-back l h k g p = record {
+      lock = l;
+      given-up = λ _. rw (← e, ← f) g;
+      place = λ _. p;
+      wanted = λ _. shl-one 64 l k;
+      still = λ z. absurd (n z);
+    }
+
+-- what each thread that has stepped gave up, where none may go back
+meets : (steps js masks : List ℕ) (n k : ℕ) → k < n → Holding steps js masks n → NoneMayGoBack steps js n → 0 < getD js k 0
+    → 0 < bitAnd (getD (masksOf steps k) (getD js k 0 - 1) 0) (heldByOthers masks n k)
+unfolding NoneMayGoBack mayGoBack pick meeting
+meets steps js masks n k b h f o =
+    let z : eqb (meeting steps js n k) 0 ≡ false = rw (ne-eqb (getD js k 0) 0 (λ e. omega arith)) at (f k b) in
+    rw (others-held steps js masks n k h)
+    (⊎-elim (λ (e : meeting steps js n k ≡ 0). absurd (eqb-false (meeting steps js n k) 0 z e)) (λ (p : 0 < meeting steps js n k). p)
+    (eq-zero-or-pos (meeting steps js n k)))
+
+-- the positions from k on are as they were
+same-from : (js js₀ : List ℕ) (k : ℕ) → drop k js ≡ drop k js₀ → getD js k 0 ≡ getD js₀ k 0
+same-from js js₀ k e =
+    let at : (l : List ℕ) → getD (drop k l) 0 0 ≡ getD l k 0 = λ l. getD-drop k l 0 0 ∙ ap (λ i. getD l i 0) (add-zero k) in
+    sym (at js) ∙ ap (λ l. getD l 0 0) e ∙ at js₀
+
+module _ (steps begins masks js js₀ wishes wishes₀ : List ℕ) (n k : ℕ) (b : k < n) (same : drop k js ≡ drop k js₀) (h : Holding steps js₀ masks n) where
+  pub jump-some : NoneMayGoBack steps js₀ n → 0 < getD js k 0 → 0 < bitAnd (getD (masksOf steps k) (getD js k 0 - 1) 0) (heldByOthers masks n k)
+  jump-some f = rw (same-from js js₀ k same) (meets steps js₀ masks n k b h f)
+
+  pub jump-within : Within js₀ n → getD js k 0 ≤ 1024
+  jump-within w = rw (same-from js js₀ k same) (within-at js₀ n k w b)
+
+  module _ (small : n ≤ 6) (long : 6 ≤ length js₀) (kept : length js ≡ length js₀) where
+    pub jump-keep : (v : ℕ) → drop (k + 1) (set js k v) ≡ drop (k + 1) js₀
+    jump-keep v = emit-keep js js₀ [] [] k v (omega arith) same
+
+    pub landed-more : (p w : ℕ) → 6 ≤ length wishes₀ → length wishes ≡ length wishes₀
+        → JumpTo (masksOf steps k) (heldByOthers masks n k) (getD begins k 0) (getD js k 0) p w → Landed steps begins n js₀ js wishes k
+        → Landed steps begins n js₀ (set js k p) (set wishes k w) (k + 1)
+    unfolding Landed
+    landed-more p w long′ kept′ to f t l =
+        ⊎-elim
+        (λ (e : t ≡ k). subst (λ u. At u (getD (set js k p) u 0) (getD (set wishes k w) u 0)) (sym e) (rw (getD-set-same js k p 0 (omega arith),
+        getD-set-same wishes k w 0 (omega arith), ← others-held steps js₀ masks n k h, ← same-from js js₀ k same) to))
+        (λ (d : t ≢ k). rw (getD-set-other js k t p 0 d, getD-set-other wishes k t w 0 d) (f t (less t d l)))
+        (eq-or-ne t k)
+      where
+        At : ℕ → ℕ → ℕ → Type 0
+        At u x y = JumpTo (masksOf steps u) (othersAt n (masksOf steps) js₀ u) (getD begins u 0) (getD js₀ u 0) x y
+
+        less : (i : ℕ) → i ≢ k → i < k + 1 → i < k
+        less i z l = omega arith
+
+pub landed-none : (steps begins js js₀ wishes : List ℕ) (n : ℕ) → Landed steps begins n js₀ js wishes 0
+unfolding Landed
+landed-none steps begins js js₀ wishes n t h = absurd (omega arith)
+
+pub landed-done : (steps begins js js₀ wishes : List ℕ) (n k : ℕ) → n ≤ k → Landed steps begins n js₀ js wishes k → Landed steps begins n js₀ js wishes n
+unfolding Landed
+landed-done steps begins js js₀ wishes n k h f t l = f t (omega arith)
+
+-- ---- one move
+
+pub back-stepped : (steps js : List ℕ) (n k : ℕ) → mayGoBack steps js n k ≡ true → (0 < getD js k 0) × (meeting steps js n k ≡ 0)
+unfolding mayGoBack pick
+back-stepped steps js n k e =
+    ⊎-elim
+    (λ (z : getD js k 0 ≡ 0). let f : false ≡ true = rw (eq-eqb (getD js k 0) 0 z) at e in let w : _≡_ {A = ℕ} 0 1 = cc in absurd (omega arith))
+    (λ (o : 0 < getD js k 0). (o, eqb-true (meeting steps js n k) 0 (rw (ne-eqb (getD js k 0) 0 (λ z. omega arith)) at e)))
+    (eq-zero-or-pos (getD js k 0))
+
+module _ (steps begins js wishes masks entries : List ℕ) (n k d : ℕ) (f : FirstBelow (mayGoBack steps js n) n k) where
+  pub first-stepped : k < n → 0 < getD js k 0
+  first-stepped h = back-stepped steps js n k (f .passes h) .0
+
+  pub none-back : n ≤ k → NoneMayGoBack steps js n
+  unfolding NoneMayGoBack NoneBelow
+  none-back h i l = f .before i (omega arith)
+
+  pub turned-step : (js′ entries′ : List ℕ) → k < n → 0 < d → d ≤ length entries → js′ ≡ set js k (getD js k 0 - 1)
+      → entries′ ≡ set entries (d - 1) (entryOf steps js k) → Turned steps begins js wishes masks (drop d entries) n js′ wishes masks (drop (d - 1) entries′)
+  unfolding Turned
+  turned-step js′ entries′ h o le e g =
+      let at : suc (d - 1) ≡ d = omega arith in
+      inl (record {
+        thread = k;
+        present = h;
+        permitted = f .passes h;
+        positions = e;
+        entries = rw (g, drop-cons (set entries (d - 1) (entryOf steps js k)) (d - 1) 0 (lt-length-set entries (d - 1) (entryOf steps js k) (omega arith)),
+            getD-set-same entries (d - 1) (entryOf steps js k) 0 (omega arith), drop-set-lt (suc (d - 1)) entries (d - 1) (entryOf steps js k) (omega arith), at);
+        wants = refl;
+        holds = refl;
+      })
+
+pub turned-jump : (steps begins js wishes masks es entries : List ℕ) (n : ℕ) (js′ wishes′ masks′ : List ℕ) → Landed steps begins n js js′ wishes′ n
+    → Holding steps js masks′ n → Turned steps begins js wishes masks es n js′ wishes′ masks′ (drop (length entries) entries)
+unfolding Turned
+turned-jump steps begins js wishes masks es entries n js′ wishes′ masks′ f h =
+    inr (record { landed = f; holds = h; entries = drop-length entries })
 
 -- ---- the copy
 

@@ -59,7 +59,7 @@ pub record Jumped (steps begins js : List ℕ) (n : ℕ) (js′ wishes′ masks�
   pub holds : Holding steps js masks′ n
   pub entries : es′ ≡ []
 
-abbrev pub Turned : List ℕ → List ℕ → List ℕ → List ℕ → List ℕ → List ℕ → ℕ → List ℕ → List ℕ → List ℕ → List ℕ → Type 0
+unfoldable pub Turned : List ℕ → List ℕ → List ℕ → List ℕ → List ℕ → List ℕ → ℕ → List ℕ → List ℕ → List ℕ → List ℕ → Type 0
 Turned steps begins js wishes masks es n js′ wishes′ masks′ es′ =
     SteppedBack steps js wishes masks es n js′ wishes′ masks′ es′ ⊎ Jumped steps begins js n js′ wishes′ masks′ es′
 

@@ -106,6 +106,15 @@ fn find_back(steps: &[u64], js: &[u64], masks: &[u64], n: usize) -> usize
     k
 }
 
+// The same, with the table of what the threads hold made first.
+fn choose_back(steps: &[u64], js: &[u64], masks: &mut [u64], n: usize) -> usize
+    requires { ⌜ (6144 ≤ length (now steps)) × (n ≤ 6) × (6 ≤ length (now js)) × (6 ≤ length (now masks)) × Within (now js) n ⌝ }
+    ensures { λ r. ⌜ FirstBelow (mayGoBack (now (steps .entry)) (now (js .entry)) n) n r ⌝ }
+{
+    fill_masks(steps, js, masks, n);
+    find_back(steps, js, masks, n)
+}
+
 // The first thread that has stepped, or n.
 fn find_stepped(js: &[u64], n: usize) -> usize
     requires { ⌜ (n ≤ 6) × (6 ≤ length (now js)) ⌝ }
@@ -159,6 +168,14 @@ fn scan_back(steps: &[u64], t: usize, l: u32, j: u64) -> u64
     a
 }
 
+// The lowest lock of m.
+fn lowest(m: u64) -> u32
+    requires { ⌜ 0 < m ⌝ }
+    ensures { λ r. ⌜ (r < 64) × (bit m r ≡ 1) ⌝ }
+{
+    u64::trailing_zeros(m)
+}
+
 // Where thread k, at position j, jumps to, and what it wants there: the lowest lock that its last step gave up and another thread holds.
 fn land(steps: &[u64], begins: &[u64], masks: &[u64], n: usize, k: usize, j: u64) -> Landing
     requires { ⌜ (6144 ≤ length (now steps)) × (6 ≤ length (now begins)) × (n ≤ 6) × (6 ≤ length (now masks)) × (k < 6) × (j ≤ 1024)
@@ -172,7 +189,7 @@ fn land(steps: &[u64], begins: &[u64], masks: &[u64], n: usize, k: usize, j: u64
         };
     }
     let both = mask_at(steps, k, j - 1) & others_hold(masks, n, k);
-    let l = u64::trailing_zeros(both);
+    let l = lowest(both);
     let place = scan_back(steps, k, l, j - 1);
     Landing {
         place,
@@ -195,6 +212,17 @@ fn jump(steps: &[u64], begins: &[u64], masks: &[u64], js: &mut [u64], wishes: &m
     }
 }
 
+// The same, with the table of what the threads hold at the new target made first.
+fn jump_all(steps: &[u64], begins: &[u64], js: &mut [u64], wishes: &mut [u64], masks: &mut [u64], n: usize)
+    requires { ⌜ (6144 ≤ length (now steps)) × (6 ≤ length (now begins)) × (6 ≤ length (now masks)) × (6 ≤ length (now js)) × (6 ≤ length (now wishes)) × (n ≤ 6)
+        × Within (now js) n × NoneMayGoBack (now steps) (now js) n ⌝ }
+    ensures { λ r. ⌜ Holding (now (steps .entry)) (now (js .entry)) (now (masks .exit)) n
+        × Landed (now (steps .entry)) (now (begins .entry)) n (now (js .entry)) (now (js .exit)) (now (wishes .exit)) n ⌝ }
+{
+    fill_masks(steps, js, masks, n);
+    jump(steps, begins, masks, js, wishes, n);
+}
+
 // ---- the way back
 
 // One move: the first thread that may go back does, or all jump and the entries are forgotten. The entries stand from place d to the table's end.
@@ -214,14 +242,12 @@ fn turn(
     ensures { λ r. ⌜ (r ≤ length (now (entries .exit))) × Turned (now (steps .entry)) (now (begins .entry)) (now (js .entry)) (now (wishes .entry)) (now (masks .entry)) (drop d (now (entries .entry))) n
         (now (js .exit)) (now (wishes .exit)) (now (masks .exit)) (drop r (now (entries .exit))) ⌝ }
 {
-    fill_masks(steps, js, present, n);
-    let k = find_back(steps, js, present, n);
+    let k = choose_back(steps, js, present, n);
     if k < n {
         put_entry(steps, js, entries, k, d - 1);
         return d - 1;
     }
-    fill_masks(steps, js, masks, n);
-    jump(steps, begins, masks, js, wishes, n);
+    jump_all(steps, begins, js, wishes, masks, n);
     entries.len()
 }
 

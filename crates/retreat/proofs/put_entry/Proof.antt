@@ -1,3 +1,6 @@
+-- The entry of the last step of thread k, and its position one lower.
+use Rattle.retreat.specs.Paths.{choiceAt}
+use Rattle.retreat.specs.Moves.{entryOf}
 use borrow.Author.Needs.{needs}
 use Rattle.retreat.proofs.put_entry.Statement.{statement}
 use Rattle.retreat.proofs.put_entry.Tie as tie
@@ -74,7 +77,8 @@ same-length-2 c = search needs
 
 -- src/lib.rt:125:1
 returns : tie.Need-returns
-returns c = ?
+unfolding entryOf choiceAt
+returns c = search needs
 
 pub put-entry-spec : {M : Type 1} → statement M
 put-entry-spec =
