@@ -199,7 +199,7 @@ stepped-found js n t b h f = first-found (hasStepped js) n t true b (sym (lt-ltb
 -- ---- a step back
 
 -- what the others hold, from the table of what each holds
-join-same : (p : ℕ → Bool) (f g : ℕ → ℕ) (n : ℕ) → ((i : ℕ) → i < n → f i ≡ g i) → joinBelow n p f ≡ joinBelow n p g
+pub join-same : (p : ℕ → Bool) (f g : ℕ → ℕ) (n : ℕ) → ((i : ℕ) → i < n → f i ≡ g i) → joinBelow n p f ≡ joinBelow n p g
 unfolding joinBelow
 join-same p f g zero h = refl
 join-same p f g (suc n) h = rw (join-same p f g n (λ i b. h i (omega arith)), h n (omega arith))

@@ -1,2 +1,3 @@
--- The laws that the proofs of the functions cite.
+-- The laws that the proofs of the functions cite: over the tables, and over the way back.
 pub mod Laws
+pub mod Moves
