@@ -1,3 +1,5 @@
+-- The way back from the ends of the paths, its entries copied, and the set that the rounds leave.
+use Rattle.retreat.proofs.Schedules.{scheduled}
 use borrow.Author.Needs.{needs}
 use Rattle.retreat.proofs.schedule_with.Statement.{statement}
 use Rattle.retreat.proofs.schedule_with.Tie as tie
@@ -14,7 +16,7 @@ fill-masks-requires c κs = search needs
 
 -- src/lib.rt:416:9
 go-back-requires : tie.Need-go-back-requires
-go-back-requires c κs = ?
+go-back-requires c κs = (search needs, search needs, search needs, search needs, search needs, search needs, search needs, search needs, search needs)
 
 -- src/lib.rt:417:9
 copy-entries-requires : tie.Need-copy-entries-requires
@@ -50,7 +52,12 @@ same-length-6 c = search needs
 
 -- src/lib.rt:400:1
 returns : tie.Need-returns
-returns c = ?
+returns c =
+    let asked = c .before .before .before .before .before .before .before .before .before .before .before .before .before .before .before .before .before .before .before .before .before .before .before .before .before .before .before .before .before .before .before .before .before .before .before .before .before .pre in
+    let filled = c .before .before .before .before .before .before .before .before .before .before .before .before .before .before .before .before .before .before .before .before .before .before .before .before .before .before .fill-masks .ensures in
+    let back = c .before .before .before .before .before .before .before .before .before .before .before .before .before .before .before .before .before .before .go-back .ensures in
+    let copied = c .before .before .before .before .before .copy-entries .ensures in
+    scheduled _ _ _ _ _ _ _ _ _ _ _ _ _ _ (asked .0) (asked .4) (asked .1) (asked .9) filled (back .3) (back .2) (copied .0) (copied .1) (copied .2) (c .stuck-set .ensures)
 
 pub schedule-with-spec : {M : Type 1} → statement M
 schedule-with-spec =
