@@ -303,8 +303,12 @@ module _ (steps begins masks js js₀ wishes wishes₀ : List ℕ) (n k : ℕ) (
     unfolding Landed
     landed-more p w long′ kept′ to f t l =
         ⊎-elim
-        (λ (e : t ≡ k). subst (λ u. At u (getD (set js k p) u 0) (getD (set wishes k w) u 0)) (sym e) (rw (getD-set-same js k p 0 (omega arith),
-        getD-set-same wishes k w 0 (omega arith), ← others-held steps js₀ masks n k h, ← same-from js js₀ k same) to))
+        (λ (e : t ≡ k). subst (λ u. At u (getD (set js k p) u 0) (getD (set wishes k w) u 0)) (sym e) (rw (
+          getD-set-same js k p 0 (omega arith),
+          getD-set-same wishes k w 0 (omega arith),
+          ← others-held steps js₀ masks n k h,
+          ← same-from js js₀ k same,
+        ) to))
         (λ (d : t ≢ k). rw (getD-set-other js k t p 0 d, getD-set-other wishes k t w 0 d) (f t (less t d l)))
         (eq-or-ne t k)
       where
@@ -350,8 +354,13 @@ module _ (steps begins js wishes masks entries : List ℕ) (n k d : ℕ) (f : Fi
         present = h;
         permitted = f .passes h;
         positions = e;
-        entries = rw (g, drop-cons (set entries (d - 1) (entryOf steps js k)) (d - 1) 0 (lt-length-set entries (d - 1) (entryOf steps js k) (omega arith)),
-            getD-set-same entries (d - 1) (entryOf steps js k) 0 (omega arith), drop-set-lt (suc (d - 1)) entries (d - 1) (entryOf steps js k) (omega arith), at);
+        entries = rw (
+          g,
+          drop-cons (set entries (d - 1) (entryOf steps js k)) (d - 1) 0 (lt-length-set entries (d - 1) (entryOf steps js k) (omega arith)),
+          getD-set-same entries (d - 1) (entryOf steps js k) 0 (omega arith),
+          drop-set-lt (suc (d - 1)) entries (d - 1) (entryOf steps js k) (omega arith),
+          at,
+        );
         wants = refl;
         holds = refl;
       })

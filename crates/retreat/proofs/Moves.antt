@@ -18,8 +18,8 @@ use Rattle.semantics.specs.Run.{ThreadState}
 use Rattle.semantics.proofs.Dropping.{otherThan}
 use Rattle.semantics.proofs.Tables.{total, total-lt, total-at}
 use Rattle.semantics.proofs.RetreatMoves.{Paths, GoingBack, othersAt, scanBack, scanned, JumpTo, step-back, jump-back}
-use Rattle.retreat.specs.Paths.{masksOf, choiceAt, Within, Holding, meeting, mayGoBack}
-use Rattle.retreat.specs.Moves.{NoneBelow, FirstBelow, hasStepped, AtStart, stepsLeft, entryOf, Landed, SteppedBack, Jumped, Turned, Retreats}
+use Rattle.retreat.specs.Paths.{masksOf, choiceAt, Within, Holding, meeting, mayGoBack, Lent}
+use Rattle.retreat.specs.Moves.{NoneBelow, FirstBelow, hasStepped, AtStart, stepsLeft, entryOf, Landed, SteppedBack, Jumped, Turned, Retreats, WentBack, FromEnds}
 use Rattle.retreat.proofs.Laws.{join-same, back-stepped}
 
 -- ---- a move of the theory
@@ -112,6 +112,20 @@ falls-within f w i b = omega (arith, f .none-higher i b, w i b)
 
 -- ---- the loop
 
+-- the tables of the loop are as long as those that were lent, and those are long enough
+pub record Lengths (steps begins js₀ wishes₀ masks₀ present₀ entries₀ js wishes masks present entries : List ℕ) : Type 0 where
+  pub paths : 6144 ≤ length steps
+  pub beginnings : 6 ≤ length begins
+  pub wanted : 6 ≤ length wishes₀
+  pub held : 6 ≤ length masks₀
+  pub held-now : 6 ≤ length present₀
+  pub room : 6144 ≤ length entries₀
+  pub same-js : length js ≡ length js₀
+  pub same-wishes : length wishes ≡ length wishes₀
+  pub same-masks : length masks ≡ length masks₀
+  pub same-present : length present ≡ length present₀
+  pub same-entries : length entries ≡ length entries₀
+
 -- what holds at every turn of the way back
 pub record Going (steps begins : List ℕ) (n : ℕ) (js₀ wishes₀ masks₀ js es wishes masks : List ℕ) : Type 0 where
   pub size : 6 ≤ length js
@@ -124,7 +138,7 @@ pub stepped-at : (js : List ℕ) (n t : ℕ) → FirstBelow (hasStepped js) n t 
 unfolding hasStepped
 stepped-at js n t f b = ltb-true 0 (getD js t 0) (f .passes b)
 
-pub at-start : (js : List ℕ) (n t : ℕ) → FirstBelow (hasStepped js) n t → n ≤ t → AtStart js n
+at-start : (js : List ℕ) (n t : ℕ) → FirstBelow (hasStepped js) n t → n ≤ t → AtStart js n
 unfolding AtStart NoneBelow hasStepped
 at-start js n t f h i b = omega (arith, ltb-false 0 (getD js i 0) (f .before i (omega arith)))
 
@@ -177,6 +191,20 @@ module _ (steps begins js wishes masks es : List ℕ) (n : ℕ) (js′ wishes′
           retreats = retreats-on (omega (arith, g .size, g .few));
         }
 
+pub going-lent : (steps begins js₀ wishes₀ masks₀ present₀ entries₀ js wishes masks present entries es : List ℕ) (n : ℕ)
+    → Lengths steps begins js₀ wishes₀ masks₀ present₀ entries₀ js wishes masks present entries
+    → Going steps begins n js₀ wishes₀ masks₀ js es wishes masks → Lent steps begins js wishes masks present n
+going-lent steps begins js₀ wishes₀ masks₀ present₀ entries₀ js wishes masks present entries es n l g = record {
+  paths = l .paths;
+  beginnings = l .beginnings;
+  positions = g .size;
+  wanted = omega arith;
+  held = omega arith;
+  held-now = omega arith;
+  few = g .few;
+  within = g .within;
+}
+
 -- there is room for one entry more in front of those from place d on
 pub going-room : (steps begins : List ℕ) (n : ℕ) (js₀ wishes₀ masks₀ js wishes masks entries entries₀ : List ℕ) (d t : ℕ)
     → Going steps begins n js₀ wishes₀ masks₀ js (drop d entries) wishes masks → FirstBelow (hasStepped js) n t → t < n → 6144 ≤ length entries₀
@@ -202,6 +230,15 @@ going-first steps begins n js wishes masks entries long few w = rw (drop-length 
   retreats = record { leads = λ ps ns P s bound e chosen x g. g };
 })
 
-pub going-short : (steps begins : List ℕ) (n : ℕ) (js₀ wishes₀ masks₀ js es wishes masks : List ℕ) → Going steps begins n js₀ wishes₀ masks₀ js es wishes masks
-    → length es ≤ 6144
-going-short steps begins n js₀ wishes₀ masks₀ js es wishes masks g = omega (arith, g .room)
+pub going-done : (steps begins : List ℕ) (n : ℕ) (js₀ wishes₀ masks₀ js es wishes masks : List ℕ) (t : ℕ)
+    → Going steps begins n js₀ wishes₀ masks₀ js es wishes masks → FirstBelow (hasStepped js) n t → n ≤ t
+    → WentBack steps begins n js₀ wishes₀ masks₀ js es wishes masks
+going-done steps begins n js₀ wishes₀ masks₀ js es wishes masks t g f h = record { short = omega (arith, g .room); ended = at-start js n t f h; retreats = g .retreats }
+
+pub ends-first : (steps begins : List ℕ) (n : ℕ) (lens wishes₀ first last es wishes masks : List ℕ) → Holding steps lens first n
+    → WentBack steps begins n lens wishes₀ first last es wishes masks → FromEnds steps begins n lens wishes₀ es wishes masks
+ends-first steps begins n lens wishes₀ first last es wishes masks h w = record { first = first; last = last; holding = h; went = w }
+
+pub ends-short : (steps begins : List ℕ) (n : ℕ) (lens wishes₀ es wishes masks entries : List ℕ) → FromEnds steps begins n lens wishes₀ es wishes masks
+    → 6144 ≤ length entries → length es ≤ length entries
+ends-short steps begins n lens wishes₀ es wishes masks entries f h = omega (arith, f .went .short)

@@ -23,8 +23,8 @@ use Rattle.semantics.proofs.RetreatByMasks.{heldMask}
 use Rattle.semantics.proofs.Closing.{wishOf, stuckRounds}
 use Rattle.semantics.proofs.Paths.{choices, choiceOf, maskOf, maskAt, Stands, stands-first, stands-last, stands-masks, Finds, PathFound}
 use Rattle.semantics.proofs.RetreatMoves.{Paths, paths-of, GoingBack, AtCircle, circle-target, finished, finished-schedule, paths-short}
-use Rattle.retreat.specs.Paths.{rowStart, pathOf, masksOf, choiceAt, Within, Holding}
-use Rattle.retreat.specs.Moves.{AtStart, Retreats}
+use Rattle.retreat.specs.Paths.{rowStart, pathOf, masksOf, choiceAt, Within, Holding, Lent}
+use Rattle.retreat.specs.Moves.{AtStart, Retreats, WentBack, FromEnds, Filled}
 use Rattle.retreat.specs.Answer.{Right, Scheduled}
 use Rattle.retreat.proofs.Laws.{within-at}
 
@@ -173,23 +173,24 @@ module _ (plan : LockPlan) (vss : List (List ℕ)) (k : ℕ) (threadOf word : �
       finished-schedule plan (λ p. p) (r .sound) (finished paths g (λ t c. getD-take n js′ t 0 c ∙ z t c))
 
 -- the answer, in the shape of the function's need
-pub scheduled : (steps lens begins wishes masks : List ℕ) (n : ℕ) (js′ es wishes′ masks′ entries entries′ : List ℕ) (count stuck : ℕ) → 6144 ≤ length steps → n ≤ 6
-    → 6 ≤ length lens → Within lens n → Holding steps lens masks n → Retreats steps begins n lens wishes masks js′ es wishes′ masks′ → AtStart js′ n
-    → count ≤ length entries′ → take count entries′ ≡ es → drop count entries′ ≡ drop count entries → stuck ≡ stuckRounds n n wishes′ masks′
-    → Scheduled steps lens begins wishes n entries count stuck entries′
-scheduled steps lens begins wishes masks n js′ es wishes′ masks′ entries entries′ count stuck long few room w h b z fits e kept m = record {
-  schedule = λ plan vss k threadOf word r. rw (e, m) (of-plan plan vss k threadOf word n (r .threads) r few w h b z);
-  room = fits;
-  kept = kept;
+pub scheduled : (steps lens begins wishes masks present : List ℕ) (n : ℕ) (es wishes′ masks′ entries entries′ : List ℕ) (count stuck : ℕ)
+    → Lent steps begins lens wishes masks present n → FromEnds steps begins n lens wishes es wishes′ masks′ → Filled es entries count entries′
+    → stuck ≡ stuckRounds n n wishes′ masks′ → Scheduled steps lens begins wishes n entries count stuck entries′
+scheduled steps lens begins wishes masks present n es wishes′ masks′ entries entries′ count stuck a b c m = record {
+  schedule = λ plan vss k threadOf word r. rw (c .entries, m)
+      (of-plan plan vss k threadOf word n (r .threads) r (a .few) (a .within) (b .holding) (b .went .retreats) (b .went .ended));
+  room = c .room;
+  kept = c .kept;
 }
   where
     of-plan : (plan : LockPlan) (vss : List (List ℕ)) (k : ℕ) (threadOf word : ℕ → ℕ) (n : ℕ) → n ≡ length (plan .threads)
-        → Right plan vss k threadOf word steps lens begins wishes n → n ≤ 6 → Within lens n → Holding steps lens masks n
-        → Retreats steps begins n lens wishes masks js′ es wishes′ masks′ → AtStart js′ n → Schedule plan es (inMask (stuckRounds n n wishes′ masks′))
+        → Right plan vss k threadOf word steps lens begins wishes n → n ≤ 6 → Within lens n → Holding steps lens (b .first) n
+        → Retreats steps begins n lens wishes (b .first) (b .last) es wishes′ masks′ → AtStart (b .last) n → Schedule plan es (inMask (stuckRounds n n wishes′ masks′))
     of-plan plan vss k threadOf word n q =
-        subst (λ n. Right plan vss k threadOf word steps lens begins wishes n → n ≤ 6 → Within lens n → Holding steps lens masks n
-        → Retreats steps begins n lens wishes masks js′ es wishes′ masks′ → AtStart js′ n → Schedule plan es (inMask (stuckRounds n n wishes′ masks′))) (sym q)
-        (λ r few w h b z. ended plan vss k threadOf word steps lens begins wishes masks r long few room w h js′ es wishes′ masks′ b z)
+        subst (λ n. Right plan vss k threadOf word steps lens begins wishes n → n ≤ 6 → Within lens n → Holding steps lens (b .first) n
+        → Retreats steps begins n lens wishes (b .first) (b .last) es wishes′ masks′ → AtStart (b .last) n
+        → Schedule plan es (inMask (stuckRounds n n wishes′ masks′))) (sym q)
+        (λ r few w h g z. ended plan vss k threadOf word steps lens begins wishes (b .first) r (a .paths) few (a .positions) w h (b .last) es wishes′ masks′ g z)
 
 -- a path that the walk for a word found is such a path
 pub path-right : {d : ℕ} {ps : List Block} {p w : ℕ} (f : PathFound d ps p w) (path : List ℕ) → f .path ≡ path → Finds ps (initial ps p) w path × (length path ≤ sizeAt d ps p)

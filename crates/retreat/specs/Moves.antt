@@ -1,4 +1,5 @@
--- The moves of the way back over the lent tables, as the theory has them (semantics, RetreatMoves): a step back puts an entry in front, a jump forgets them.
+-- The moves of the way back over the lent tables, as the theory has them (semantics, RetreatMoves): a step back puts an entry in front, a jump forgets
+-- the entries.
 use Prim.Native.Nat.{ℕ, suc, _+_, _-_, _*_, _<_, _≤_}
 use mathlib.Core.Bool.{Bool, true, false}
 use mathlib.Core.List.{List, [], _∷_}
@@ -70,3 +71,22 @@ pub record Retreats (steps begins : List ℕ) (n : ℕ) (js₀ wishes₀ masks�
       → Paths ps ns P s (masksOf steps) begins
       → GoingBack ps (length ns) P s bound (take n js₀) [] wishes₀ masks₀
       → GoingBack ps (length ns) P s bound (take n js) es wishes masks
+
+-- The way back has come to the start, and there were no more moves than a table of entries has room for.
+pub record WentBack (steps begins : List ℕ) (n : ℕ) (js₀ wishes₀ masks₀ js es wishes masks : List ℕ) : Type 0 where
+  pub short : length es ≤ 6144
+  pub ended : AtStart js n
+  pub retreats : Retreats steps begins n js₀ wishes₀ masks₀ js es wishes masks
+
+-- the same, from the ends of the paths as the first target
+pub record FromEnds (steps begins : List ℕ) (n : ℕ) (lens wishes₀ es wishes masks : List ℕ) : Type 0 where
+  pub first : List ℕ
+  pub last : List ℕ
+  pub holding : Holding steps lens first n
+  pub went : WentBack steps begins n lens wishes₀ first last es wishes masks
+
+-- the first `count` entries of a table are now es, and the rest is as it was
+pub record Filled (es before : List ℕ) (count : ℕ) (after : List ℕ) : Type 0 where
+  pub room : count ≤ length after
+  pub entries : take count after ≡ es
+  pub kept : drop count after ≡ drop count before

@@ -50,3 +50,23 @@ mayGoBack steps js n k = pick (eqb (getD js k 0) 0) false (eqb (meeting steps js
 -- no thread may go back
 unfoldable pub NoneMayGoBack : List ℕ → List ℕ → ℕ → Type 0
 NoneMayGoBack steps js n = (k : ℕ) → k < n → mayGoBack steps js n k ≡ false
+
+-- n threads at positions js of their paths, with the table of what they hold there
+pub record Standing (steps js masks : List ℕ) (n : ℕ) : Type 0 where
+  pub paths : 6144 ≤ length steps
+  pub positions : 6 ≤ length js
+  pub table : 6 ≤ length masks
+  pub few : n ≤ 6
+  pub within : Within js n
+  pub holding : Holding steps js masks n
+
+-- the tables that the way back is lent are long enough, and the positions are within the rows
+pub record Lent (steps begins js wishes masks present : List ℕ) (n : ℕ) : Type 0 where
+  pub paths : 6144 ≤ length steps
+  pub beginnings : 6 ≤ length begins
+  pub positions : 6 ≤ length js
+  pub wanted : 6 ≤ length wishes
+  pub held : 6 ≤ length masks
+  pub held-now : 6 ≤ length present
+  pub few : n ≤ 6
+  pub within : Within js n

@@ -1,5 +1,5 @@
-// From a path of each thread to its pair of a circle to a schedule: the way back along the paths (source 000, Lemma 4.3), which ends with a run from the start
-// to a moment with a stuck set, and the largest such set there.
+// From a path of each thread to its pair of a circle to a schedule: the way back along the paths (source 000, Lemma 4.3), which ends with a run from
+// the start to a moment with a stuck set, and the largest such set there.
 ghost use mathlib.Core.Path.{_≡_};
 ghost use mathlib.Core.Bool.{cond, not, _&&_, false};
 ghost use mathlib.Core.List.{_∷_};
@@ -11,8 +11,8 @@ ghost use Rattle.laws.specs.Mask.{bit, inMask};
 ghost use Rattle.semantics.proofs.Dropping.{otherThan};
 ghost use Rattle.semantics.proofs.RetreatMoves.{scanBack, JumpTo};
 ghost use Rattle.semantics.proofs.Closing.{heldByMembers, waitsIn, wanting, stuckRound, stuckRounds};
-ghost use Rattle.retreat.specs.Paths.{masksOf, Within, Holding, heldByOthers, mayGoBack, NoneMayGoBack};
-ghost use Rattle.retreat.specs.Moves.{FirstBelow, hasStepped, AtStart, entryOf, Landed, Turned, Retreats};
+ghost use Rattle.retreat.specs.Paths.{masksOf, Within, Holding, heldByOthers, mayGoBack, NoneMayGoBack, Standing, Lent};
+ghost use Rattle.retreat.specs.Moves.{FirstBelow, hasStepped, entryOf, Landed, Turned, WentBack, FromEnds, Filled};
 ghost use Rattle.retreat.specs.Answer.{Scheduled};
 
 // How many entries the schedule has, and the largest stuck set at its end: bit t for thread t.
@@ -81,7 +81,7 @@ fn others_hold(masks: &[u64], n: usize, k: usize) -> u64
 
 // Whether thread k has stepped and may go back.
 fn can_go_back(steps: &[u64], js: &[u64], masks: &[u64], n: usize, k: usize) -> bool
-    requires { ⌜ (6144 ≤ length (now steps)) × (n ≤ 6) × (6 ≤ length (now js)) × (6 ≤ length (now masks)) × Within (now js) n × Holding (now steps) (now js) (now masks) n × (k < n) ⌝ }
+    requires { ⌜ Standing (now steps) (now js) (now masks) n × (k < n) ⌝ }
     ensures { λ r. ⌜ r ≡ mayGoBack (now (steps .entry)) (now (js .entry)) n k ⌝ }
 {
     let j = js[k];
@@ -93,7 +93,7 @@ fn can_go_back(steps: &[u64], js: &[u64], masks: &[u64], n: usize, k: usize) -> 
 
 // The first thread that may go back, or n.
 fn find_back(steps: &[u64], js: &[u64], masks: &[u64], n: usize) -> usize
-    requires { ⌜ (6144 ≤ length (now steps)) × (n ≤ 6) × (6 ≤ length (now js)) × (6 ≤ length (now masks)) × Within (now js) n × Holding (now steps) (now js) (now masks) n ⌝ }
+    requires { ⌜ Standing (now steps) (now js) (now masks) n ⌝ }
     ensures { λ r. ⌜ FirstBelow (mayGoBack (now (steps .entry)) (now (js .entry)) n) n r ⌝ }
 {
     let mut k: usize = 0;
@@ -132,7 +132,8 @@ fn find_stepped(js: &[u64], n: usize) -> usize
 
 // Thread k goes back by a step: its entry is put at place d.
 fn put_entry(steps: &[u64], js: &mut [u64], entries: &mut [u16], k: usize, d: usize)
-    requires { ⌜ (6144 ≤ length (now steps)) × (6 ≤ length (now js)) × (k < 6) × (0 < getD (now js) k 0) × (getD (now js) k 0 ≤ 1024) × (d < length (now entries)) ⌝ }
+    requires { ⌜ (6144 ≤ length (now steps)) × (6 ≤ length (now js)) × (k < 6) × (0 < getD (now js) k 0) × (getD (now js) k 0 ≤ 1024)
+        × (d < length (now entries)) ⌝ }
     ensures { λ r. ⌜ (now (js .exit) ≡ set (now (js .entry)) k (getD (now (js .entry)) k 0 - 1))
         × (now (entries .exit) ≡ set (now (entries .entry)) d (entryOf (now (steps .entry)) (now (js .entry)) k)) ⌝ }
 {
@@ -180,7 +181,8 @@ fn lowest(m: u64) -> u32
 fn land(steps: &[u64], begins: &[u64], masks: &[u64], n: usize, k: usize, j: u64) -> Landing
     requires { ⌜ (6144 ≤ length (now steps)) × (6 ≤ length (now begins)) × (n ≤ 6) × (6 ≤ length (now masks)) × (k < 6) × (j ≤ 1024)
         × (0 < j → 0 < bitAnd (getD (masksOf (now steps) k) (j - 1) 0) (heldByOthers (now masks) n k)) ⌝ }
-    ensures { λ r. ⌜ JumpTo (masksOf (now (steps .entry)) k) (heldByOthers (now (masks .entry)) n k) (getD (now (begins .entry)) k 0) j (r .place) (r .wish) ⌝ }
+    ensures { λ r. ⌜ JumpTo (masksOf (now (steps .entry)) k) (heldByOthers (now (masks .entry)) n k) (getD (now (begins .entry)) k 0) j
+        (r .place) (r .wish) ⌝ }
 {
     if j == 0 {
         return Landing {
@@ -199,8 +201,7 @@ fn land(steps: &[u64], begins: &[u64], masks: &[u64], n: usize, k: usize, j: u64
 
 // Each thread jumps, where none may go back.
 fn jump(steps: &[u64], begins: &[u64], masks: &[u64], js: &mut [u64], wishes: &mut [u64], n: usize)
-    requires { ⌜ (6144 ≤ length (now steps)) × (6 ≤ length (now begins)) × (6 ≤ length (now masks)) × (6 ≤ length (now js)) × (6 ≤ length (now wishes)) × (n ≤ 6)
-        × Within (now js) n × Holding (now steps) (now js) (now masks) n × NoneMayGoBack (now steps) (now js) n ⌝ }
+    requires { ⌜ Standing (now steps) (now js) (now masks) n × (6 ≤ length (now begins)) × (6 ≤ length (now wishes)) × NoneMayGoBack (now steps) (now js) n ⌝ }
     ensures { λ r. ⌜ Landed (now (steps .entry)) (now (begins .entry)) n (now (js .entry)) (now (js .exit)) (now (wishes .exit)) n ⌝ }
 {
     let mut k: usize = 0;
@@ -213,9 +214,16 @@ fn jump(steps: &[u64], begins: &[u64], masks: &[u64], js: &mut [u64], wishes: &m
 }
 
 // The same, with the table of what the threads hold at the new target made first.
-fn jump_all(steps: &[u64], begins: &[u64], js: &mut [u64], wishes: &mut [u64], masks: &mut [u64], n: usize)
-    requires { ⌜ (6144 ≤ length (now steps)) × (6 ≤ length (now begins)) × (6 ≤ length (now masks)) × (6 ≤ length (now js)) × (6 ≤ length (now wishes)) × (n ≤ 6)
-        × Within (now js) n × NoneMayGoBack (now steps) (now js) n ⌝ }
+fn jump_all(
+    steps: &[u64],
+    begins: &[u64],
+    js: &mut [u64],
+    wishes: &mut [u64],
+    masks: &mut [u64],
+    n: usize,
+)
+    requires { ⌜ (6144 ≤ length (now steps)) × (6 ≤ length (now begins)) × (6 ≤ length (now js)) × (6 ≤ length (now wishes)) × (6 ≤ length (now masks))
+        × (n ≤ 6) × Within (now js) n × NoneMayGoBack (now steps) (now js) n ⌝ }
     ensures { λ r. ⌜ Holding (now (steps .entry)) (now (js .entry)) (now (masks .exit)) n
         × Landed (now (steps .entry)) (now (begins .entry)) n (now (js .entry)) (now (js .exit)) (now (wishes .exit)) n ⌝ }
 {
@@ -237,9 +245,9 @@ fn turn(
     n: usize,
     d: usize,
 ) -> usize
-    requires { ⌜ (6144 ≤ length (now steps)) × (6 ≤ length (now begins)) × (6 ≤ length (now js)) × (6 ≤ length (now wishes)) × (6 ≤ length (now masks))
-        × (6 ≤ length (now present)) × (n ≤ 6) × Within (now js) n × (0 < d) × (d ≤ length (now entries)) ⌝ }
-    ensures { λ r. ⌜ (r ≤ length (now (entries .exit))) × Turned (now (steps .entry)) (now (begins .entry)) (now (js .entry)) (now (wishes .entry)) (now (masks .entry)) (drop d (now (entries .entry))) n
+    requires { ⌜ Lent (now steps) (now begins) (now js) (now wishes) (now masks) (now present) n × (0 < d) × (d ≤ length (now entries)) ⌝ }
+    ensures { λ r. ⌜ (r ≤ length (now (entries .exit)))
+        × Turned (now (steps .entry)) (now (begins .entry)) (now (js .entry)) (now (wishes .entry)) (now (masks .entry)) (drop d (now (entries .entry))) n
         (now (js .exit)) (now (wishes .exit)) (now (masks .exit)) (drop r (now (entries .exit))) ⌝ }
 {
     let k = choose_back(steps, js, present, n);
@@ -262,10 +270,9 @@ fn go_back(
     entries: &mut [u16],
     n: usize,
 ) -> usize
-    requires { ⌜ (6144 ≤ length (now steps)) × (6 ≤ length (now begins)) × (6 ≤ length (now js)) × (6 ≤ length (now wishes)) × (6 ≤ length (now masks))
-        × (6 ≤ length (now present)) × (6144 ≤ length (now entries)) × (n ≤ 6) × Within (now js) n ⌝ }
-    ensures { λ r. ⌜ (r ≤ length (now (entries .exit))) × (length (drop r (now (entries .exit))) ≤ 6144) × AtStart (now (js .exit)) n
-        × Retreats (now (steps .entry)) (now (begins .entry)) n (now (js .entry)) (now (wishes .entry)) (now (masks .entry))
+    requires { ⌜ Lent (now steps) (now begins) (now js) (now wishes) (now masks) (now present) n × (6144 ≤ length (now entries)) ⌝ }
+    ensures { λ r. ⌜ (r ≤ length (now (entries .exit)))
+        × WentBack (now (steps .entry)) (now (begins .entry)) n (now (js .entry)) (now (wishes .entry)) (now (masks .entry))
         (now (js .exit)) (drop r (now (entries .exit))) (now (wishes .exit)) (now (masks .exit)) ⌝ }
 {
     let mut d = entries.len();
@@ -280,7 +287,7 @@ fn go_back(
 // The entries from place d on, to the start of the caller's table.
 fn copy_entries(from: &[u16], d: usize, to: &mut [u16]) -> usize
     requires { ⌜ (d ≤ length (now from)) × (length (drop d (now from)) ≤ length (now to)) ⌝ }
-    ensures { λ r. ⌜ (r ≤ length (now (to .exit))) × (take r (now (to .exit)) ≡ drop d (now (from .entry))) × (drop r (now (to .exit)) ≡ drop r (now (to .entry))) ⌝ }
+    ensures { λ r. ⌜ Filled (drop d (now (from .entry))) (now (to .entry)) r (now (to .exit)) ⌝ }
 {
     let mut at = d;
     let mut i: usize = 0;
@@ -396,6 +403,39 @@ fn stuck_set(wishes: &[u64], masks: &[u64], n: usize) -> u8
 
 // ---- the schedule
 
+// The way back from the ends of the paths: the first target's table of what the threads hold is made first.
+fn from_ends(
+    steps: &[u64],
+    begins: &[u64],
+    lens: &mut [u64],
+    wishes: &mut [u64],
+    masks: &mut [u64],
+    present: &mut [u64],
+    entries: &mut [u16],
+    n: usize,
+) -> usize
+    requires { ⌜ Lent (now steps) (now begins) (now lens) (now wishes) (now masks) (now present) n × (6144 ≤ length (now entries)) ⌝ }
+    ensures { λ r. ⌜ (r ≤ length (now (entries .exit)))
+        × FromEnds (now (steps .entry)) (now (begins .entry)) n (now (lens .entry)) (now (wishes .entry))
+        (drop r (now (entries .exit))) (now (wishes .exit)) (now (masks .exit)) ⌝ }
+{
+    fill_masks(steps, lens, masks, n);
+    go_back(steps, begins, lens, wishes, masks, present, entries, n)
+}
+
+// The entries copied, and the stuck set.
+fn finish(table: &[u16], d: usize, wishes: &[u64], masks: &[u64], n: usize, entries: &mut [u16]) -> Outcome
+    requires { ⌜ (d ≤ length (now table)) × (length (drop d (now table)) ≤ length (now entries)) × (n ≤ 6) × (6 ≤ length (now wishes)) × (6 ≤ length (now masks)) ⌝ }
+    ensures { λ r. ⌜ Filled (drop d (now (table .entry))) (now (entries .entry)) (r .entries) (now (entries .exit))
+        × (r .stuck ≡ stuckRounds n n (now (wishes .entry)) (now (masks .entry))) ⌝ }
+{
+    let count = copy_entries(table, d, entries);
+    Outcome {
+        entries: count,
+        stuck: stuck_set(wishes, masks, n),
+    }
+}
+
 // The schedule, with the tables that it needs.
 fn schedule_with(
     steps: &[u64],
@@ -408,23 +448,18 @@ fn schedule_with(
     table: &mut [u16],
     entries: &mut [u16],
 ) -> Outcome
-    requires { ⌜ (6144 ≤ length (now steps)) × (6 ≤ length (now lens)) × (6 ≤ length (now begins)) × (6 ≤ length (now wishes)) × (n ≤ 6)
-        × (6 ≤ length (now masks)) × (6 ≤ length (now present)) × (6144 ≤ length (now table)) × (6144 ≤ length (now entries)) × Within (now lens) n ⌝ }
-    ensures { λ r. ⌜ Scheduled (now (steps .entry)) (now (lens .entry)) (now (begins .entry)) (now (wishes .entry)) n (now (entries .entry)) (r .entries) (r .stuck) (now (entries .exit)) ⌝ }
+    requires { ⌜ Lent (now steps) (now begins) (now lens) (now wishes) (now masks) (now present) n × (6144 ≤ length (now table)) × (6144 ≤ length (now entries)) ⌝ }
+    ensures { λ r. ⌜ Scheduled (now (steps .entry)) (now (lens .entry)) (now (begins .entry)) (now (wishes .entry)) n (now (entries .entry))
+        (r .entries) (r .stuck) (now (entries .exit)) ⌝ }
 {
-    fill_masks(steps, lens, masks, n);
-    let d = go_back(steps, begins, lens, wishes, masks, present, table, n);
-    let count = copy_entries(table, d, entries);
-    let stuck = stuck_set(wishes, masks, n);
-    Outcome {
-        entries: count,
-        stuck,
-    }
+    let d = from_ends(steps, begins, lens, wishes, masks, present, table, n);
+    finish(table, d, wishes, masks, n, entries)
 }
 
-// A schedule to a deadlock, from the paths of a circle's threads to their pairs. The path of thread t is lens[t] words of `steps` from 1,024 × t on, each the choice
-// of a step plus 4 × the mask of the locks held after it; `begins` has the mask of the lock that each thread's block begins with a hold of; `wishes` the mask of the
-// lock that each thread wants at its path's end. `lens` and `wishes` are changed on the way. The schedule fills the start of `entries`, and the rest is kept.
+// A schedule to a deadlock, from the paths of a circle's threads to their pairs. The path of thread t is lens[t] words of `steps` from 1,024 × t on,
+// each the choice of a step plus 4 × the mask of the locks held after it; `begins` has the mask of the lock that each thread's block begins with a hold
+// of, and `wishes` that of the lock that each thread wants at its path's end. `lens` and `wishes` are changed on the way. The schedule fills the start of
+// `entries`, and the rest is kept.
 pub fn schedule(
     steps: &[u64],
     lens: &mut [u64],
@@ -435,7 +470,8 @@ pub fn schedule(
 ) -> Outcome
     requires { ⌜ (6144 ≤ length (now steps)) × (6 ≤ length (now lens)) × (6 ≤ length (now begins)) × (6 ≤ length (now wishes)) × (n ≤ 6)
         × (6144 ≤ length (now entries)) × Within (now lens) n ⌝ }
-    ensures { λ r. ⌜ Scheduled (now (steps .entry)) (now (lens .entry)) (now (begins .entry)) (now (wishes .entry)) n (now (entries .entry)) (r .entries) (r .stuck) (now (entries .exit)) ⌝ }
+    ensures { λ r. ⌜ Scheduled (now (steps .entry)) (now (lens .entry)) (now (begins .entry)) (now (wishes .entry)) n (now (entries .entry))
+        (r .entries) (r .stuck) (now (entries .exit)) ⌝ }
 {
     let mut masks = [0u64; 6];
     let mut present = [0u64; 6];

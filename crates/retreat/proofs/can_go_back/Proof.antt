@@ -3,36 +3,25 @@ use Rattle.retreat.proofs.Laws.{within-before, back-none, back-test}
 use borrow.Author.Needs.{needs}
 use Rattle.retreat.proofs.can_go_back.Statement.{statement}
 use Rattle.retreat.proofs.can_go_back.Tie as tie
-use Rattle.retreat.proofs.can_go_back.Reads as reads
-use Rattle.retreat.proofs.can_go_back.Lts as lts
-use Rattle.retreat.proofs.mask_at.Reads as mask-at-reads
-use Rattle.retreat.proofs.others_hold.Reads as others-hold-reads
 
--- src/lib.rt:87:13
 mul-j : tie.Need-mul-j
 mul-j c = search needs
 
--- src/lib.rt:87:13
 shared-slice-read-j : tie.Need-shared-slice-read-j
 shared-slice-read-j c = search needs
 
--- src/lib.rt:89:9
 returns : tie.Need-returns
 returns c = search (back-none, needs)
 
--- src/lib.rt:91:23
 sub-mask-at : tie.Need-sub-mask-at
 sub-mask-at c = search needs
 
--- src/lib.rt:91:5
 mask-at-requires : tie.Need-mask-at-requires
 mask-at-requires c κs = search (within-before, needs)
 
--- src/lib.rt:91:32
 others-hold-requires : tie.Need-others-hold-requires
 others-hold-requires c κs = search needs
 
--- src/lib.rt:83:1
 returns-2 : tie.Need-returns-2
 returns-2 c = search (back-test, needs)
 

@@ -7,8 +7,6 @@ use mathlib.Core.List.{_++_}
 use Rattle.retreat.proofs.Laws.{copy-room, copy-more, copy-keep, copy-done}
 use Rattle.retreat.proofs.copy_entries.Statement.{statement}
 use Rattle.retreat.proofs.copy_entries.Tie as tie
-use Rattle.retreat.proofs.copy_entries.Reads as reads
-use Rattle.retreat.proofs.copy_entries.Lts as lts
 
 abbrev Inv-loop : tie.InvT-loop
 Inv-loop from d to₀ at₀ i₀ to at i = (at ≡ d + i) × (at ≤ length from) × (length from ≤ d + length to₀) × (length to ≡ length to₀) × (take i to ++ drop at from ≡ drop d from) × (drop i to ≡ drop i to₀)
@@ -16,47 +14,36 @@ Inv-loop from d to₀ at₀ i₀ to at i = (at ≡ d + i) × (at ≤ length from
 abbrev μ-loop : tie.MeasureT-loop
 μ-loop from d to₀ at₀ i₀ to at i = length from - at
 
--- src/lib.rt:260:5
 loop-holds : tie.Need-loop-holds Inv-loop μ-loop
 loop-holds c = search (copy-room, needs)
 
--- src/lib.rt:261:17
 mul-to : tie.Need-mul-to Inv-loop μ-loop
 mul-to c = search needs
 
--- src/lib.rt:261:17
 shared-slice-read-to : tie.Need-shared-slice-read-to Inv-loop μ-loop
 shared-slice-read-to c = search needs
 
--- src/lib.rt:261:9
 mul-to-2 : tie.Need-mul-to-2 Inv-loop μ-loop
 mul-to-2 c = search needs
 
--- src/lib.rt:261:9
 slice-write-to : tie.Need-slice-write-to Inv-loop μ-loop
 slice-write-to c = search needs
 
--- src/lib.rt:262:9
 add-at : tie.Need-add-at Inv-loop μ-loop
 add-at c = search needs
 
--- src/lib.rt:263:9
 add-i : tie.Need-add-i Inv-loop μ-loop
 add-i c = search needs
 
--- src/lib.rt:260:5
 loop-less : tie.Need-loop-less Inv-loop μ-loop
 loop-less c = search needs
 
--- src/lib.rt:260:5
 loop-again : tie.Need-loop-again Inv-loop μ-loop
 loop-again c = search (copy-more, copy-keep, needs)
 
--- src/lib.rt:254:1
 same-length : tie.Need-same-length Inv-loop μ-loop
 same-length c = search needs
 
--- src/lib.rt:254:1
 returns : tie.Need-returns Inv-loop μ-loop
 returns c = search (copy-done, needs)
 

@@ -7,9 +7,6 @@ use Rattle.retreat.specs.Paths.{Within, Holding}
 use Rattle.retreat.proofs.Laws.{within-at, holding-none, holding-more, holding-done}
 use Rattle.retreat.proofs.fill_masks.Statement.{statement}
 use Rattle.retreat.proofs.fill_masks.Tie as tie
-use Rattle.retreat.proofs.fill_masks.Reads as reads
-use Rattle.retreat.proofs.fill_masks.Lts as lts
-use Rattle.retreat.proofs.mask_at.Reads as mask-at-reads
 
 abbrev Inv-loop : tie.InvT-loop
 Inv-loop steps js masks₀ n t₀ masks t = (t ≤ n) × (n ≤ 6) × (6144 ≤ length steps) × (6 ≤ length js) × (6 ≤ length masks₀) × (length masks ≡ length masks₀) × Within js n × Holding steps js masks t
@@ -17,47 +14,36 @@ Inv-loop steps js masks₀ n t₀ masks t = (t ≤ n) × (n ≤ 6) × (6144 ≤ 
 abbrev μ-loop : tie.MeasureT-loop
 μ-loop steps js masks₀ n t₀ masks t = n - t
 
--- src/lib.rt:49:5
 loop-holds : tie.Need-loop-holds Inv-loop μ-loop
 loop-holds c = search (holding-none, needs)
 
--- src/lib.rt:50:38
 mul-mask-at : tie.Need-mul-mask-at Inv-loop μ-loop
 mul-mask-at c = search needs
 
--- src/lib.rt:50:38
 shared-slice-read-mask-at : tie.Need-shared-slice-read-mask-at Inv-loop μ-loop
 shared-slice-read-mask-at c = search needs
 
--- src/lib.rt:50:20
 mask-at-requires : tie.Need-mask-at-requires Inv-loop μ-loop
 mask-at-requires c κs = search (within-at, needs)
 
--- src/lib.rt:50:9
 mul-masks : tie.Need-mul-masks Inv-loop μ-loop
 mul-masks c = search needs
 
--- src/lib.rt:50:9
 slice-write-masks : tie.Need-slice-write-masks Inv-loop μ-loop
 slice-write-masks c = search needs
 
--- src/lib.rt:51:9
 add-t : tie.Need-add-t Inv-loop μ-loop
 add-t c = search needs
 
--- src/lib.rt:49:5
 loop-less : tie.Need-loop-less Inv-loop μ-loop
 loop-less c = search needs
 
--- src/lib.rt:49:5
 loop-again : tie.Need-loop-again Inv-loop μ-loop
 loop-again c = search (holding-more, needs)
 
--- src/lib.rt:44:1
 same-length : tie.Need-same-length Inv-loop μ-loop
 same-length c = search needs
 
--- src/lib.rt:44:1
 returns : tie.Need-returns Inv-loop μ-loop
 returns c = search (holding-done, needs)
 

@@ -8,9 +8,6 @@ use Rattle.retreat.specs.Moves.{NoneBelow}
 use Rattle.retreat.proofs.Laws.{first-start, first-more, first-found, first-none}
 use Rattle.retreat.proofs.find_back.Statement.{statement}
 use Rattle.retreat.proofs.find_back.Tie as tie
-use Rattle.retreat.proofs.find_back.Reads as reads
-use Rattle.retreat.proofs.find_back.Lts as lts
-use Rattle.retreat.proofs.can_go_back.Reads as can-go-back-reads
 
 abbrev Inv-loop : tie.InvT-loop
 Inv-loop steps js masks n k₀ k = (k ≤ n) × (n ≤ 6) × (6144 ≤ length steps) × (6 ≤ length js) × (6 ≤ length masks) × Within js n × Holding steps js masks n × NoneBelow (mayGoBack steps js n) k
@@ -18,31 +15,24 @@ Inv-loop steps js masks n k₀ k = (k ≤ n) × (n ≤ 6) × (6144 ≤ length st
 abbrev μ-loop : tie.MeasureT-loop
 μ-loop steps js masks n k₀ k = n - k
 
--- src/lib.rt:100:5
 loop-holds : tie.Need-loop-holds Inv-loop μ-loop
 loop-holds c = search (first-start, needs)
 
--- src/lib.rt:101:12
 can-go-back-requires : tie.Need-can-go-back-requires Inv-loop μ-loop
 can-go-back-requires c κs = search needs
 
--- src/lib.rt:102:13
 returns : tie.Need-returns Inv-loop μ-loop
 returns c = search (first-found, needs)
 
--- src/lib.rt:104:9
 add-k : tie.Need-add-k Inv-loop μ-loop
 add-k c = search needs
 
--- src/lib.rt:100:5
 loop-less : tie.Need-loop-less Inv-loop μ-loop
 loop-less c = search needs
 
--- src/lib.rt:100:5
 loop-again : tie.Need-loop-again Inv-loop μ-loop
 loop-again c = search (first-more, needs)
 
--- src/lib.rt:95:1
 returns-2 : tie.Need-returns-2 Inv-loop μ-loop
 returns-2 c = search (first-none, needs)
 

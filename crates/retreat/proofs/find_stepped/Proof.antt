@@ -7,8 +7,6 @@ use Rattle.retreat.specs.Moves.{NoneBelow, hasStepped}
 use Rattle.retreat.proofs.Laws.{first-start, first-none, stepped-more, stepped-found}
 use Rattle.retreat.proofs.find_stepped.Statement.{statement}
 use Rattle.retreat.proofs.find_stepped.Tie as tie
-use Rattle.retreat.proofs.find_stepped.Reads as reads
-use Rattle.retreat.proofs.find_stepped.Lts as lts
 
 abbrev Inv-loop : tie.InvT-loop
 Inv-loop js n t₀ t = (t ≤ n) × (n ≤ 6) × (6 ≤ length js) × NoneBelow (hasStepped js) t
@@ -16,35 +14,27 @@ Inv-loop js n t₀ t = (t ≤ n) × (n ≤ 6) × (6 ≤ length js) × NoneBelow 
 abbrev μ-loop : tie.MeasureT-loop
 μ-loop js n t₀ t = n - t
 
--- src/lib.rt:115:5
 loop-holds : tie.Need-loop-holds Inv-loop μ-loop
 loop-holds c = search (first-start, needs)
 
--- src/lib.rt:116:16
 mul-if1 : tie.Need-mul-if1 Inv-loop μ-loop
 mul-if1 c = search needs
 
--- src/lib.rt:116:16
 shared-slice-read-if1 : tie.Need-shared-slice-read-if1 Inv-loop μ-loop
 shared-slice-read-if1 c = search needs
 
--- src/lib.rt:117:13
 returns : tie.Need-returns Inv-loop μ-loop
 returns c = search (stepped-found, needs)
 
--- src/lib.rt:119:9
 add-t : tie.Need-add-t Inv-loop μ-loop
 add-t c = search needs
 
--- src/lib.rt:115:5
 loop-less : tie.Need-loop-less Inv-loop μ-loop
 loop-less c = search needs
 
--- src/lib.rt:115:5
 loop-again : tie.Need-loop-again Inv-loop μ-loop
 loop-again c = search (stepped-more, needs)
 
--- src/lib.rt:110:1
 returns-2 : tie.Need-returns-2 Inv-loop μ-loop
 returns-2 c = search (first-none, needs)
 

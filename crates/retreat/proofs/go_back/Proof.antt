@@ -3,73 +3,60 @@ use borrow.Author.Needs.{needs}
 use Prim.Native.Nat.{_+_, _-_, _≤_, _<_}
 use mathlib.Core.Path.{_≡_}
 use lib.ListN.{length, drop}
-use Rattle.retreat.specs.Paths.{Within}
 use Rattle.retreat.specs.Moves.{FirstBelow, hasStepped, stepsLeft}
-use Rattle.retreat.proofs.Moves.{Going, stepped-at, at-start, going-less, going-on, going-room, going-first, going-short}
+use Rattle.retreat.proofs.Moves.{Lengths, Going, going-less, going-on, going-lent, going-room, going-first, going-done}
 use Rattle.retreat.proofs.go_back.Statement.{statement}
 use Rattle.retreat.proofs.go_back.Tie as tie
-use Rattle.retreat.proofs.go_back.Reads as reads
-use Rattle.retreat.proofs.go_back.Lts as lts
-use Rattle.retreat.proofs.find_stepped.Reads as find-stepped-reads
-use Rattle.retreat.proofs.turn.Reads as turn-reads
 
 abbrev Inv-loop : tie.InvT-loop
-Inv-loop steps begins js₀ wishes₀ masks₀ present₀ entries₀ n d₀ t₀ js wishes masks present entries d t = (6144 ≤ length steps) × (6 ≤ length begins) × (6 ≤ length wishes) × (6 ≤ length masks) × (6 ≤ length present) × (6144 ≤ length entries₀) × (length js ≡ length js₀) × (length wishes ≡ length wishes₀) × (length masks ≡ length masks₀) × (length present ≡ length present₀) × (length entries ≡ length entries₀) × (d ≤ length entries) × FirstBelow (hasStepped js) n t × Going steps begins n js₀ wishes₀ masks₀ js (drop d entries) wishes masks
+Inv-loop steps begins js₀ wishes₀ masks₀ present₀ entries₀ n d₀ t₀ js wishes masks present entries d t =
+    Lengths steps begins js₀ wishes₀ masks₀ present₀ entries₀ js wishes masks present entries × (d ≤ length entries) × FirstBelow (hasStepped js) n t
+    × Going steps begins n js₀ wishes₀ masks₀ js (drop d entries) wishes masks
 
 abbrev μ-loop : tie.MeasureT-loop
 μ-loop steps begins js₀ wishes₀ masks₀ present₀ entries₀ n d₀ t₀ js wishes masks present entries d t = stepsLeft js n
 
--- src/lib.rt:254:9
 find-stepped-requires : tie.Need-find-stepped-requires Inv-loop μ-loop
 find-stepped-requires c κs = search needs
 
--- src/lib.rt:255:5
 loop-holds : tie.Need-loop-holds Inv-loop μ-loop
 loop-holds c = search (going-first, needs)
 
--- src/lib.rt:256:9
 turn-requires : tie.Need-turn-requires Inv-loop μ-loop
-turn-requires c κs = (search needs, search needs, search needs, search needs, search needs, search needs, search needs, search needs, search (going-room, needs), search needs)
+turn-requires c κs =
+    let inv = c .before .before .before .before .before .before .loop .inv in
+    (going-lent _ _ _ _ _ _ _ _ _ _ _ _ _ _ (inv .0) (inv .3), search (going-room, needs), search needs)
 
--- src/lib.rt:257:9
 find-stepped-requires-2 : tie.Need-find-stepped-requires-2 Inv-loop μ-loop
 find-stepped-requires-2 c κs = search needs
 
--- src/lib.rt:255:5
 loop-less : tie.Need-loop-less Inv-loop μ-loop
 loop-less c = search (going-less, needs)
 
--- src/lib.rt:255:5
 loop-again : tie.Need-loop-again Inv-loop μ-loop
 loop-again c =
     let moved = c .before .before .before .before .before .before .before .before .before .before .before .before in
     let began = moved .before .before .before .before .before .before in
-    let going = going-on _ _ _ _ _ _ _ _ _ _ _ _ (began .before .loop .inv .12) (began .loop-test .taken) _ _ _ (began .before .loop .inv .13) (moved .turn .ensures .1) in
-    (search needs, search needs, search needs, search needs, search needs, search needs, search needs, search needs, search needs, search needs, search needs, search needs, search needs, going (search needs))
+    let going = going-on _ _ _ _ _ _ _ _ _ _ _ _ (began .before .loop .inv .2) (began .loop-test .taken) _ _ _ (began .before .loop .inv .3) (moved .turn .ensures .1) in
+    (search needs, search needs, search needs, going (search needs))
 
--- src/lib.rt:237:1
 same-length : tie.Need-same-length Inv-loop μ-loop
 same-length c = search needs
 
--- src/lib.rt:237:1
 same-length-2 : tie.Need-same-length-2 Inv-loop μ-loop
 same-length-2 c = search needs
 
--- src/lib.rt:237:1
 same-length-3 : tie.Need-same-length-3 Inv-loop μ-loop
 same-length-3 c = search needs
 
--- src/lib.rt:237:1
 same-length-4 : tie.Need-same-length-4 Inv-loop μ-loop
 same-length-4 c = search needs
 
--- src/lib.rt:237:1
 same-length-5 : tie.Need-same-length-5 Inv-loop μ-loop
 same-length-5 c = search needs
 
--- src/lib.rt:237:1
 returns : tie.Need-returns Inv-loop μ-loop
-returns c = search (going-short, at-start, needs)
+returns c = search (going-done, needs)
 
 pub go-back-spec : {M : Type 1} → statement M
 go-back-spec =

@@ -3,24 +3,16 @@ use Rattle.retreat.proofs.Laws.{member-holds, no-member}
 use borrow.Author.Needs.{needs}
 use Rattle.retreat.proofs.held_if_member.Statement.{statement}
 use Rattle.retreat.proofs.held_if_member.Tie as tie
-use Rattle.retreat.proofs.held_if_member.Reads as reads
-use Rattle.retreat.proofs.held_if_member.Lts as lts
-use Rattle.retreat.proofs.held_unless.Reads as held-unless-reads
-use Rattle.retreat.proofs.is_member.Reads as is-member-reads
 
--- src/lib.rt:308:8
 is-member-requires : tie.Need-is-member-requires
 is-member-requires c κs = search needs
 
--- src/lib.rt:309:9
 held-unless-requires : tie.Need-held-unless-requires
 held-unless-requires c κs = search needs
 
--- src/lib.rt:309:9
 returns : tie.Need-returns
 returns c = search (member-holds, needs)
 
--- src/lib.rt:304:1
 returns-2 : tie.Need-returns-2
 returns-2 c = search (no-member, needs)
 

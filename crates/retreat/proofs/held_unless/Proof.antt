@@ -3,22 +3,16 @@ use Rattle.retreat.proofs.Laws.{unless-same, unless-other}
 use borrow.Author.Needs.{needs}
 use Rattle.retreat.proofs.held_unless.Statement.{statement}
 use Rattle.retreat.proofs.held_unless.Tie as tie
-use Rattle.retreat.proofs.held_unless.Reads as reads
-use Rattle.retreat.proofs.held_unless.Lts as lts
 
--- src/lib.rt:61:9
 returns : tie.Need-returns
 returns c = search (unless-same, needs)
 
--- src/lib.rt:63:5
 mul-result : tie.Need-mul-result
 mul-result c = search needs
 
--- src/lib.rt:63:5
 shared-slice-read-result : tie.Need-shared-slice-read-result
 shared-slice-read-result c = search needs
 
--- src/lib.rt:56:1
 returns-2 : tie.Need-returns-2
 returns-2 c = search (unless-other, needs)
 

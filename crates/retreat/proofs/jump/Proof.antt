@@ -8,9 +8,6 @@ use Rattle.retreat.specs.Moves.{Landed}
 use Rattle.retreat.proofs.Laws.{jump-some, jump-within, jump-keep, landed-none, landed-more, landed-done}
 use Rattle.retreat.proofs.jump.Statement.{statement}
 use Rattle.retreat.proofs.jump.Tie as tie
-use Rattle.retreat.proofs.jump.Reads as reads
-use Rattle.retreat.proofs.jump.Lts as lts
-use Rattle.retreat.proofs.land.Reads as land-reads
 
 abbrev Inv-loop : tie.InvT-loop
 Inv-loop steps begins masks js₀ wishes₀ n k₀ js wishes k = (k ≤ n) × (n ≤ 6) × (6144 ≤ length steps) × (6 ≤ length begins) × (6 ≤ length masks) × (6 ≤ length js₀) × (6 ≤ length wishes₀) × (length js ≡ length js₀) × (length wishes ≡ length wishes₀) × Within js₀ n × Holding steps js₀ masks n × NoneMayGoBack steps js₀ n × (drop k js ≡ drop k js₀) × Landed steps begins n js₀ js wishes k
@@ -18,59 +15,45 @@ Inv-loop steps begins masks js₀ wishes₀ n k₀ js wishes k = (k ≤ n) × (n
 abbrev μ-loop : tie.MeasureT-loop
 μ-loop steps begins masks js₀ wishes₀ n k₀ js wishes k = n - k
 
--- src/lib.rt:190:5
 loop-holds : tie.Need-loop-holds Inv-loop μ-loop
 loop-holds c = search (landed-none, needs)
 
--- src/lib.rt:191:51
 mul-land : tie.Need-mul-land Inv-loop μ-loop
 mul-land c = search needs
 
--- src/lib.rt:191:51
 slice-read-land : tie.Need-slice-read-land Inv-loop μ-loop
 slice-read-land c = search needs
 
--- src/lib.rt:191:13
 land-requires : tie.Need-land-requires Inv-loop μ-loop
 land-requires c κs = search (jump-some, jump-within, needs)
 
--- src/lib.rt:192:9
 mul-js : tie.Need-mul-js Inv-loop μ-loop
 mul-js c = search needs
 
--- src/lib.rt:192:9
 slice-write-js : tie.Need-slice-write-js Inv-loop μ-loop
 slice-write-js c = search needs
 
--- src/lib.rt:193:9
 mul-wishes : tie.Need-mul-wishes Inv-loop μ-loop
 mul-wishes c = search needs
 
--- src/lib.rt:193:9
 slice-write-wishes : tie.Need-slice-write-wishes Inv-loop μ-loop
 slice-write-wishes c = search needs
 
--- src/lib.rt:194:9
 add-k : tie.Need-add-k Inv-loop μ-loop
 add-k c = search needs
 
--- src/lib.rt:190:5
 loop-less : tie.Need-loop-less Inv-loop μ-loop
 loop-less c = search needs
 
--- src/lib.rt:190:5
 loop-again : tie.Need-loop-again Inv-loop μ-loop
 loop-again c = (search needs, search needs, search needs, search needs, search needs, search needs, search needs, search needs, search needs, search needs, search needs, search needs, search (jump-keep, needs), search (landed-more, needs))
 
--- src/lib.rt:184:1
 same-length : tie.Need-same-length Inv-loop μ-loop
 same-length c = search needs
 
--- src/lib.rt:184:1
 same-length-2 : tie.Need-same-length-2 Inv-loop μ-loop
 same-length-2 c = search needs
 
--- src/lib.rt:184:1
 returns : tie.Need-returns Inv-loop μ-loop
 returns c = search (landed-done, needs)
 

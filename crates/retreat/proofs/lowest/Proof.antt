@@ -2,10 +2,7 @@
 use Rattle.laws.proofs.Masks.{trailing-lowest, trailing-lt}
 use Rattle.retreat.proofs.lowest.Statement.{statement}
 use Rattle.retreat.proofs.lowest.Tie as tie
-use Rattle.retreat.proofs.lowest.Reads as reads
-use Rattle.retreat.proofs.lowest.Lts as lts
 
--- src/lib.rt:163:1
 returns : tie.Need-returns
 returns c = (trailing-lt 64 (c .args .m) (c .pre) (c .fits .m .fits), trailing-lowest 64 (c .args .m) (c .pre) (c .fits .m .fits) .member)
 

@@ -3,34 +3,25 @@ use Rattle.retreat.proofs.Laws.{mask-first, mask-next}
 use borrow.Author.Needs.{needs}
 use Rattle.retreat.proofs.mask_at.Statement.{statement}
 use Rattle.retreat.proofs.mask_at.Tie as tie
-use Rattle.retreat.proofs.mask_at.Reads as reads
-use Rattle.retreat.proofs.mask_at.Lts as lts
 
--- src/lib.rt:38:9
 returns : tie.Need-returns
 returns c = search (mask-first, needs)
 
--- src/lib.rt:40:11
 mul-result : tie.Need-mul-result
 mul-result c = search needs
 
--- src/lib.rt:40:23
 sub-result : tie.Need-sub-result
 sub-result c = search needs
 
--- src/lib.rt:40:11
 add-result : tie.Need-add-result
 add-result c = search needs
 
--- src/lib.rt:40:5
 mul-result-2 : tie.Need-mul-result-2
 mul-result-2 c = search needs
 
--- src/lib.rt:40:5
 shared-slice-read-result : tie.Need-shared-slice-read-result
 shared-slice-read-result c = search needs
 
--- src/lib.rt:33:1
 returns-2 : tie.Need-returns-2
 returns-2 c = search (mask-next, needs)
 

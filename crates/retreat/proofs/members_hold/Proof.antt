@@ -7,9 +7,6 @@ use Rattle.semantics.proofs.Closing.{heldByMembers}
 use Rattle.retreat.proofs.Laws.{members-none, members-more, members-done}
 use Rattle.retreat.proofs.members_hold.Statement.{statement}
 use Rattle.retreat.proofs.members_hold.Tie as tie
-use Rattle.retreat.proofs.members_hold.Reads as reads
-use Rattle.retreat.proofs.members_hold.Lts as lts
-use Rattle.retreat.proofs.held_if_member.Reads as held-if-member-reads
 
 abbrev Inv-loop : tie.InvT-loop
 Inv-loop masks m n t all₀ u₀ all u = (u ≤ n) × (n ≤ 6) × (6 ≤ length masks) × (all ≡ heldByMembers u masks m t)
@@ -17,27 +14,21 @@ Inv-loop masks m n t all₀ u₀ all u = (u ≤ n) × (n ≤ 6) × (6 ≤ length
 abbrev μ-loop : tie.MeasureT-loop
 μ-loop masks m n t all₀ u₀ all u = n - u
 
--- src/lib.rt:321:5
 loop-holds : tie.Need-loop-holds Inv-loop μ-loop
 loop-holds c = search (members-none, needs)
 
--- src/lib.rt:322:21
 held-if-member-requires : tie.Need-held-if-member-requires Inv-loop μ-loop
 held-if-member-requires c κs = search needs
 
--- src/lib.rt:323:9
 add-u : tie.Need-add-u Inv-loop μ-loop
 add-u c = search needs
 
--- src/lib.rt:321:5
 loop-less : tie.Need-loop-less Inv-loop μ-loop
 loop-less c = search needs
 
--- src/lib.rt:321:5
 loop-again : tie.Need-loop-again Inv-loop μ-loop
 loop-again c = search (members-more, needs)
 
--- src/lib.rt:315:1
 returns : tie.Need-returns Inv-loop μ-loop
 returns c = search (members-done, needs)
 

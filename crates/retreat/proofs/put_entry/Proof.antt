@@ -4,78 +4,58 @@ use Rattle.retreat.specs.Moves.{entryOf}
 use borrow.Author.Needs.{needs}
 use Rattle.retreat.proofs.put_entry.Statement.{statement}
 use Rattle.retreat.proofs.put_entry.Tie as tie
-use Rattle.retreat.proofs.put_entry.Reads as reads
-use Rattle.retreat.proofs.put_entry.Lts as lts
 
--- src/lib.rt:130:13
 mul-j : tie.Need-mul-j
 mul-j c = search needs
 
--- src/lib.rt:130:13
 slice-read-j : tie.Need-slice-read-j
 slice-read-j c = search needs
 
--- src/lib.rt:130:13
 sub-j : tie.Need-sub-j
 sub-j c = search needs
 
--- src/lib.rt:131:22
 mul-step : tie.Need-mul-step
 mul-step c = search needs
 
--- src/lib.rt:131:22
 add-step : tie.Need-add-step
 add-step c = search needs
 
--- src/lib.rt:131:16
 mul-step-2 : tie.Need-mul-step-2
 mul-step-2 c = search needs
 
--- src/lib.rt:131:16
 shared-slice-read-step : tie.Need-shared-slice-read-step
 shared-slice-read-step c = search needs
 
--- src/lib.rt:132:18
 cast-entries : tie.Need-cast-entries
 cast-entries c = search needs
 
--- src/lib.rt:132:34
 cast-entries-2 : tie.Need-cast-entries-2
 cast-entries-2 c = search needs
 
--- src/lib.rt:132:29
 mul-entries : tie.Need-mul-entries
 mul-entries c = search needs
 
--- src/lib.rt:132:18
 add-entries : tie.Need-add-entries
 add-entries c = search needs
 
--- src/lib.rt:132:5
 mul-entries-2 : tie.Need-mul-entries-2
 mul-entries-2 c = search needs
 
--- src/lib.rt:132:5
 slice-write-entries : tie.Need-slice-write-entries
 slice-write-entries c = search needs
 
--- src/lib.rt:133:5
 mul-js : tie.Need-mul-js
 mul-js c = search needs
 
--- src/lib.rt:133:5
 slice-write-js : tie.Need-slice-write-js
 slice-write-js c = search needs
 
--- src/lib.rt:125:1
 same-length : tie.Need-same-length
 same-length c = search needs
 
--- src/lib.rt:125:1
 same-length-2 : tie.Need-same-length-2
 same-length-2 c = search needs
 
--- src/lib.rt:125:1
 returns : tie.Need-returns
 unfolding entryOf choiceAt
 returns c = search needs

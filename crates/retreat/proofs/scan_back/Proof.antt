@@ -8,10 +8,6 @@ use Rattle.retreat.specs.Paths.{masksOf}
 use Rattle.retreat.proofs.Laws.{scan-more, scan-here, scan-out}
 use Rattle.retreat.proofs.scan_back.Statement.{statement}
 use Rattle.retreat.proofs.scan_back.Tie as tie
-use Rattle.retreat.proofs.scan_back.Reads as reads
-use Rattle.retreat.proofs.scan_back.Lts as lts
-use Rattle.retreat.proofs.has.Reads as has-reads
-use Rattle.retreat.proofs.mask_at.Reads as mask-at-reads
 
 abbrev Inv-loop : tie.InvT-loop
 Inv-loop steps t l j a₀ a = (6144 ≤ length steps) × (t < 6) × (l < 64) × (a ≤ 1024) × (scanBack (masksOf steps t) l a ≡ scanBack (masksOf steps t) l j)
@@ -19,35 +15,27 @@ Inv-loop steps t l j a₀ a = (6144 ≤ length steps) × (t < 6) × (l < 64) × 
 abbrev μ-loop : tie.MeasureT-loop
 μ-loop steps t l j a₀ a = a
 
--- src/lib.rt:152:5
 loop-holds : tie.Need-loop-holds Inv-loop μ-loop
 loop-holds c = search needs
 
--- src/lib.rt:153:16
 mask-at-requires : tie.Need-mask-at-requires Inv-loop μ-loop
 mask-at-requires c κs = search needs
 
--- src/lib.rt:153:12
 has-requires : tie.Need-has-requires Inv-loop μ-loop
 has-requires c κs = search needs
 
--- src/lib.rt:154:13
 sub-a : tie.Need-sub-a Inv-loop μ-loop
 sub-a c = search needs
 
--- src/lib.rt:152:5
 loop-less : tie.Need-loop-less Inv-loop μ-loop
 loop-less c = search needs
 
--- src/lib.rt:152:5
 loop-again : tie.Need-loop-again Inv-loop μ-loop
 loop-again c = search (scan-more, needs)
 
--- src/lib.rt:156:13
 returns : tie.Need-returns Inv-loop μ-loop
 returns c = search (scan-here, needs)
 
--- src/lib.rt:147:1
 returns-2 : tie.Need-returns-2 Inv-loop μ-loop
 returns-2 c = search (scan-out, needs)
 

@@ -6,9 +6,6 @@ use lib.ListN.{length, getD, take, drop}
 use Rattle.retreat.proofs.Laws.{roundBelow, round-none, round-more, round-done}
 use Rattle.retreat.proofs.stuck_round.Statement.{statement}
 use Rattle.retreat.proofs.stuck_round.Tie as tie
-use Rattle.retreat.proofs.stuck_round.Reads as reads
-use Rattle.retreat.proofs.stuck_round.Lts as lts
-use Rattle.retreat.proofs.waiting_bit.Reads as waiting-bit-reads
 
 abbrev Inv-loop : tie.InvT-loop
 Inv-loop wishes masks m n all₀ t₀ all t = (t ≤ n) × (n ≤ 6) × (6 ≤ length wishes) × (6 ≤ length masks) × (all ≡ roundBelow t n wishes masks m)
@@ -16,27 +13,21 @@ Inv-loop wishes masks m n all₀ t₀ all t = (t ≤ n) × (n ≤ 6) × (6 ≤ l
 abbrev μ-loop : tie.MeasureT-loop
 μ-loop wishes masks m n all₀ t₀ all t = n - t
 
--- src/lib.rt:350:5
 loop-holds : tie.Need-loop-holds Inv-loop μ-loop
 loop-holds c = search (round-none, needs)
 
--- src/lib.rt:351:21
 waiting-bit-requires : tie.Need-waiting-bit-requires Inv-loop μ-loop
 waiting-bit-requires c κs = search needs
 
--- src/lib.rt:352:9
 add-t : tie.Need-add-t Inv-loop μ-loop
 add-t c = search needs
 
--- src/lib.rt:350:5
 loop-less : tie.Need-loop-less Inv-loop μ-loop
 loop-less c = search needs
 
--- src/lib.rt:350:5
 loop-again : tie.Need-loop-again Inv-loop μ-loop
 loop-again c = search (round-more, needs)
 
--- src/lib.rt:344:1
 returns : tie.Need-returns Inv-loop μ-loop
 returns c = search (round-done, needs)
 

@@ -3,65 +3,46 @@ use Rattle.retreat.proofs.Laws.{within-at, first-stepped, none-back, tu
 use borrow.Author.Needs.{needs}
 use Rattle.retreat.proofs.turn.Statement.{statement}
 use Rattle.retreat.proofs.turn.Tie as tie
-use Rattle.retreat.proofs.turn.Reads as reads
-use Rattle.retreat.proofs.turn.Lts as lts
-use Rattle.retreat.proofs.choose_back.Reads as choose-back-reads
-use Rattle.retreat.proofs.jump_all.Reads as jump-all-reads
-use Rattle.retreat.proofs.put_entry.Reads as put-entry-reads
 
--- src/lib.rt:245:9
 choose-back-requires : tie.Need-choose-back-requires
 choose-back-requires c κs = search needs
 
--- src/lib.rt:247:42
 sub-put-entry : tie.Need-sub-put-entry
 sub-put-entry c = search needs
 
--- src/lib.rt:247:9
 put-entry-requires : tie.Need-put-entry-requires
 put-entry-requires c κs = search (within-at, first-stepped, needs)
 
--- src/lib.rt:248:16
 sub-result : tie.Need-sub-result
 sub-result c = search needs
 
--- src/lib.rt:248:9
 same-length : tie.Need-same-length
 same-length c = search needs
 
--- src/lib.rt:248:9
 same-length-2 : tie.Need-same-length-2
 same-length-2 c = search needs
 
--- src/lib.rt:248:9
 same-length-3 : tie.Need-same-length-3
 same-length-3 c = search needs
 
--- src/lib.rt:248:9
 returns : tie.Need-returns
 returns c = search (turned-step, needs)
 
--- src/lib.rt:250:5
 jump-all-requires : tie.Need-jump-all-requires
 jump-all-requires c κs = (search needs, search needs, search needs, search needs, search needs, search needs, search needs, search (none-back, needs))
 
--- src/lib.rt:229:1
 same-length-4 : tie.Need-same-length-4
 same-length-4 c = search needs
 
--- src/lib.rt:229:1
 same-length-5 : tie.Need-same-length-5
 same-length-5 c = search needs
 
--- src/lib.rt:229:1
 same-length-6 : tie.Need-same-length-6
 same-length-6 c = search needs
 
--- src/lib.rt:229:1
 same-length-7 : tie.Need-same-length-7
 same-length-7 c = search needs
 
--- src/lib.rt:229:1
 returns-2 : tie.Need-returns-2
 returns-2 c = search (turned-jump, needs)
 

@@ -3,30 +3,22 @@ use Rattle.retreat.proofs.Laws.{wants-bit, wants-none}
 use borrow.Author.Needs.{needs}
 use Rattle.retreat.proofs.wanting_bit.Statement.{statement}
 use Rattle.retreat.proofs.wanting_bit.Tie as tie
-use Rattle.retreat.proofs.wanting_bit.Reads as reads
-use Rattle.retreat.proofs.wanting_bit.Lts as lts
 
--- src/lib.rt:275:12
 mul-if1 : tie.Need-mul-if1
 mul-if1 c = search needs
 
--- src/lib.rt:275:12
 shared-slice-read-if1 : tie.Need-shared-slice-read-if1
 shared-slice-read-if1 c = search needs
 
--- src/lib.rt:276:23
 cast-result : tie.Need-cast-result
 cast-result c = search needs
 
--- src/lib.rt:276:16
 shl-result : tie.Need-shl-result
 shl-result c = search needs
 
--- src/lib.rt:276:9
 returns : tie.Need-returns
 returns c = search (wants-bit, needs)
 
--- src/lib.rt:271:1
 returns-2 : tie.Need-returns-2
 returns-2 c = search (wants-none, needs)
 

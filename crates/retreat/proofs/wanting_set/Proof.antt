@@ -7,9 +7,6 @@ use Rattle.semantics.proofs.Closing.{wanting}
 use Rattle.retreat.proofs.Laws.{wanting-none, wanting-more, wanting-done}
 use Rattle.retreat.proofs.wanting_set.Statement.{statement}
 use Rattle.retreat.proofs.wanting_set.Tie as tie
-use Rattle.retreat.proofs.wanting_set.Reads as reads
-use Rattle.retreat.proofs.wanting_set.Lts as lts
-use Rattle.retreat.proofs.wanting_bit.Reads as wanting-bit-reads
 
 abbrev Inv-loop : tie.InvT-loop
 Inv-loop wishes n all₀ t₀ all t = (t ≤ n) × (n ≤ 6) × (6 ≤ length wishes) × (all ≡ wanting t wishes)
@@ -17,27 +14,21 @@ Inv-loop wishes n all₀ t₀ all t = (t ≤ n) × (n ≤ 6) × (6 ≤ length wi
 abbrev μ-loop : tie.MeasureT-loop
 μ-loop wishes n all₀ t₀ all t = n - t
 
--- src/lib.rt:288:5
 loop-holds : tie.Need-loop-holds Inv-loop μ-loop
 loop-holds c = search (wanting-none, needs)
 
--- src/lib.rt:289:21
 wanting-bit-requires : tie.Need-wanting-bit-requires Inv-loop μ-loop
 wanting-bit-requires c κs = search needs
 
--- src/lib.rt:290:9
 add-t : tie.Need-add-t Inv-loop μ-loop
 add-t c = search needs
 
--- src/lib.rt:288:5
 loop-less : tie.Need-loop-less Inv-loop μ-loop
 loop-less c = search needs
 
--- src/lib.rt:288:5
 loop-again : tie.Need-loop-again Inv-loop μ-loop
 loop-again c = search (wanting-more, needs)
 
--- src/lib.rt:282:1
 returns : tie.Need-returns Inv-loop μ-loop
 returns c = search (wanting-done, needs)
 
