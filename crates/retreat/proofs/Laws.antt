@@ -1,4 +1,5 @@
--- The definitions of the crate in the shape of its functions' needs: a table's masks, joins over the threads, the first thread that passes a test, the scan.
+-- The definitions of the crate in the shape of its functions' needs: the table of masks, joins over the threads, the first thread that passes a test,
+-- the scan, the jump, one move, the copy.
 use Prim.Native.Nat.{ℕ, zero, suc, _+_, _-_, _*_, _/_, _%_, _^_, _<_, _≤_}
 use native.Mathlib.Numerals.{add-one}
 use native.Mathlib.Nat.{add-zero, eq-zero-or-pos, eq-or-lt-of-le}
@@ -6,10 +7,9 @@ use native.Mathlib.Omega.{arith}
 use mathlib.Core.Path.{_≡_, refl, sym, ap, _∙_, subst}
 use mathlib.Core.Logic.{inl, inr, ⊎-elim, _≢_}
 use mathlib.Core.Bool.{Bool, true, false, cond, not, _&&_}
-use mathlib.Core.List.{List, [], _∷_, _++_, map, append-nil}
+use mathlib.Core.List.{List, [], _++_, append-nil}
 use borrow.Author.Tests.{eq-eqb, ne-eqb, lt-ltb, le-ltb, eqb-true, eqb-false}
 use lib.Bits.{bitOr, bitAnd}
-use lib.Count.{trailingZeros}
 use lib.Dec.{eqb, ltb}
 use lib.ListN.{length, getD, set, take, drop, length-drop, drop-of-length-le, List·getD-map}
 use lib.Seq.{lt-length-set, drop-length, drop-set-lt, drop-cons, getD-drop, getD-set-same, getD-set-other}
@@ -18,13 +18,13 @@ use Rattle.laws.specs.Mask.{bit, inMask}
 use Rattle.laws.proofs.Tests.{eq-or-ne}
 use Rattle.laws.proofs.Bits.{bit-none}
 use Rattle.laws.proofs.Writes.{emit-more, emit-keep}
-use Rattle.laws.proofs.Masks.{Lowest, trailing-lowest, trailing-lt, shl-one}
+use Rattle.laws.proofs.Masks.{shl-one}
 use Rattle.semantics.proofs.Joins.{joinBelow}
 use Rattle.semantics.proofs.Dropping.{otherThan}
 use Rattle.semantics.proofs.Closing.{maskBelow, heldByMembers, waitsIn, wanting, stuckRound, stuckRounds}
-use Rattle.semantics.proofs.RetreatMoves.{othersAt, scanBack, scan-again, scan-stops, JumpTo}
-use Rattle.retreat.specs.Paths.{rowStart, masksOf, choiceAt, Within, Holding, heldByOthers, meeting, mayGoBack, NoneMayGoBack}
-use Rattle.retreat.specs.Moves.{NoneBelow, FirstBelow, hasStepped, AtStart, entryOf, Landed, Turned}
+use Rattle.semantics.proofs.RetreatMoves.{othersAt, scanBack, scan-again, JumpTo}
+use Rattle.retreat.specs.Paths.{masksOf, Within, Holding, heldByOthers, meeting, mayGoBack, NoneMayGoBack}
+use Rattle.retreat.specs.Moves.{NoneBelow, FirstBelow, hasStepped, entryOf, Landed, Turned}
 
 -- ---- the masks along a path
 
@@ -57,7 +57,8 @@ pub holding-more : (steps js masks masks₀ : List ℕ) (n t v : ℕ) → 6 ≤ 
 unfolding Holding
 holding-more steps js masks masks₀ n t v a b c h e k i l =
     ⊎-elim
-    (λ (z : i ≡ t). ap (λ u. getD (set masks t v) u 0) z ∙ getD-set-same masks t v 0 (omega arith) ∙ e ∙ ap (λ u. getD (masksOf steps u) (getD js u 0) 0) (sym z))
+    (λ (z : i ≡ t).
+    ap (λ u. getD (set masks t v) u 0) z ∙ getD-set-same masks t v 0 (omega arith) ∙ e ∙ ap (λ u. getD (masksOf steps u) (getD js u 0) 0) (sym z))
     (λ (z : i ≢ t). getD-set-other masks t i v 0 z ∙ k i (less i z l))
     (eq-or-ne i t)
   where
@@ -322,7 +323,8 @@ pub landed-none : (steps begins js js₀ wishes : List ℕ) (n : ℕ) → Landed
 unfolding Landed
 landed-none steps begins js js₀ wishes n t h = absurd (omega arith)
 
-pub landed-done : (steps begins js js₀ wishes : List ℕ) (n k : ℕ) → n ≤ k → Landed steps begins n js₀ js wishes k → Landed steps begins n js₀ js wishes n
+pub landed-done : (steps begins js js₀ wishes : List ℕ) (n k : ℕ) → n ≤ k → Landed steps begins n js₀ js wishes k
+    → Landed steps begins n js₀ js wishes n
 unfolding Landed
 landed-done steps begins js js₀ wishes n k h f t l = f t (omega arith)
 
@@ -345,7 +347,8 @@ module _ (steps begins js wishes masks entries : List ℕ) (n k d : ℕ) (f : Fi
   none-back h i l = f .before i (omega arith)
 
   pub turned-step : (js′ entries′ : List ℕ) → k < n → 0 < d → d ≤ length entries → js′ ≡ set js k (getD js k 0 - 1)
-      → entries′ ≡ set entries (d - 1) (entryOf steps js k) → Turned steps begins js wishes masks (drop d entries) n js′ wishes masks (drop (d - 1) entries′)
+      → entries′ ≡ set entries (d - 1) (entryOf steps js k)
+      → Turned steps begins js wishes masks (drop d entries) n js′ wishes masks (drop (d - 1) entries′)
   unfolding Turned
   turned-step js′ entries′ h o le e g =
       let at : suc (d - 1) ≡ d = omega arith in

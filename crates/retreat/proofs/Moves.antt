@@ -1,15 +1,14 @@
--- One move over the lent tables is a move of the theory (`step-back`, `jump-back`), so the way back goes on leading to the target; and the sum of the positions
--- falls. The theory's positions are the first n of the table.
+-- One move over the lent tables is a move of the theory (`step-back`, `jump-back`), so the way back goes on leading to the target; and the sum of the
+-- positions falls. The theory's positions are the first n of the table.
 use Prim.Native.Nat.{ℕ, zero, suc, _+_, _-_, _*_, _<_, _≤_}
 use native.Mathlib.Nat.{eq-zero-or-pos}
 use native.Mathlib.Omega.{arith}
-use mathlib.Core.Path.{_≡_, refl, sym, ap, _∙_, subst}
-use mathlib.Core.Logic.{_⊎_, inl, inr, ⊎-elim, _≢_}
-use mathlib.Core.Bool.{Bool, true, false}
-use mathlib.Core.List.{List, [], _∷_}
+use mathlib.Core.Path.{_≡_, sym, ap, _∙_, subst}
+use mathlib.Core.Logic.{_⊎_, ⊎-elim, _≢_}
+use mathlib.Core.List.{List}
 use borrow.Author.Tests.{ltb-true, ltb-false}
 use lib.Bits.{bitAnd}
-use lib.ListN.{length, getD, set, take, drop, length-drop, length-set}
+use lib.ListN.{length, getD, set, take, drop, length-drop}
 use lib.Seq.{drop-length, length-take-le, getD-take, getD-set-same, getD-set-other, take-set-lt}
 use Rattle.laws.proofs.Tests.{eq-or-ne}
 use Rattle.laws.proofs.Bits.{bit-none}
@@ -18,8 +17,9 @@ use Rattle.semantics.specs.Run.{ThreadState}
 use Rattle.semantics.proofs.Dropping.{otherThan}
 use Rattle.semantics.proofs.Tables.{total, total-lt, total-at}
 use Rattle.semantics.proofs.RetreatMoves.{Paths, GoingBack, othersAt, scanBack, scanned, JumpTo, step-back, jump-back}
-use Rattle.retreat.specs.Paths.{masksOf, choiceAt, Within, Holding, meeting, mayGoBack, Lent}
-use Rattle.retreat.specs.Moves.{NoneBelow, FirstBelow, hasStepped, AtStart, stepsLeft, entryOf, Landed, SteppedBack, Jumped, Turned, Retreats, WentBack, FromEnds}
+use Rattle.retreat.specs.Paths.{masksOf, choiceAt, Within, Holding, meeting, Lent}
+use Rattle.retreat.specs.Moves.{NoneBelow, FirstBelow, hasStepped, AtStart, stepsLeft, entryOf}
+use Rattle.retreat.specs.Moves.{Landed, SteppedBack, Jumped, Turned, Retreats, WentBack}
 use Rattle.retreat.proofs.Laws.{join-same, back-stepped}
 
 -- ---- a move of the theory
@@ -43,7 +43,8 @@ module _ (steps js : List ℕ) {begins : List ℕ} {ps : List Block} {ns : List 
       let at : getD (take (length ns) js) k 0 ≡ getD js k 0 = getD-take (length ns) js k 0 b in
       let (o, m) = back-stepped steps js (length ns) k (r .permitted) in
       let le : getD (take (length ns) js) k 0 ≤ length (P k) = g .retreat .within k b in
-      let free : bitAnd (getD (masksOf steps k) (getD (take (length ns) js) k 0 - 1) 0) (othersAt (length ns) (masksOf steps) (take (length ns) js) k) ≡ 0 =
+      let free : bitAnd (getD (masksOf steps k) (getD (take (length ns) js) k 0 - 1) 0) (othersAt (length ns) (masksOf steps) (take (length ns) js) k)
+      ≡ 0 =
       rw (at, others-first (masksOf steps) js (length ns) k) m in
       let q = step-back x g k b (rw at o) free in
       let c : getD (P k) (getD (take (length ns) js) k 0 - 1) 0 ≡ choiceAt steps k (getD js k 0 - 1) =
@@ -52,7 +53,8 @@ module _ (steps js : List ℕ) {begins : List ℕ} {ps : List Block} {ns : List 
       ap (λ j. set (take (length ns) js) k (j - 1)) at ∙ sym (take-set-lt (length ns) js k (getD js k 0 - 1) b) in
       rw (r .positions, r .entries, r .wants, r .holds, ← e, ← c) q
 
-  goes-jump : {js′ wishes′ masks′ es′ : List ℕ} → (length ns) ≤ length js′ → (t : ℕ) → t < (length ns) → 0 < getD js t 0 → Jumped steps begins js (length ns) js′ wishes′ masks′ es′
+  goes-jump : {js′ wishes′ masks′ es′ : List ℕ} → (length ns) ≤ length js′ → (t : ℕ) → t < (length ns) → 0 < getD js t 0
+      → Jumped steps begins js (length ns) js′ wishes′ masks′ es′
       → GoingBack ps (length ns) P s bound (take (length ns) js′) es′ wishes′ masks′
   unfolding Landed Holding
   goes-jump {js′} {wishes′} {masks′} long t b o r =
@@ -89,13 +91,15 @@ step-falls {steps} {js} {js′ = js′} {n = n} long r =
     let at : getD js′ k 0 ≡ getD js k 0 - 1 = ap (λ l. getD l k 0) (r .positions) ∙ getD-set-same js k (getD js k 0 - 1) 0 (omega arith) in
     record {
       none-higher = λ i c. ⊎-elim (λ (e : i ≡ k). subst (λ u. getD js′ u 0 ≤ getD js u 0) (sym e) (omega arith))
-          (λ (d : i ≢ k). let e : getD js′ i 0 ≡ getD js i 0 = ap (λ l. getD l i 0) (r .positions) ∙ getD-set-other js k i (getD js k 0 - 1) 0 d in omega arith) (eq-or-ne i k);
+          (λ (d : i ≢ k). let e : getD js′ i 0 ≡ getD js i 0 = ap (λ l. getD l i 0) (r .positions) ∙ getD-set-other js k i (getD js k 0 - 1) 0 d in
+          omega arith) (eq-or-ne i k);
       thread = k;
       present = b;
       lower = omega arith;
     }
 
-jump-falls : {steps begins js js′ wishes′ masks′ es′ : List ℕ} {n : ℕ} (t : ℕ) → t < n → 0 < getD js t 0 → Jumped steps begins js n js′ wishes′ masks′ es′ → Falls js js′ n
+jump-falls : {steps begins js js′ wishes′ masks′ es′ : List ℕ} {n : ℕ} (t : ℕ) → t < n → 0 < getD js t 0
+    → Jumped steps begins js n js′ wishes′ masks′ es′ → Falls js js′ n
 unfolding Landed
 jump-falls {steps} {begins} {js} {js′} {wishes′} {n = n} t b o r =
     let le : (i : ℕ) → i < n → (getD js′ i 0 ≤ getD js i 0) × (0 < getD js i 0 → getD js′ i 0 < getD js i 0) =
@@ -142,13 +146,15 @@ at-start : (js : List ℕ) (n t : ℕ) → FirstBelow (hasStepped js) n t → n 
 unfolding AtStart NoneBelow hasStepped
 at-start js n t f h i b = omega (arith, ltb-false 0 (getD js i 0) (f .before i (omega arith)))
 
-module _ (steps begins js wishes masks es : List ℕ) (n : ℕ) (js′ wishes′ masks′ es′ : List ℕ) (t : ℕ) (f : FirstBelow (hasStepped js) n t) (b : t < n) where
+module _ (steps begins js wishes masks es : List ℕ) (n : ℕ) (js′ wishes′ masks′ es′ : List ℕ) (t : ℕ) (f : FirstBelow (hasStepped js) n t)
+    (b : t < n) where
   falls : n ≤ length js → Turned steps begins js wishes masks es n js′ wishes′ masks′ es′ → Falls js js′ n
   unfolding Turned
   falls long = ⊎-elim (λ (r : SteppedBack steps js wishes masks es n js′ wishes′ masks′ es′). step-falls long r)
       (λ (r : Jumped steps begins js n js′ wishes′ masks′ es′). jump-falls t b (stepped-at js n t f b) r)
 
-  shorter : Falls js js′ n → Turned steps begins js wishes masks es n js′ wishes′ masks′ es′ → length es + stepsLeft js n ≤ 6144 → length es′ + stepsLeft js′ n ≤ 6144
+  shorter : Falls js js′ n → Turned steps begins js wishes masks es n js′ wishes′ masks′ es′ → length es + stepsLeft js n ≤ 6144
+      → length es′ + stepsLeft js′ n ≤ 6144
   unfolding Turned
   shorter k u h =
       ⊎-elim
@@ -168,7 +174,8 @@ module _ (steps begins js wishes masks es : List ℕ) (n : ℕ) (js′ wishes′
           on ps ns P s bound n e t b (stepped-at js n t f b) long u chosen x (g .retreats .leads ps ns P s bound e chosen x g₀);
     }
       where
-        on : (ps : List Block) (ns : List ℕ) (P : ℕ → List ℕ) (s : ℕ → ℕ → ThreadState) (bound n : ℕ) → length ns ≡ n → (t : ℕ) → t < n → 0 < getD js t 0 → n ≤ length js′
+        on : (ps : List Block) (ns : List ℕ) (P : ℕ → List ℕ) (s : ℕ → ℕ → ThreadState) (bound n : ℕ) → length ns ≡ n
+            → (t : ℕ) → t < n → 0 < getD js t 0 → n ≤ length js′
             → SteppedBack steps js wishes masks es n js′ wishes′ masks′ es′ ⊎ Jumped steps begins js n js′ wishes′ masks′ es′
             → ((t j : ℕ) → t < n → j < length (P t) → getD (P t) j 0 ≡ choiceAt steps t j) → Paths ps ns P s (masksOf steps) begins
             → GoingBack ps (length ns) P s bound (take n js) es wishes masks → GoingBack ps (length ns) P s bound (take n js′) es′ wishes′ masks′
@@ -177,7 +184,8 @@ module _ (steps begins js wishes masks es : List ℕ) (n : ℕ) (js′ wishes′
             → SteppedBack steps js wishes masks es n js′ wishes′ masks′ es′ ⊎ Jumped steps begins js n js′ wishes′ masks′ es′
             → ((t j : ℕ) → t < n → j < length (P t) → getD (P t) j 0 ≡ choiceAt steps t j) → Paths ps ns P s (masksOf steps) begins
             → GoingBack ps (length ns) P s bound (take n js) es wishes masks → GoingBack ps (length ns) P s bound (take n js′) es′ wishes′ masks′) e
-            (λ t b o long u chosen x g. ⊎-elim (λ (r : SteppedBack steps js wishes masks es (length ns) js′ wishes′ masks′ es′). goes-step steps js chosen x g r)
+            (λ t b o long u chosen x g.
+            ⊎-elim (λ (r : SteppedBack steps js wishes masks es (length ns) js′ wishes′ masks′ es′). goes-step steps js chosen x g r)
             (λ (r : Jumped steps begins js (length ns) js′ wishes′ masks′ es′). goes-jump steps js chosen x g long t b o r) u)
 
     pub going-on : length js′ ≡ length js → Going steps begins n js₀ wishes₀ masks₀ js′ es′ wishes′ masks′
@@ -233,12 +241,5 @@ going-first steps begins n js wishes masks entries long few w = rw (drop-length 
 pub going-done : (steps begins : List ℕ) (n : ℕ) (js₀ wishes₀ masks₀ js es wishes masks : List ℕ) (t : ℕ)
     → Going steps begins n js₀ wishes₀ masks₀ js es wishes masks → FirstBelow (hasStepped js) n t → n ≤ t
     → WentBack steps begins n js₀ wishes₀ masks₀ js es wishes masks
-going-done steps begins n js₀ wishes₀ masks₀ js es wishes masks t g f h = record { short = omega (arith, g .room); ended = at-start js n t f h; retreats = g .retreats }
-
-pub ends-first : (steps begins : List ℕ) (n : ℕ) (lens wishes₀ first last es wishes masks : List ℕ) → Holding steps lens first n
-    → WentBack steps begins n lens wishes₀ first last es wishes masks → FromEnds steps begins n lens wishes₀ es wishes masks
-ends-first steps begins n lens wishes₀ first last es wishes masks h w = record { first = first; last = last; holding = h; went = w }
-
-pub ends-short : (steps begins : List ℕ) (n : ℕ) (lens wishes₀ es wishes masks entries : List ℕ) → FromEnds steps begins n lens wishes₀ es wishes masks
-    → 6144 ≤ length entries → length es ≤ length entries
-ends-short steps begins n lens wishes₀ es wishes masks entries f h = omega (arith, f .went .short)
+going-done steps begins n js₀ wishes₀ masks₀ js es wishes masks t g f h =
+    record { short = omega (arith, g .room); ended = at-start js n t f h; retreats = g .retreats }

@@ -1,30 +1,30 @@
--- Tables that are right for a plan and a circle are paths of its threads (`Paths`), at whose ends each member stands before the hold of its word (`AtCircle`). So the
--- way back starts at the theory's first target, and where it has come to the start the entries are a schedule, with the set that the rounds give.
-use Prim.Native.Nat.{ℕ, zero, suc, _+_, _-_, _*_, _/_, _%_, _^_, _<_, _≤_}
+-- Tables that are right for a plan and a circle are paths of its threads (`Paths`), at whose ends each member stands before the hold of its word
+-- (`AtCircle`). So the way back starts at the theory's first target, and where it has come to the start the entries are a schedule, with the set that
+-- the rounds give.
+use Prim.Native.Nat.{ℕ, zero, suc, _+_, _-_, _/_, _<_, _≤_}
 use native.Mathlib.Omega.{arith}
 use mathlib.Core.Path.{_≡_, refl, sym, ap, _∙_, subst}
 use mathlib.Core.Logic.{_⊎_, inl, inr, ⊎-elim, _≢_}
-use mathlib.Core.List.{List, [], _∷_, map}
-use mathlib.Core.Option.{some}
+use mathlib.Core.List.{List, []}
 use lib.Dec.{T, eqb, eqb→eq, eqb-refl}
 use lib.ListN.{length, getD, take, drop, length-drop, length-map, List·getD-map}
 use lib.Seq.{length-take-le, getD-take, getD-drop}
 use Rattle.laws.specs.Mask.{inMask}
 use Rattle.laws.proofs.Tests.{search-below}
-use Rattle.semantics.specs.Plan.{Block, done, hold, _⨾_, bodyIn, LockPlan, Sound}
+use Rattle.semantics.specs.Plan.{Block, done, hold, _⨾_, bodyIn, LockPlan}
 use Rattle.semantics.specs.Run.{ThreadState, thread, initial, unlocked}
-use Rattle.semantics.specs.Sizes.{sizeAt, sizeOf, threadSizes}
+use Rattle.semantics.specs.Sizes.{sizeOf, threadSizes}
 use Rattle.semantics.specs.Stuck.{Schedule}
 use Rattle.semantics.specs.Pairs.{held, locksOf, wantOf}
 use Rattle.semantics.proofs.Tables.{total}
 use Rattle.semantics.proofs.Remainders.{plain-body}
-use Rattle.semantics.proofs.Execution.{exec, stateAfter}
+use Rattle.semantics.proofs.Execution.{stateAfter}
 use Rattle.semantics.proofs.RetreatByMasks.{heldMask}
-use Rattle.semantics.proofs.Closing.{wishOf, stuckRounds}
-use Rattle.semantics.proofs.Paths.{choices, choiceOf, maskOf, maskAt, Stands, stands-first, stands-last, stands-masks, Finds, PathFound}
+use Rattle.semantics.proofs.Closing.{stuckRounds}
+use Rattle.semantics.proofs.Paths.{choices, choiceOf, maskAt, Stands, stands-first, stands-last, stands-masks, Finds, PathFound}
 use Rattle.semantics.proofs.RetreatMoves.{Paths, paths-of, GoingBack, AtCircle, circle-target, finished, finished-schedule, paths-short}
 use Rattle.retreat.specs.Paths.{rowStart, pathOf, masksOf, choiceAt, Within, Holding, Lent}
-use Rattle.retreat.specs.Moves.{AtStart, Retreats, WentBack, FromEnds, Filled}
+use Rattle.retreat.specs.Moves.{AtStart, Retreats, FromEnds, Filled}
 use Rattle.retreat.specs.Answer.{Right, Scheduled}
 use Rattle.retreat.proofs.Laws.{within-at}
 
@@ -63,12 +63,14 @@ record PathLeads (ps : List Block) (p : ℕ) (path : List ℕ) : Type 0 where
   stands : Stands ps (initial ps p) path mask count rest
 
 leads-nowhere : (ps : List Block) (p : ℕ) (path : List ℕ) → path ≡ [] → PathLeads ps p path
-leads-nowhere ps p path e = subst (PathLeads ps p) (sym e) (record { mask = 0; count = unlocked; rest = bodyIn ps p ⨾ done; stands = stands-first ps p })
+leads-nowhere ps p path e =
+    subst (PathLeads ps p) (sym e) (record { mask = 0; count = unlocked; rest = bodyIn ps p ⨾ done; stands = stands-first ps p })
 
 -- ---- what is right for a plan and a circle of its threads
 
 module _ (plan : LockPlan) (vss : List (List ℕ)) (k : ℕ) (threadOf word : ℕ → ℕ) (steps lens begins wishes masks : List ℕ)
-    (r : Right plan vss k threadOf word steps lens begins wishes (length (plan .threads))) (long : 6144 ≤ length steps) (few : length (plan .threads) ≤ 6)
+    (r : Right plan vss k threadOf word steps lens begins wishes (length (plan .threads))) (long : 6144 ≤ length steps)
+    (few : length (plan .threads) ≤ 6)
     (room : 6 ≤ length lens) (w : Within lens (length (plan .threads))) (h : Holding steps lens masks (length (plan .threads))) where
   abbrev ps : List Block
   ps = plan .procs
@@ -130,7 +132,8 @@ module _ (plan : LockPlan) (vss : List (List ℕ)) (k : ℕ) (threadOf word : �
   inside t b = omega (arith, at t b, sized t b, length-map (path t) choiceOf)
 
   -- at the end of its path a member stands before the hold of its word
-  member-ends : (i : ℕ) (b : i < k) → s (threadOf i) (getD js (threadOf i) 0) ≡ thread (hold ((r .path i b) .lock) ((r .path i b) .inside) ((r .path i b) .following)) ((r .path i b) .count)
+  member-ends : (i : ℕ) (b : i < k) → s (threadOf i) (getD js (threadOf i) 0)
+      ≡ thread (hold ((r .path i b) .lock) ((r .path i b) .inside) ((r .path i b) .following)) ((r .path i b) .count)
   member-ends i b =
       let c = r .present i b in
       ap (s (threadOf i)) (at (threadOf i) c ∙ sym (sized (threadOf i) c)) ∙ stands-last ((r .path i b) .stands)
@@ -146,8 +149,10 @@ module _ (plan : LockPlan) (vss : List (List ℕ)) (k : ℕ) (threadOf word : �
   at-circle = record {
     size = length-take-le n lens (omega arith);
     present = r .present;
-    stands = λ i b. let f = r .path i b in (f .inside, f .following, ap (λ x. x .rest) (member-ends i b) ∙ ap (λ l. hold l (f .inside) (f .following)) (member-wants i b));
-    holds = λ i b. let c = r .present i b in table-masks (threadOf i) (getD js (threadOf i) 0) c (inside (threadOf i) c) ∙ ap heldMask (member-ends i b) ∙ member-holds i b;
+    stands = λ i b. let f = r .path i b in
+        (f .inside, f .following, ap (λ x. x .rest) (member-ends i b) ∙ ap (λ l. hold l (f .inside) (f .following)) (member-wants i b));
+    holds = λ i b. let c = r .present i b in
+        table-masks (threadOf i) (getD js (threadOf i) 0) c (inside (threadOf i) c) ∙ ap heldMask (member-ends i b) ∙ member-holds i b;
     wish = r .wish;
     others = λ t b f. let q = r .others t b f in (at t b ∙ q .0, q .1);
     mask = λ t b. h t b ∙ ap (λ j. getD (masksOf steps t) j 0) (sym (at t b));
@@ -185,13 +190,18 @@ scheduled steps lens begins wishes masks present n es wishes′ masks′ entries
   where
     of-plan : (plan : LockPlan) (vss : List (List ℕ)) (k : ℕ) (threadOf word : ℕ → ℕ) (n : ℕ) → n ≡ length (plan .threads)
         → Right plan vss k threadOf word steps lens begins wishes n → n ≤ 6 → Within lens n → Holding steps lens (b .first) n
-        → Retreats steps begins n lens wishes (b .first) (b .last) es wishes′ masks′ → AtStart (b .last) n → Schedule plan es (inMask (stuckRounds n n wishes′ masks′))
+        → Retreats steps begins n lens wishes (b .first) (b .last) es wishes′ masks′ → AtStart (b .last) n
+        → Schedule plan es (inMask (stuckRounds n n wishes′ masks′))
     of-plan plan vss k threadOf word n q =
         subst (λ n. Right plan vss k threadOf word steps lens begins wishes n → n ≤ 6 → Within lens n → Holding steps lens (b .first) n
         → Retreats steps begins n lens wishes (b .first) (b .last) es wishes′ masks′ → AtStart (b .last) n
         → Schedule plan es (inMask (stuckRounds n n wishes′ masks′))) (sym q)
-        (λ r few w h g z. ended plan vss k threadOf word steps lens begins wishes (b .first) r (a .paths) few (a .positions) w h (b .last) es wishes′ masks′ g z)
+        (λ r few w h g z.
+        ended plan vss k threadOf word steps lens begins wishes (b .first) r (a .paths) few (a .positions) w h (b .last) es wishes′ masks′ g z)
 
--- a path that the walk for a word found is such a path
-pub path-right : {d : ℕ} {ps : List Block} {p w : ℕ} (f : PathFound d ps p w) (path : List ℕ) → f .path ≡ path → Finds ps (initial ps p) w path × (length path ≤ sizeAt d ps p)
-path-right {d} {ps} {p} {w} f path e = (subst (Finds ps (initial ps p) w) e (f .place), subst (λ q. length q ≤ sizeAt d ps p) e (f .short))
+-- a path that the walk for a word found, written into its row, is such a path
+pub path-right : (ps : List Block) (steps lens : List ℕ) (t p w : ℕ) (f : PathFound (length ps) ps p w) → f .path ≡ pathOf steps lens t
+    → 6144 ≤ length steps → t < 6 → getD lens t 0 ≤ 1024 → Finds ps (initial ps p) w (pathOf steps lens t) × (getD lens t 0 ≤ sizeOf ps p)
+unfolding sizeOf
+path-right ps steps lens t p w f e long low le =
+    (subst (Finds ps (initial ps p) w) e (f .place), omega (arith, f .short, ap length e, path-length steps lens t long low le))

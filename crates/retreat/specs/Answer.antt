@@ -15,8 +15,9 @@ use Rattle.semantics.proofs.Closing.{wishOf}
 use Rattle.semantics.proofs.Paths.{Finds}
 use Rattle.retreat.specs.Paths.{pathOf}
 
--- The tables are right for the plan and a circle of k of its threads, member i with its word: `steps` and `lens` have a path to the hold of each member's word
--- and none for the other threads, `begins` the lock that each thread's block begins with a hold of, and `wishes` what each thread wants at its path's end.
+-- The tables are right for the plan and a circle of k of its threads, member i with its word: `steps` and `lens` have a path to the hold of each
+-- member's word and none for the other threads, `begins` the lock that each thread's block begins with a hold of, and `wishes` what each thread wants
+-- at its path's end.
 pub record Right (plan : LockPlan) (vss : List (List ℕ)) (k : ℕ) (thread word : ℕ → ℕ) (steps lens begins wishes : List ℕ) (n : ℕ) : Type 0 where
   pub threads : n ≡ length (plan .threads)
   pub sound : Sound (plan .procs) (λ p. p)

@@ -1,6 +1,6 @@
 -- The moves of the way back over the lent tables, as the theory has them (semantics, RetreatMoves): a step back puts an entry in front, a jump forgets
 -- the entries.
-use Prim.Native.Nat.{ℕ, suc, _+_, _-_, _*_, _<_, _≤_}
+use Prim.Native.Nat.{ℕ, _+_, _-_, _*_, _<_, _≤_}
 use mathlib.Core.Bool.{Bool, true, false}
 use mathlib.Core.List.{List, [], _∷_}
 use mathlib.Core.Logic.{_⊎_}

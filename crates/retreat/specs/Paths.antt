@@ -1,6 +1,6 @@
 -- The lent tables: the path of each thread, the masks of the locks that it holds along it, and what the threads hold at their positions.
 use Prim.Native.Nat.{ℕ, _+_, _-_, _*_, _/_, _%_, _<_, _≤_}
-use mathlib.Core.Bool.{Bool, false, cond}
+use mathlib.Core.Bool.{Bool, false}
 use mathlib.Core.List.{List, _∷_, map}
 use mathlib.Core.Path.{_≡_}
 use lib.Bits.{bitAnd}

@@ -2,11 +2,10 @@
 // the start to a moment with a stuck set, and the largest such set there.
 ghost use mathlib.Core.Path.{_≡_};
 ghost use mathlib.Core.Bool.{cond, not, _&&_, false};
-ghost use mathlib.Core.List.{_∷_};
-ghost use Prim.Native.Nat.{ℕ, _+_, _-_, _*_, _^_, _≤_, _<_};
+ghost use Prim.Native.Nat.{_+_, _-_, _*_, _^_, _≤_, _<_};
 ghost use lib.Bits.{bitAnd};
 ghost use lib.Dec.{eqb, ltb};
-ghost use lib.ListN.{length, getD, set, take, drop};
+ghost use lib.ListN.{length, getD, set, drop};
 ghost use Rattle.laws.specs.Mask.{bit, inMask};
 ghost use Rattle.semantics.proofs.Dropping.{otherThan};
 ghost use Rattle.semantics.proofs.RetreatMoves.{scanBack, JumpTo};
@@ -201,7 +200,8 @@ fn land(steps: &[u64], begins: &[u64], masks: &[u64], n: usize, k: usize, j: u64
 
 // Each thread jumps, where none may go back.
 fn jump(steps: &[u64], begins: &[u64], masks: &[u64], js: &mut [u64], wishes: &mut [u64], n: usize)
-    requires { ⌜ Standing (now steps) (now js) (now masks) n × (6 ≤ length (now begins)) × (6 ≤ length (now wishes)) × NoneMayGoBack (now steps) (now js) n ⌝ }
+    requires { ⌜ Standing (now steps) (now js) (now masks) n × (6 ≤ length (now begins)) × (6 ≤ length (now wishes))
+        × NoneMayGoBack (now steps) (now js) n ⌝ }
     ensures { λ r. ⌜ Landed (now (steps .entry)) (now (begins .entry)) n (now (js .entry)) (now (js .exit)) (now (wishes .exit)) n ⌝ }
 {
     let mut k: usize = 0;
@@ -247,8 +247,8 @@ fn turn(
 ) -> usize
     requires { ⌜ Lent (now steps) (now begins) (now js) (now wishes) (now masks) (now present) n × (0 < d) × (d ≤ length (now entries)) ⌝ }
     ensures { λ r. ⌜ (r ≤ length (now (entries .exit)))
-        × Turned (now (steps .entry)) (now (begins .entry)) (now (js .entry)) (now (wishes .entry)) (now (masks .entry)) (drop d (now (entries .entry))) n
-        (now (js .exit)) (now (wishes .exit)) (now (masks .exit)) (drop r (now (entries .exit))) ⌝ }
+        × Turned (now (steps .entry)) (now (begins .entry)) (now (js .entry)) (now (wishes .entry)) (now (masks .entry))
+        (drop d (now (entries .entry))) n (now (js .exit)) (now (wishes .exit)) (now (masks .exit)) (drop r (now (entries .exit))) ⌝ }
 {
     let k = choose_back(steps, js, present, n);
     if k < n {
@@ -424,8 +424,16 @@ fn from_ends(
 }
 
 // The entries copied, and the stuck set.
-fn finish(table: &[u16], d: usize, wishes: &[u64], masks: &[u64], n: usize, entries: &mut [u16]) -> Outcome
-    requires { ⌜ (d ≤ length (now table)) × (length (drop d (now table)) ≤ length (now entries)) × (n ≤ 6) × (6 ≤ length (now wishes)) × (6 ≤ length (now masks)) ⌝ }
+fn finish(
+    table: &[u16],
+    d: usize,
+    wishes: &[u64],
+    masks: &[u64],
+    n: usize,
+    entries: &mut [u16],
+) -> Outcome
+    requires { ⌜ (d ≤ length (now table)) × (length (drop d (now table)) ≤ length (now entries)) × (n ≤ 6)
+        × (6 ≤ length (now wishes)) × (6 ≤ length (now masks)) ⌝ }
     ensures { λ r. ⌜ Filled (drop d (now (table .entry))) (now (entries .entry)) (r .entries) (now (entries .exit))
         × (r .stuck ≡ stuckRounds n n (now (wishes .entry)) (now (masks .entry))) ⌝ }
 {
@@ -448,7 +456,8 @@ fn schedule_with(
     table: &mut [u16],
     entries: &mut [u16],
 ) -> Outcome
-    requires { ⌜ Lent (now steps) (now begins) (now lens) (now wishes) (now masks) (now present) n × (6144 ≤ length (now table)) × (6144 ≤ length (now entries)) ⌝ }
+    requires { ⌜ Lent (now steps) (now begins) (now lens) (now wishes) (now masks) (now present) n
+        × (6144 ≤ length (now table)) × (6144 ≤ length (now entries)) ⌝ }
     ensures { λ r. ⌜ Scheduled (now (steps .entry)) (now (lens .entry)) (now (begins .entry)) (now (wishes .entry)) n (now (entries .entry))
         (r .entries) (r .stuck) (now (entries .exit)) ⌝ }
 {
@@ -458,8 +467,8 @@ fn schedule_with(
 
 // A schedule to a deadlock, from the paths of a circle's threads to their pairs. The path of thread t is lens[t] words of `steps` from 1,024 × t on,
 // each the choice of a step plus 4 × the mask of the locks held after it; `begins` has the mask of the lock that each thread's block begins with a hold
-// of, and `wishes` that of the lock that each thread wants at its path's end. `lens` and `wishes` are changed on the way. The schedule fills the start of
-// `entries`, and the rest is kept.
+// of, and `wishes` that of the lock that each thread wants at its path's end. `lens` and `wishes` are changed on the way. The schedule fills the start
+// of `entries`, and the rest is kept.
 pub fn schedule(
     steps: &[u64],
     lens: &mut [u64],

@@ -1,15 +1,17 @@
 -- What was copied and what is left are together the entries.
 use borrow.Author.Needs.{needs}
-use Prim.Native.Nat.{_+_, _-_, _≤_, _<_}
+use Prim.Native.Nat.{_+_, _-_, _≤_}
 use mathlib.Core.Path.{_≡_}
-use lib.ListN.{length, getD, take, drop}
+use lib.ListN.{length, take, drop}
 use mathlib.Core.List.{_++_}
 use Rattle.retreat.proofs.Laws.{copy-room, copy-more, copy-keep, copy-done}
 use Rattle.retreat.proofs.copy_entries.Statement.{statement}
 use Rattle.retreat.proofs.copy_entries.Tie as tie
 
 abbrev Inv-loop : tie.InvT-loop
-Inv-loop from d to₀ at₀ i₀ to at i = (at ≡ d + i) × (at ≤ length from) × (length from ≤ d + length to₀) × (length to ≡ length to₀) × (take i to ++ drop at from ≡ drop d from) × (drop i to ≡ drop i to₀)
+Inv-loop from d to₀ at₀ i₀ to at i =
+    (at ≡ d + i) × (at ≤ length from) × (length from ≤ d + length to₀) × (length to ≡ length to₀)
+    × (take i to ++ drop at from ≡ drop d from) × (drop i to ≡ drop i to₀)
 
 abbrev μ-loop : tie.MeasureT-loop
 μ-loop from d to₀ at₀ i₀ to at i = length from - at

@@ -1,15 +1,17 @@
 -- Each turn writes the mask of one thread more.
 use borrow.Author.Needs.{needs}
-use Prim.Native.Nat.{_+_, _-_, _≤_, _<_}
+use Prim.Native.Nat.{_-_, _≤_}
 use mathlib.Core.Path.{_≡_}
-use lib.ListN.{length, getD, take, drop}
+use lib.ListN.{length}
 use Rattle.retreat.specs.Paths.{Within, Holding}
 use Rattle.retreat.proofs.Laws.{within-at, holding-none, holding-more, holding-done}
 use Rattle.retreat.proofs.fill_masks.Statement.{statement}
 use Rattle.retreat.proofs.fill_masks.Tie as tie
 
 abbrev Inv-loop : tie.InvT-loop
-Inv-loop steps js masks₀ n t₀ masks t = (t ≤ n) × (n ≤ 6) × (6144 ≤ length steps) × (6 ≤ length js) × (6 ≤ length masks₀) × (length masks ≡ length masks₀) × Within js n × Holding steps js masks t
+Inv-loop steps js masks₀ n t₀ masks t =
+    (t ≤ n) × (n ≤ 6) × (6144 ≤ length steps) × (6 ≤ length js) × (6 ≤ length masks₀) × (length masks ≡ length masks₀)
+    × Within js n × Holding steps js masks t
 
 abbrev μ-loop : tie.MeasureT-loop
 μ-loop steps js masks₀ n t₀ masks t = n - t

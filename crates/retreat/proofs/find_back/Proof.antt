@@ -1,16 +1,14 @@
 -- None of the threads below k may go back.
 use borrow.Author.Needs.{needs}
-use Prim.Native.Nat.{_+_, _-_, _≤_, _<_}
-use mathlib.Core.Path.{_≡_}
-use lib.ListN.{length, getD, take, drop}
-use Rattle.retreat.specs.Paths.{Within, Holding, mayGoBack}
+use Prim.Native.Nat.{_-_, _≤_}
+use Rattle.retreat.specs.Paths.{mayGoBack, Standing}
 use Rattle.retreat.specs.Moves.{NoneBelow}
 use Rattle.retreat.proofs.Laws.{first-start, first-more, first-found, first-none}
 use Rattle.retreat.proofs.find_back.Statement.{statement}
 use Rattle.retreat.proofs.find_back.Tie as tie
 
 abbrev Inv-loop : tie.InvT-loop
-Inv-loop steps js masks n k₀ k = (k ≤ n) × (n ≤ 6) × (6144 ≤ length steps) × (6 ≤ length js) × (6 ≤ length masks) × Within js n × Holding steps js masks n × NoneBelow (mayGoBack steps js n) k
+Inv-loop steps js masks n k₀ k = (k ≤ n) × Standing steps js masks n × NoneBelow (mayGoBack steps js n) k
 
 abbrev μ-loop : tie.MeasureT-loop
 μ-loop steps js masks n k₀ k = n - k

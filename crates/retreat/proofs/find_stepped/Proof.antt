@@ -1,8 +1,7 @@
 -- None of the threads below t has stepped.
 use borrow.Author.Needs.{needs}
-use Prim.Native.Nat.{_+_, _-_, _≤_, _<_}
-use mathlib.Core.Path.{_≡_}
-use lib.ListN.{length, getD, take, drop}
+use Prim.Native.Nat.{_-_, _≤_}
+use lib.ListN.{length}
 use Rattle.retreat.specs.Moves.{NoneBelow, hasStepped}
 use Rattle.retreat.proofs.Laws.{first-start, first-none, stepped-more, stepped-found}
 use Rattle.retreat.proofs.find_stepped.Statement.{statement}

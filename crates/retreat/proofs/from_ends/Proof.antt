@@ -2,40 +2,40 @@
 use borrow.Author.Needs.{needs}
 use Rattle.retreat.proofs.from_ends.Statement.{statement}
 use Rattle.retreat.proofs.from_ends.Tie as tie
-use Rattle.retreat.proofs.from_ends.Reads as reads
-use Rattle.retreat.proofs.from_ends.Lts as lts
-use Rattle.retreat.proofs.fill_masks.Reads as fill-masks-reads
-use Rattle.retreat.proofs.go_back.Reads as go-back-reads
 
--- src/lib.rt:422:5
 fill-masks-requires : tie.Need-fill-masks-requires
 fill-masks-requires c κs = search needs
 
--- src/lib.rt:423:5
 go-back-requires : tie.Need-go-back-requires
-go-back-requires c κs = (record { paths = search needs; beginnings = search needs; positions = search needs; wanted = search needs; held = search needs; held-now = search needs; few = search needs; within = search needs }, search needs)
+go-back-requires c κs = (
+  record {
+    paths = search needs;
+    beginnings = search needs;
+    positions = search needs;
+    wanted = search needs;
+    held = search needs;
+    held-now = search needs;
+    few = search needs;
+    within = search needs;
+  },
+  search needs,
+)
 
--- src/lib.rt:407:1
 same-length : tie.Need-same-length
 same-length c = search needs
 
--- src/lib.rt:407:1
 same-length-2 : tie.Need-same-length-2
 same-length-2 c = search needs
 
--- src/lib.rt:407:1
 same-length-3 : tie.Need-same-length-3
 same-length-3 c = search needs
 
--- src/lib.rt:407:1
 same-length-4 : tie.Need-same-length-4
 same-length-4 c = search needs
 
--- src/lib.rt:407:1
 same-length-5 : tie.Need-same-length-5
 same-length-5 c = search needs
 
--- src/lib.rt:407:1
 returns : tie.Need-returns
 returns c = search needs
 

@@ -1,7 +1,6 @@
 -- Each move keeps what the way back leads to, and the sum of the positions falls.
 use borrow.Author.Needs.{needs}
-use Prim.Native.Nat.{_+_, _-_, _≤_, _<_}
-use mathlib.Core.Path.{_≡_}
+use Prim.Native.Nat.{_-_, _≤_}
 use lib.ListN.{length, drop}
 use Rattle.retreat.specs.Moves.{FirstBelow, hasStepped, stepsLeft}
 use Rattle.retreat.proofs.Moves.{Lengths, Going, going-less, going-on, going-lent, going-room, going-first, going-done}
@@ -37,7 +36,8 @@ loop-again : tie.Need-loop-again Inv-loop μ-loop
 loop-again c =
     let moved = c .before .before .before .before .before .before .before .before .before .before .before .before in
     let began = moved .before .before .before .before .before .before in
-    let going = going-on _ _ _ _ _ _ _ _ _ _ _ _ (began .before .loop .inv .2) (began .loop-test .taken) _ _ _ (began .before .loop .inv .3) (moved .turn .ensures .1) in
+    let inv = began .before .loop .inv in
+    let going = going-on _ _ _ _ _ _ _ _ _ _ _ _ (inv .2) (began .loop-test .taken) _ _ _ (inv .3) (moved .turn .ensures .1) in
     (search needs, search needs, search needs, going (search needs))
 
 same-length : tie.Need-same-length Inv-loop μ-loop

@@ -1,16 +1,18 @@
 -- The threads below k have landed, the others stand where they stood.
 use borrow.Author.Needs.{needs}
-use Prim.Native.Nat.{_+_, _-_, _≤_, _<_}
+use Prim.Native.Nat.{_-_, _≤_}
 use mathlib.Core.Path.{_≡_}
-use lib.ListN.{length, getD, take, drop}
-use Rattle.retreat.specs.Paths.{Within, Holding, NoneMayGoBack}
+use lib.ListN.{length, drop}
+use Rattle.retreat.specs.Paths.{NoneMayGoBack, Standing}
 use Rattle.retreat.specs.Moves.{Landed}
 use Rattle.retreat.proofs.Laws.{jump-some, jump-within, jump-keep, landed-none, landed-more, landed-done}
 use Rattle.retreat.proofs.jump.Statement.{statement}
 use Rattle.retreat.proofs.jump.Tie as tie
 
 abbrev Inv-loop : tie.InvT-loop
-Inv-loop steps begins masks js₀ wishes₀ n k₀ js wishes k = (k ≤ n) × (n ≤ 6) × (6144 ≤ length steps) × (6 ≤ length begins) × (6 ≤ length masks) × (6 ≤ length js₀) × (6 ≤ length wishes₀) × (length js ≡ length js₀) × (length wishes ≡ length wishes₀) × Within js₀ n × Holding steps js₀ masks n × NoneMayGoBack steps js₀ n × (drop k js ≡ drop k js₀) × Landed steps begins n js₀ js wishes k
+Inv-loop steps begins masks js₀ wishes₀ n k₀ js wishes k =
+    (k ≤ n) × Standing steps js₀ masks n × (6 ≤ length begins) × (6 ≤ length wishes₀) × (length js ≡ length js₀) × (length wishes ≡ length wishes₀)
+    × NoneMayGoBack steps js₀ n × (drop k js ≡ drop k js₀) × Landed steps begins n js₀ js wishes k
 
 abbrev μ-loop : tie.MeasureT-loop
 μ-loop steps begins masks js₀ wishes₀ n k₀ js wishes k = n - k
@@ -46,7 +48,17 @@ loop-less : tie.Need-loop-less Inv-loop μ-loop
 loop-less c = search needs
 
 loop-again : tie.Need-loop-again Inv-loop μ-loop
-loop-again c = (search needs, search needs, search needs, search needs, search needs, search needs, search needs, search needs, search needs, search needs, search needs, search needs, search (jump-keep, needs), search (landed-more, needs))
+loop-again c = (
+  search needs,
+  search needs,
+  search needs,
+  search needs,
+  search needs,
+  search needs,
+  search needs,
+  search (jump-keep, needs),
+  search (landed-more, needs),
+)
 
 same-length : tie.Need-same-length Inv-loop μ-loop
 same-length c = search needs

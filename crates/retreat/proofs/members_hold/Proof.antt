@@ -1,8 +1,8 @@
 -- The join so far is that over the threads below u.
 use borrow.Author.Needs.{needs}
-use Prim.Native.Nat.{_+_, _-_, _≤_, _<_}
+use Prim.Native.Nat.{_-_, _≤_}
 use mathlib.Core.Path.{_≡_}
-use lib.ListN.{length, getD, take, drop}
+use lib.ListN.{length}
 use Rattle.semantics.proofs.Closing.{heldByMembers}
 use Rattle.retreat.proofs.Laws.{members-none, members-more, members-done}
 use Rattle.retreat.proofs.members_hold.Statement.{statement}

@@ -1,8 +1,8 @@
 -- The join so far is that over the threads below i.
 use borrow.Author.Needs.{needs}
-use Prim.Native.Nat.{_+_, _-_, _≤_, _<_}
+use Prim.Native.Nat.{_-_, _≤_}
 use mathlib.Core.Path.{_≡_}
-use lib.ListN.{length, getD, take, drop}
+use lib.ListN.{length}
 use Rattle.retreat.specs.Paths.{heldByOthers}
 use Rattle.retreat.proofs.Laws.{others-none, others-more, others-done}
 use Rattle.retreat.proofs.others_hold.Statement.{statement}

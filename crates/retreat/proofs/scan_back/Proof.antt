@@ -1,8 +1,8 @@
 -- The scan from a on ends where the scan from j on does.
 use borrow.Author.Needs.{needs}
-use Prim.Native.Nat.{_+_, _-_, _≤_, _<_}
+use Prim.Native.Nat.{_-_, _≤_, _<_}
 use mathlib.Core.Path.{_≡_}
-use lib.ListN.{length, getD, take, drop}
+use lib.ListN.{length}
 use Rattle.semantics.proofs.RetreatMoves.{scanBack}
 use Rattle.retreat.specs.Paths.{masksOf}
 use Rattle.retreat.proofs.Laws.{scan-more, scan-here, scan-out}

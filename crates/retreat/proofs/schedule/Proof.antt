@@ -2,39 +2,41 @@
 use borrow.Author.Needs.{needs}
 use Rattle.retreat.proofs.schedule.Statement.{statement}
 use Rattle.retreat.proofs.schedule.Tie as tie
-use Rattle.retreat.proofs.schedule.Reads as reads
-use Rattle.retreat.proofs.schedule.Lts as lts
-use Rattle.retreat.proofs.schedule_with.Reads as schedule-with-reads
 
--- src/lib.rt:485:9
 slice-aggregate-schedule-with : tie.Need-slice-aggregate-schedule-with
 slice-aggregate-schedule-with c = search needs
 
--- src/lib.rt:486:9
 slice-aggregate-schedule-with-2 : tie.Need-slice-aggregate-schedule-with-2
 slice-aggregate-schedule-with-2 c = search needs
 
--- src/lib.rt:487:9
 slice-aggregate-schedule-with-3 : tie.Need-slice-aggregate-schedule-with-3
 slice-aggregate-schedule-with-3 c = search needs
 
--- src/lib.rt:479:5
 schedule-with-requires : tie.Need-schedule-with-requires
-schedule-with-requires c κs = (record { paths = search needs; beginnings = search needs; positions = search needs; wanted = search needs; held = search needs; held-now = search needs; few = search needs; within = search needs }, search needs, search needs)
+schedule-with-requires c κs = (
+  record {
+    paths = search needs;
+    beginnings = search needs;
+    positions = search needs;
+    wanted = search needs;
+    held = search needs;
+    held-now = search needs;
+    few = search needs;
+    within = search needs;
+  },
+  search needs,
+  search needs,
+)
 
--- src/lib.rt:463:1
 same-length : tie.Need-same-length
 same-length c = search needs
 
--- src/lib.rt:463:1
 same-length-2 : tie.Need-same-length-2
 same-length-2 c = search needs
 
--- src/lib.rt:463:1
 same-length-3 : tie.Need-same-length-3
 same-length-3 c = search needs
 
--- src/lib.rt:463:1
 returns : tie.Need-returns
 returns c = search needs
 

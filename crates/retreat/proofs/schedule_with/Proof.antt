@@ -3,44 +3,31 @@ use Rattle.retreat.proofs.Schedules.{scheduled}
 use borrow.Author.Needs.{needs}
 use Rattle.retreat.proofs.schedule_with.Statement.{statement}
 use Rattle.retreat.proofs.schedule_with.Tie as tie
-use Rattle.retreat.proofs.schedule_with.Reads as reads
-use Rattle.retreat.proofs.schedule_with.Lts as lts
-use Rattle.retreat.proofs.finish.Reads as finish-reads
-use Rattle.retreat.proofs.from_ends.Reads as from-ends-reads
 
--- src/lib.rt:455:9
 from-ends-requires : tie.Need-from-ends-requires
 from-ends-requires c κs = search needs
 
--- src/lib.rt:456:5
 finish-requires : tie.Need-finish-requires
 finish-requires c κs = search needs
 
--- src/lib.rt:440:1
 same-length : tie.Need-same-length
 same-length c = search needs
 
--- src/lib.rt:440:1
 same-length-2 : tie.Need-same-length-2
 same-length-2 c = search needs
 
--- src/lib.rt:440:1
 same-length-3 : tie.Need-same-length-3
 same-length-3 c = search needs
 
--- src/lib.rt:440:1
 same-length-4 : tie.Need-same-length-4
 same-length-4 c = search needs
 
--- src/lib.rt:440:1
 same-length-5 : tie.Need-same-length-5
 same-length-5 c = search needs
 
--- src/lib.rt:440:1
 same-length-6 : tie.Need-same-length-6
 same-length-6 c = search needs
 
--- src/lib.rt:440:1
 returns : tie.Need-returns
 returns c = search (scheduled, needs)
 

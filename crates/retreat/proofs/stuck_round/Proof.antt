@@ -1,8 +1,8 @@
 -- The set so far is that of the threads below t.
 use borrow.Author.Needs.{needs}
-use Prim.Native.Nat.{_+_, _-_, _≤_, _<_}
+use Prim.Native.Nat.{_-_, _≤_}
 use mathlib.Core.Path.{_≡_}
-use lib.ListN.{length, getD, take, drop}
+use lib.ListN.{length}
 use Rattle.retreat.proofs.Laws.{roundBelow, round-none, round-more, round-done}
 use Rattle.retreat.proofs.stuck_round.Statement.{statement}
 use Rattle.retreat.proofs.stuck_round.Tie as tie

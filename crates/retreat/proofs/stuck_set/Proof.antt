@@ -1,8 +1,8 @@
 -- The set after each round is that of the definition's rounds.
 use borrow.Author.Needs.{needs}
-use Prim.Native.Nat.{_+_, _-_, _≤_, _<_}
+use Prim.Native.Nat.{_-_, _≤_}
 use mathlib.Core.Path.{_≡_}
-use lib.ListN.{length, getD, take, drop}
+use lib.ListN.{length}
 use Rattle.semantics.proofs.Closing.{stuckRounds}
 use Rattle.retreat.proofs.Laws.{rounds-first, rounds-more, rounds-done}
 use Rattle.retreat.proofs.stuck_set.Statement.{statement}

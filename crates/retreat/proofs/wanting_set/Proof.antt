@@ -1,8 +1,8 @@
 -- The set so far is that of the threads below t.
 use borrow.Author.Needs.{needs}
-use Prim.Native.Nat.{_+_, _-_, _≤_, _<_}
+use Prim.Native.Nat.{_-_, _≤_}
 use mathlib.Core.Path.{_≡_}
-use lib.ListN.{length, getD, take, drop}
+use lib.ListN.{length}
 use Rattle.semantics.proofs.Closing.{wanting}
 use Rattle.retreat.proofs.Laws.{wanting-none, wanting-more, wanting-done}
 use Rattle.retreat.proofs.wanting_set.Statement.{statement}
