@@ -1,0 +1,21 @@
+-- By whether the thread is a member.
+use Rattle.retreat.proofs.Laws.{member-holds, no-member}
+use borrow.Author.Needs.{needs}
+use Rattle.retreat.proofs.held_if_member.Statement.{statement}
+use Rattle.retreat.proofs.held_if_member.Tie as tie
+
+is-member-requires : tie.Need-is-member-requires
+is-member-requires c κs = search needs
+
+held-unless-requires : tie.Need-held-unless-requires
+held-unless-requires c κs = search needs
+
+returns : tie.Need-returns
+returns c = search (member-holds, needs)
+
+returns-2 : tie.Need-returns-2
+returns-2 c = search (no-member, needs)
+
+pub held-if-member-spec : {M : Type 1} → statement M
+held-if-member-spec =
+    tie.close (tie.spec is-member-requires held-unless-requires returns returns-2)

@@ -1,0 +1,91 @@
+-- The threads below k have landed, the others stand where they stood.
+use borrow.Author.Needs.{needs}
+use Prim.Native.Nat.{_-_, _≤_}
+use mathlib.Core.Path.{_≡_}
+use lib.ListN.{length, drop}
+use Rattle.retreat.specs.Paths.{NoneMayGoBack, Standing}
+use Rattle.retreat.specs.Moves.{Landed}
+use Rattle.retreat.proofs.Laws.{jump-some, jump-within, jump-keep, landed-none, landed-more, landed-done}
+use Rattle.retreat.proofs.jump.Statement.{statement}
+use Rattle.retreat.proofs.jump.Tie as tie
+
+abbrev Inv-loop : tie.InvT-loop
+Inv-loop steps begins masks js₀ wishes₀ n k₀ js wishes k =
+    (k ≤ n) × Standing steps js₀ masks n × (6 ≤ length begins) × (6 ≤ length wishes₀) × (length js ≡ length js₀) × (length wishes ≡ length wishes₀)
+    × NoneMayGoBack steps js₀ n × (drop k js ≡ drop k js₀) × Landed steps begins n js₀ js wishes k
+
+abbrev μ-loop : tie.MeasureT-loop
+μ-loop steps begins masks js₀ wishes₀ n k₀ js wishes k = n - k
+
+loop-holds : tie.Need-loop-holds Inv-loop μ-loop
+loop-holds c = search (landed-none, needs)
+
+mul-land : tie.Need-mul-land Inv-loop μ-loop
+mul-land c = search needs
+
+slice-read-land : tie.Need-slice-read-land Inv-loop μ-loop
+slice-read-land c = search needs
+
+land-requires : tie.Need-land-requires Inv-loop μ-loop
+land-requires c κs = search (jump-some, jump-within, needs)
+
+mul-js : tie.Need-mul-js Inv-loop μ-loop
+mul-js c = search needs
+
+slice-write-js : tie.Need-slice-write-js Inv-loop μ-loop
+slice-write-js c = search needs
+
+mul-wishes : tie.Need-mul-wishes Inv-loop μ-loop
+mul-wishes c = search needs
+
+slice-write-wishes : tie.Need-slice-write-wishes Inv-loop μ-loop
+slice-write-wishes c = search needs
+
+add-k : tie.Need-add-k Inv-loop μ-loop
+add-k c = search needs
+
+loop-less : tie.Need-loop-less Inv-loop μ-loop
+loop-less c = search needs
+
+loop-again : tie.Need-loop-again Inv-loop μ-loop
+loop-again c = (
+  search needs,
+  search needs,
+  search needs,
+  search needs,
+  search needs,
+  search needs,
+  search needs,
+  search (jump-keep, needs),
+  search (landed-more, needs),
+)
+
+same-length : tie.Need-same-length Inv-loop μ-loop
+same-length c = search needs
+
+same-length-2 : tie.Need-same-length-2 Inv-loop μ-loop
+same-length-2 c = search needs
+
+returns : tie.Need-returns Inv-loop μ-loop
+returns c = search (landed-done, needs)
+
+pub jump-spec : {M : Type 1} → statement M
+jump-spec =
+    tie.close
+    (tie.spec
+    Inv-loop
+    μ-loop
+    loop-holds
+    mul-land
+    slice-read-land
+    land-requires
+    mul-js
+    slice-write-js
+    mul-wishes
+    slice-write-wishes
+    add-k
+    loop-less
+    loop-again
+    same-length
+    same-length-2
+    returns)

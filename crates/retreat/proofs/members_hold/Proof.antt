@@ -1,0 +1,46 @@
+-- The join so far is that over the threads below u.
+use borrow.Author.Needs.{needs}
+use Prim.Native.Nat.{_-_, _≤_}
+use mathlib.Core.Path.{_≡_}
+use lib.ListN.{length}
+use Rattle.semantics.proofs.Closing.{heldByMembers}
+use Rattle.retreat.proofs.Laws.{members-none, members-more, members-done}
+use Rattle.retreat.proofs.members_hold.Statement.{statement}
+use Rattle.retreat.proofs.members_hold.Tie as tie
+
+abbrev Inv-loop : tie.InvT-loop
+Inv-loop masks m n t all₀ u₀ all u = (u ≤ n) × (n ≤ 6) × (6 ≤ length masks) × (all ≡ heldByMembers u masks m t)
+
+abbrev μ-loop : tie.MeasureT-loop
+μ-loop masks m n t all₀ u₀ all u = n - u
+
+loop-holds : tie.Need-loop-holds Inv-loop μ-loop
+loop-holds c = search (members-none, needs)
+
+held-if-member-requires : tie.Need-held-if-member-requires Inv-loop μ-loop
+held-if-member-requires c κs = search needs
+
+add-u : tie.Need-add-u Inv-loop μ-loop
+add-u c = search needs
+
+loop-less : tie.Need-loop-less Inv-loop μ-loop
+loop-less c = search needs
+
+loop-again : tie.Need-loop-again Inv-loop μ-loop
+loop-again c = search (members-more, needs)
+
+returns : tie.Need-returns Inv-loop μ-loop
+returns c = search (members-done, needs)
+
+pub members-hold-spec : {M : Type 1} → statement M
+members-hold-spec =
+    tie.close
+    (tie.spec
+    Inv-loop
+    μ-loop
+    loop-holds
+    held-if-member-requires
+    add-u
+    loop-less
+    loop-again
+    returns)

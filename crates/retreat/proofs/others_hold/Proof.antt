@@ -1,0 +1,38 @@
+-- The join so far is that over the threads below i.
+use borrow.Author.Needs.{needs}
+use Prim.Native.Nat.{_-_, _≤_}
+use mathlib.Core.Path.{_≡_}
+use lib.ListN.{length}
+use Rattle.retreat.specs.Paths.{heldByOthers}
+use Rattle.retreat.proofs.Laws.{others-none, others-more, others-done}
+use Rattle.retreat.proofs.others_hold.Statement.{statement}
+use Rattle.retreat.proofs.others_hold.Tie as tie
+
+abbrev Inv-loop : tie.InvT-loop
+Inv-loop masks n k all₀ i₀ all i = (i ≤ n) × (n ≤ 6) × (6 ≤ length masks) × (all ≡ heldByOthers masks i k)
+
+abbrev μ-loop : tie.MeasureT-loop
+μ-loop masks n k all₀ i₀ all i = n - i
+
+loop-holds : tie.Need-loop-holds Inv-loop μ-loop
+loop-holds c = search (others-none, needs)
+
+held-unless-requires : tie.Need-held-unless-requires Inv-loop μ-loop
+held-unless-requires c κs = search needs
+
+add-i : tie.Need-add-i Inv-loop μ-loop
+add-i c = search needs
+
+loop-less : tie.Need-loop-less Inv-loop μ-loop
+loop-less c = search needs
+
+loop-again : tie.Need-loop-again Inv-loop μ-loop
+loop-again c = search (others-more, needs)
+
+returns : tie.Need-returns Inv-loop μ-loop
+returns c = search (others-done, needs)
+
+pub others-hold-spec : {M : Type 1} → statement M
+others-hold-spec =
+    tie.close
+    (tie.spec Inv-loop μ-loop loop-holds held-unless-requires add-i loop-less loop-again returns)

@@ -1,0 +1,84 @@
+-- The entry of the last step of thread k, and its position one lower.
+use Rattle.retreat.specs.Paths.{choiceAt}
+use Rattle.retreat.specs.Moves.{entryOf}
+use borrow.Author.Needs.{needs}
+use Rattle.retreat.proofs.put_entry.Statement.{statement}
+use Rattle.retreat.proofs.put_entry.Tie as tie
+
+mul-j : tie.Need-mul-j
+mul-j c = search needs
+
+slice-read-j : tie.Need-slice-read-j
+slice-read-j c = search needs
+
+sub-j : tie.Need-sub-j
+sub-j c = search needs
+
+mul-step : tie.Need-mul-step
+mul-step c = search needs
+
+add-step : tie.Need-add-step
+add-step c = search needs
+
+mul-step-2 : tie.Need-mul-step-2
+mul-step-2 c = search needs
+
+shared-slice-read-step : tie.Need-shared-slice-read-step
+shared-slice-read-step c = search needs
+
+cast-entries : tie.Need-cast-entries
+cast-entries c = search needs
+
+cast-entries-2 : tie.Need-cast-entries-2
+cast-entries-2 c = search needs
+
+mul-entries : tie.Need-mul-entries
+mul-entries c = search needs
+
+add-entries : tie.Need-add-entries
+add-entries c = search needs
+
+mul-entries-2 : tie.Need-mul-entries-2
+mul-entries-2 c = search needs
+
+slice-write-entries : tie.Need-slice-write-entries
+slice-write-entries c = search needs
+
+mul-js : tie.Need-mul-js
+mul-js c = search needs
+
+slice-write-js : tie.Need-slice-write-js
+slice-write-js c = search needs
+
+same-length : tie.Need-same-length
+same-length c = search needs
+
+same-length-2 : tie.Need-same-length-2
+same-length-2 c = search needs
+
+returns : tie.Need-returns
+unfolding entryOf choiceAt
+returns c = search needs
+
+pub put-entry-spec : {M : Type 1} → statement M
+put-entry-spec =
+    tie.close
+    (tie.spec
+    mul-j
+    slice-read-j
+    sub-j
+    mul-step
+    add-step
+    mul-step-2
+    shared-slice-read-step
+    cast-entries
+    cast-entries-2
+    mul-entries
+    add-entries
+    mul-entries-2
+    slice-write-entries
+    mul-js
+    slice-write-js
+    same-length
+    same-length-2
+    returns)
