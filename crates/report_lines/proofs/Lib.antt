@@ -1,0 +1,3 @@
+-- Texts written one behind another, digits, members of a mask.
+pub mod Writing
+pub mod Digits
