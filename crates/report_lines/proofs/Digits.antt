@@ -68,6 +68,9 @@ digits-short zero n h = rw (digits-one n (omega arith)) (omega arith)
 digits-short (suc k) n h = ⊎-elim (λ (s : n < 10). rw (digits-one n s) (omega arith))
     (λ (s : 10 ≤ n). let r = digits-short k (n / 10) (omega arith) in rw (digits-more n s, length-append) (omega arith)) (lt-or-le n 10)
 
+pub digits-count : (n : ℕ) → 10 ≤ n → length (digits n) ≡ length (digits (n / 10)) + 1
+digits-count n h = rw (digits-more n h, length-append)
+
 -- ---- a buffer while digits are written, in the shape of the needs of `put_digits`
 
 module _ (l : List ℕ) (at n : ℕ) (room : at + length (digits n) ≤ length l) where
@@ -75,15 +78,13 @@ module _ (l : List ℕ) (at n : ℕ) (room : at + length (digits n) ≤ length l
   first-room = let s = digits-some n in omega arith
 
   pub tenth-room : 10 ≤ n → at + length (digits (n / 10)) ≤ length l
-  tenth-room h = let e : length (digits n) ≡ length (digits (n / 10)) + 1 = rw (digits-more n h, length-append) in omega arith
+  tenth-room h = omega (arith, digits-count n h)
 
   pub last-room : (l′ : List ℕ) (i : ℕ) → 10 ≤ n → Wrote l l′ at i (digits (n / 10)) → i < length l
-  last-room l′ i h w =
-      let e : length (digits n) ≡ length (digits (n / 10)) + 1 = rw (digits-more n h, length-append) in
-      omega (arith, w .place)
+  last-room l′ i h w = omega (arith, digits-count n h, w .place)
 
   pub put-one : n < 10 → Wrote l (set l at (48 + n)) at (at + 1) (digits n)
-  put-one h = rw (digits-one n h) (wrote-byte l l at at [] (48 + n) first-room (wrote-none l at))
+  put-one h = rw (digits-one n h) (wrote-byte l l at at [] (48 + n) first-room (wrote-none l at (omega arith)))
 
   pub put-last : (l′ : List ℕ) (i : ℕ) → 10 ≤ n → Wrote l l′ at i (digits (n / 10)) → Wrote l (set l′ i (48 + n % 10)) at (i + 1) (digits n)
   put-last l′ i h w = rw (digits-more n h) (wrote-byte l l′ at i (digits (n / 10)) (48 + n % 10) (last-room l′ i h w) w)

@@ -13,45 +13,51 @@ use Rattle.report_lines.specs.Lines.{Wrote}
 front : (l a : List ℕ) (at next : ℕ) → next ≡ at + length a → next ≤ length l → length (take at l ++ a) ≡ next
 front l a at next e h = let k : at ≤ length l = omega arith in rw (length-append, length-take-le at l k) (sym e)
 
-module _ (l l′ : List ℕ) (at i : ℕ) (a : List ℕ) (w : Wrote l l′ at i a) (fits : i ≤ length l) where
+module _ (l l′ : List ℕ) (at i : ℕ) (a : List ℕ) (w : Wrote l l′ at i a) where
   wrote-front : take i l′ ≡ take at l ++ a
-  wrote-front = rw (w .written) (take-at (take at l ++ a) (drop i l) i (front l a at i (w .place) fits))
+  wrote-front = rw (w .written) (take-at (take at l ++ a) (drop i l) i (front l a at i (w .place) (w .fits)))
 
   wrote-rest : (j : ℕ) → i ≤ j → drop j l′ ≡ drop j l
   wrote-rest j h =
       let e : i + (j - i) ≡ j = omega arith in
-      let d : drop i l′ ≡ drop i l = rw (w .written) (drop-at (take at l ++ a) (drop i l) i (front l a at i (w .place) fits)) in
+      let d : drop i l′ ≡ drop i l = rw (w .written) (drop-at (take at l ++ a) (drop i l) i (front l a at i (w .place) (w .fits))) in
       ap (λ k. drop k l′) (sym e) ∙ sym (drop-drop (j - i) i l′) ∙ ap (drop (j - i)) d ∙ drop-drop (j - i) i l ∙ ap (λ k. drop k l) e
 
+  pub wrote-length : length l′ ≡ length l
+  wrote-length = rw (w .written, length-append, front l a at i (w .place) (w .fits), length-drop) (omega (arith, w .fits))
+
 -- nothing yet
-pub wrote-none : (l : List ℕ) (at : ℕ) → Wrote l l at at []
-wrote-none l at = record { place = sym (add-zero at); written = rw append-nil (sym (take-append-drop at l)) }
+pub wrote-none : (l : List ℕ) (at : ℕ) → at ≤ length l → Wrote l l at at []
+wrote-none l at h = record { place = sym (add-zero at); fits = h; written = rw append-nil (sym (take-append-drop at l)) }
 
 -- a text behind another
-pub wrote-more : (l l₁ l₂ : List ℕ) (at i r : ℕ) (a b : List ℕ) → r ≤ length l → Wrote l l₁ at i a → Wrote l₁ l₂ i r b → Wrote l l₂ at r (a ++ b)
-wrote-more l l₁ l₂ at i r a b h v w =
-    let k : i ≤ length l = omega (arith, w .place) in
+pub wrote-more : (l l₁ l₂ : List ℕ) (at i r : ℕ) (a b : List ℕ) → Wrote l l₁ at i a → Wrote l₁ l₂ i r b → Wrote l l₂ at r (a ++ b)
+wrote-more l l₁ l₂ at i r a b v w =
     let j : i ≤ r = omega (arith, w .place) in
     record {
       place = rw length-append (omega (arith, v .place, w .place));
-      written = w .written ∙ rw (wrote-front l l₁ at i a v k, wrote-rest l l₁ at i a v k r j) (ap (λ x. x ++ drop r l) (append-assoc (take at l) a b));
+      fits = omega (arith, w .fits, wrote-length l l₁ at i a v);
+      written = w .written ∙ rw (wrote-front l l₁ at i a v, wrote-rest l l₁ at i a v r j) (ap (λ x. x ++ drop r l) (append-assoc (take at l) a b));
     }
+
+-- three, one behind another
+pub wrote-three : (l l₁ l₂ l₃ : List ℕ) (at i j r : ℕ) (a b c : List ℕ) → Wrote l l₁ at i a → Wrote l₁ l₂ i j b → Wrote l₂ l₃ j r c → Wrote l l₃ at r (a ++ b ++ c)
+wrote-three l l₁ l₂ l₃ at i j r a b c u v w = wrote-more l l₂ l₃ at j r (a ++ b) c (wrote-more l l₁ l₂ at i j a b u v) w
 
 -- one byte behind a text
 pub wrote-byte : (l l′ : List ℕ) (at i : ℕ) (a : List ℕ) (b : ℕ) → i < length l → Wrote l l′ at i a → Wrote l (set l′ i b) at (i + 1) (a ++ (b ∷ []))
-wrote-byte l l′ at i a b h w =
-    let k : i ≤ length l = omega arith in
-    record {
+wrote-byte l l′ at i a b h w = record {
       place = rw length-append (omega (arith, w .place));
+      fits = omega arith;
       written = rw (w .written, drop-cons l i 0 h)
-          (set-at (take at l ++ a) (getD l i 0) (drop (suc i) l) b i (front l a at i (w .place) k)
+          (set-at (take at l ++ a) (getD l i 0) (drop (suc i) l) b i (front l a at i (w .place) (w .fits))
           ∙ sym (append-snoc (take at l ++ a) b (drop (suc i) l)) ∙ rw (add-one i, append-assoc (take at l) a (b ∷ [])));
     }
 
 -- ---- a text copied byte by byte
 
-pub copy-none : (l text : List ℕ) (at : ℕ) → Wrote l l at (at + 0) (take 0 text)
-copy-none l text at = rw add-zero (wrote-none l at)
+pub copy-none : (l text : List ℕ) (at : ℕ) → at + length text ≤ length l → Wrote l l at (at + 0) (take 0 text)
+copy-none l text at h = rw add-zero (wrote-none l at (omega arith))
 
 pub copy-more : (l l′ text : List ℕ) (at i : ℕ) → i < length text → at + length text ≤ length l → Wrote l l′ at (at + i) (take i text)
     → Wrote l (set l′ (at + i) (getD text i 0)) at (at + (i + 1)) (take (i + 1) text)
@@ -65,3 +71,12 @@ copy-done l l′ text at i h k w =
     let e : i ≡ length text = omega arith in
     let t : take i text ≡ text = ap (λ k. take k text) e ∙ take-length text in
     rw t at w
+
+-- ---- a word and what follows it
+
+module _ (l l₁ : List ℕ) (at i : ℕ) (a b : List ℕ) (room : at + length (a ++ b) ≤ length l) where
+  pub word-room : at + length a ≤ length l
+  word-room = omega (arith, length-append a b)
+
+  pub rest-room : Wrote l l₁ at i a → i + length b ≤ length l₁
+  rest-room w = omega (arith, length-append a b, w .place, wrote-length l l₁ at i a w)

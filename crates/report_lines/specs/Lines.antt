@@ -1,5 +1,5 @@
 -- The lines of the report, byte for byte. 01, "The report".
-use Prim.Native.Nat.{ℕ, zero, suc, _+_, _/_, _%_}
+use Prim.Native.Nat.{ℕ, zero, suc, _+_, _/_, _%_, _≤_}
 use mathlib.Core.Bool.{cond}
 use mathlib.Core.List.{List, [], _∷_, _++_}
 use mathlib.Core.Path.{_≡_}
@@ -78,7 +78,8 @@ stuckRoom = 200
 abbrev pub stepRoom : ℕ
 stepRoom = 14
 
--- l with the text written over it at a place, and the place behind the text
+-- l′ is l with the text written over it at a place, and `next` the place behind the text, within the buffer
 pub record Wrote (l l′ : List ℕ) (at next : ℕ) (text : List ℕ) : Type 0 where
   pub place : next ≡ at + length text
+  pub fits : next ≤ length l
   pub written : l′ ≡ take at l ++ text ++ drop next l
