@@ -1,3 +1,5 @@
 -- Texts written one behind another, digits, members of a mask.
 pub mod Writing
 pub mod Digits
+pub mod Members
+pub mod WholeLines
