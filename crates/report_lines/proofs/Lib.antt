@@ -3,3 +3,4 @@ pub mod Writing
 pub mod Digits
 pub mod Members
 pub mod WholeLines
+pub mod Examples
