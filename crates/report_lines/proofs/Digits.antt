@@ -1,10 +1,10 @@
--- The digits of a number: they do not depend on how many turns are allowed, so a number of several digits has those of its tenth part and its last one. Their value is
--- the number, the first of several is not 0, and a number below 10 to the power k has at most k.
+-- The digits of a number: they do not depend on how many turns are allowed, so a number of several digits has those of its tenth part and its last one. Each is a
+-- decimal digit, their value is the number, the first is not 0 unless the number is, and a number below 10 to the power k has at most k.
 use Prim.Native.Nat.{ℕ, zero, suc, _+_, _-_, _*_, _/_, _%_, _^_, _<_, _≤_}
 use native.Mathlib.Omega.{arith}
 use mathlib.Core.Path.{_≡_, refl, sym, ap, _∙_}
 use mathlib.Core.Bool.{Bool, true, false}
-use mathlib.Core.List.{List, [], _∷_, _++_}
+use mathlib.Core.List.{List, [], _∷_, _++_, List·Memᴰ, List·Memᴰ·append-cases, List·Memᴰ·eq-of-singleton}
 use mathlib.Core.Logic.{⊎-elim}
 use lib.Dec.{ltb}
 use lib.ListN.{length, getD, set, length-append, List·getD-append}
@@ -60,6 +60,13 @@ digits-some = by-digits (λ n. 0 < length (digits n)) (λ n h. rw (digits-one n 
 pub digits-lead : (n : ℕ) → 0 < n → 48 < getD (digits n) 0 0
 digits-lead = by-digits (λ n. 0 < n → 48 < getD (digits n) 0 0) (λ n h p. rw (digits-one n h) (omega arith))
     (λ n h e p. rw (digits-more n h, List·getD-append (digits (n / 10)) ((48 + n % 10) ∷ []) 0 0 (digits-some (n / 10))) (e (omega arith)))
+
+pub digits-bytes : (n b : ℕ) → List·Memᴰ b (digits n) → (48 ≤ b) × (b ≤ 57)
+digits-bytes = by-digits (λ n. (b : ℕ) → List·Memᴰ b (digits n) → (48 ≤ b) × (b ≤ 57))
+    (λ n h b m. let e : b ≡ 48 + n = List·Memᴰ·eq-of-singleton (rw (digits-one n h) at m) in (omega arith, omega arith))
+    (λ n h r b m. ⊎-elim (λ (k : List·Memᴰ b (digits (n / 10))). r b k)
+    (λ (k : List·Memᴰ b ((48 + n % 10) ∷ [])). let e : b ≡ 48 + n % 10 = List·Memᴰ·eq-of-singleton k in (omega arith, omega arith))
+    (List·Memᴰ·append-cases (digits (n / 10)) (rw (digits-more n h) at m)))
 
 -- ---- how many there are
 

@@ -94,11 +94,11 @@ module _ (out₀ out : List ℕ) (at i mask rest : ℕ) (some : rest ≡ 0 → �
 
   pub listing-more : (out′ : List ℕ) (i′ : ℕ) → Wrote out out′ i i′ (bytes " " ++ digits (trailingZeros 64 rest)) → Listing out₀ out′ at i′ mask (bitAnd rest (rest - 1))
   listing-more out′ i′ v = record {
-        part = w .part ++ (bytes " " ++ digits (trailingZeros 64 rest));
-        wrote = wrote-more out₀ out out′ at i i′ (w .part) (bytes " " ++ digits (trailingZeros 64 rest)) (w .wrote) v;
-        left = append-assoc (w .part) (bytes " " ++ digits (trailingZeros 64 rest)) (listed (members 64 (bitAnd rest (rest - 1))))
-            ∙ ap (λ l. w .part ++ l) (sym next-listed) ∙ w .left;
-      }
+    part = w .part ++ (bytes " " ++ digits (trailingZeros 64 rest));
+    wrote = wrote-more out₀ out out′ at i i′ (w .part) (bytes " " ++ digits (trailingZeros 64 rest)) (w .wrote) v;
+    left = append-assoc (w .part) (bytes " " ++ digits (trailingZeros 64 rest)) (listed (members 64 (bitAnd rest (rest - 1))))
+        ∙ ap (λ l. w .part ++ l) (sym next-listed) ∙ w .left;
+  }
 
   pub listing-less : bitAnd rest (rest - 1) < rest
   listing-less = clear-lt rest (pos-of-ne-zero some)

@@ -47,12 +47,12 @@ wrote-three l l₁ l₂ l₃ at i j r a b c u v w = wrote-more l l₂ l₃ at j 
 -- one byte behind a text
 pub wrote-byte : (l l′ : List ℕ) (at i : ℕ) (a : List ℕ) (b : ℕ) → i < length l → Wrote l l′ at i a → Wrote l (set l′ i b) at (i + 1) (a ++ (b ∷ []))
 wrote-byte l l′ at i a b h w = record {
-      place = rw length-append (omega (arith, w .place));
-      fits = omega arith;
-      written = rw (w .written, drop-cons l i 0 h)
-          (set-at (take at l ++ a) (getD l i 0) (drop (suc i) l) b i (front l a at i (w .place) (w .fits))
-          ∙ sym (append-snoc (take at l ++ a) b (drop (suc i) l)) ∙ rw (add-one i, append-assoc (take at l) a (b ∷ [])));
-    }
+  place = rw length-append (omega (arith, w .place));
+  fits = omega arith;
+  written = rw (w .written, drop-cons l i 0 h)
+      (set-at (take at l ++ a) (getD l i 0) (drop (suc i) l) b i (front l a at i (w .place) (w .fits))
+      ∙ sym (append-snoc (take at l ++ a) b (drop (suc i) l)) ∙ rw (add-one i, append-assoc (take at l) a (b ∷ [])));
+}
 
 -- ---- a text copied byte by byte
 

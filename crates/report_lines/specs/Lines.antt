@@ -14,7 +14,7 @@ unfoldable pub digitsIn : ℕ → ℕ → List ℕ
 digitsIn zero n = []
 digitsIn (suc k) n = if (ltb n 10) ((48 + n) ∷ []) (digitsIn k (n / 10) ++ ((48 + n % 10) ∷ []))
 
--- no number has more than n + 1 digits (theorems `digits-value`, `digits-lead`)
+-- right for every number, since n has fewer than n + 2 digits (theorems `digits-bytes`, `digits-value`, `digits-lead`)
 unfoldable pub digits : ℕ → List ℕ
 digits n = digitsIn (suc n) n
 

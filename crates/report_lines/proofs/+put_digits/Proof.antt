@@ -23,102 +23,89 @@ abbrev put-digits-below : ℕ → In 1 put-digits-kinds.ps
 put-digits-below t =
     and 1 put-digits-kinds.ps (falls 1 put-digits-kinds.ps _<_ μ-put-digits t) put-digits.Pre
 
--- src/lib.rt:29:26
 put-digits-cast-out :
     (t : ℕ) →
     put-digits-lts.Need-cast-out
     (put-digits-below t, put-digits.Post)
     (put-digits-at t)
     put-digits.Post
-put-digits-cast-out t c = search (first-room, tenth-room, last-room, put-one, put-last, length-set, needs)
+put-digits-cast-out t c = search needs
 
--- src/lib.rt:29:19
 put-digits-add-out :
     (t : ℕ) →
     put-digits-lts.Need-add-out
     (put-digits-below t, put-digits.Post)
     (put-digits-at t)
     put-digits.Post
-put-digits-add-out t c = search (first-room, tenth-room, last-room, put-one, put-last, length-set, needs)
+put-digits-add-out t c = search needs
 
--- src/lib.rt:29:9
 put-digits-slice-write-out : (t : ℕ) → put-digits-lts.Need-slice-write-out (
   put-digits-below t,
   put-digits.Post,
 ) (put-digits-at t) put-digits.Post
-put-digits-slice-write-out t c = search (first-room, tenth-room, last-room, put-one, put-last, length-set, needs)
+put-digits-slice-write-out t c = search (first-room, needs)
 
--- src/lib.rt:30:16
 put-digits-add-result : (t : ℕ) → put-digits-lts.Need-add-result (
   put-digits-below t,
   put-digits.Post,
 ) (put-digits-at t) put-digits.Post
-put-digits-add-result t c = search (first-room, tenth-room, last-room, put-one, put-last, length-set, needs)
+put-digits-add-result t c = search needs
 
--- src/lib.rt:30:9
 put-digits-same-length : (t : ℕ) → put-digits-lts.Need-same-length (
   put-digits-below t,
   put-digits.Post,
 ) (put-digits-at t) put-digits.Post
-put-digits-same-length t c = search (first-room, tenth-room, last-room, put-one, put-last, length-set, needs)
+put-digits-same-length t c = search (length-set, needs)
 
--- src/lib.rt:30:9
 put-digits-returns :
     (t : ℕ) →
     put-digits-lts.Need-returns
     (put-digits-below t, put-digits.Post)
     (put-digits-at t)
     put-digits.Post
-put-digits-returns t c = search (first-room, tenth-room, last-room, put-one, put-last, length-set, needs)
+put-digits-returns t c = search (put-one, needs)
 
--- src/lib.rt:32:9
 put-digits-put-digits-requires : (t : ℕ) → put-digits-lts.Need-put-digits-requires (
   put-digits-below t,
   put-digits.Post,
 ) (put-digits-at t) put-digits.Post
-put-digits-put-digits-requires t c κs = search (first-room, tenth-room, last-room, put-one, put-last, length-set, needs)
+put-digits-put-digits-requires t c κs = search (tenth-room, needs)
 
--- src/lib.rt:33:21
 put-digits-cast-out-2 : (t : ℕ) → put-digits-lts.Need-cast-out-2 (
   put-digits-below t,
   put-digits.Post,
 ) (put-digits-at t) put-digits.Post
-put-digits-cast-out-2 t c = search (first-room, tenth-room, last-room, put-one, put-last, length-set, needs)
+put-digits-cast-out-2 t c = search needs
 
--- src/lib.rt:33:14
 put-digits-add-out-2 : (t : ℕ) → put-digits-lts.Need-add-out-2 (
   put-digits-below t,
   put-digits.Post,
 ) (put-digits-at t) put-digits.Post
-put-digits-add-out-2 t c = search (first-room, tenth-room, last-room, put-one, put-last, length-set, needs)
+put-digits-add-out-2 t c = search needs
 
--- src/lib.rt:33:5
 put-digits-slice-write-out-2 : (t : ℕ) → put-digits-lts.Need-slice-write-out-2 (
   put-digits-below t,
   put-digits.Post,
 ) (put-digits-at t) put-digits.Post
-put-digits-slice-write-out-2 t c = search (first-room, tenth-room, last-room, put-one, put-last, length-set, needs)
+put-digits-slice-write-out-2 t c = search (last-room, needs)
 
--- src/lib.rt:34:5
 put-digits-add-result-2 : (t : ℕ) → put-digits-lts.Need-add-result-2 (
   put-digits-below t,
   put-digits.Post,
 ) (put-digits-at t) put-digits.Post
 put-digits-add-result-2 t c = let e = digits-count (c .before .before .before .before .before .before .args .n) (omega arith) in omega arith
 
--- src/lib.rt:24:1
 put-digits-same-length-2 : (t : ℕ) → put-digits-lts.Need-same-length-2 (
   put-digits-below t,
   put-digits.Post,
 ) (put-digits-at t) put-digits.Post
-put-digits-same-length-2 t c = search (first-room, tenth-room, last-room, put-one, put-last, length-set, needs)
+put-digits-same-length-2 t c = search needs
 
--- src/lib.rt:24:1
 put-digits-returns-2 : (t : ℕ) → put-digits-lts.Need-returns-2 (
   put-digits-below t,
   put-digits.Post,
 ) (put-digits-at t) put-digits.Post
-put-digits-returns-2 t c = search (first-room, tenth-room, last-room, put-one, put-last, length-set, needs)
+put-digits-returns-2 t c = search (put-last, needs)
 
 pub +put-digits-spec : {M : Type 1} → statement M
 +put-digits-spec = close μ-put-digits λ t. put-digits-lts.spec (

@@ -9,9 +9,6 @@ use Rattle.report_lines.specs.Lines.{members, listed}
 use Rattle.report_lines.proofs.Members.{Listing, listing-none, listing-room, listing-more, listing-less, listing-small, listing-done}
 use Rattle.report_lines.proofs.put_members.Statement.{statement}
 use Rattle.report_lines.proofs.put_members.Tie as tie
-use Rattle.report_lines.proofs.put_members.Reads as reads
-use Rattle.report_lines.proofs.put_members.Lts as lts
-use Rattle.report_lines.proofs.put_numbered.Reads as put-numbered-reads
 
 abbrev Inv-loop : tie.InvT-loop
 Inv-loop out₀ at mask rest₀ i₀ t7 out rest i = (rest < 2 ^ 64) × (at + length (listed (members 64 mask)) ≤ length out₀) × (length out ≡ length out₀) × Listing out₀ out at i mask rest
@@ -19,39 +16,30 @@ Inv-loop out₀ at mask rest₀ i₀ t7 out rest i = (rest < 2 ^ 64) × (at + le
 abbrev μ-loop : tie.MeasureT-loop
 μ-loop out₀ at mask rest₀ i₀ t7 out rest i = rest
 
--- src/lib.rt:53:5
 loop-holds : tie.Need-loop-holds Inv-loop μ-loop
 loop-holds c = search (listing-none, needs)
 
--- src/lib.rt:55:34
 slice-aggregate-put-numbered : tie.Need-slice-aggregate-put-numbered Inv-loop μ-loop
 slice-aggregate-put-numbered c = search needs
 
--- src/lib.rt:55:40
 cast-put-numbered : tie.Need-cast-put-numbered Inv-loop μ-loop
 cast-put-numbered c = omega (arith, trailing-le 64 (c .before .before .before .loop .rest))
 
--- src/lib.rt:55:9
 put-numbered-requires : tie.Need-put-numbered-requires Inv-loop μ-loop
 put-numbered-requires c κs = search (listing-room, needs)
 
--- src/lib.rt:56:24
 sub-rest : tie.Need-sub-rest Inv-loop μ-loop
 sub-rest c = search needs
 
--- src/lib.rt:53:5
 loop-less : tie.Need-loop-less Inv-loop μ-loop
 loop-less c = search (listing-less, needs)
 
--- src/lib.rt:53:5
 loop-again : tie.Need-loop-again Inv-loop μ-loop
 loop-again c = search (listing-more, listing-small, needs)
 
--- src/lib.rt:47:1
 same-length : tie.Need-same-length Inv-loop μ-loop
 same-length c = search needs
 
--- src/lib.rt:47:1
 returns : tie.Need-returns Inv-loop μ-loop
 returns c = search (listing-done, needs)
 

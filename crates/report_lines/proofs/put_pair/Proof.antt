@@ -7,37 +7,25 @@ use Rattle.report_lines.proofs.Members.{members-short}
 use Rattle.report_lines.proofs.WholeLines.{pair-whole}
 use Rattle.report_lines.proofs.put_pair.Statement.{statement}
 use Rattle.report_lines.proofs.put_pair.Tie as tie
-use Rattle.report_lines.proofs.put_pair.Reads as reads
-use Rattle.report_lines.proofs.put_pair.Lts as lts
-use Rattle.report_lines.proofs.put_members.Reads as put-members-reads
-use Rattle.report_lines.proofs.put_numbered.Reads as put-numbered-reads
-use Rattle.report_lines.proofs.put_text.Reads as put-text-reads
 
--- src/lib.rt:85:35
 slice-aggregate-put-numbered : tie.Need-slice-aggregate-put-numbered
 slice-aggregate-put-numbered c = search needs
 
--- src/lib.rt:85:9
 put-numbered-requires : tie.Need-put-numbered-requires
 put-numbered-requires c κs = let a = c .before .before .before .args in let h = digits-short 1 (a .word % 32) (omega arith) in let k = members-short (a .word / 32) in omega arith
 
--- src/lib.rt:86:9
 put-members-requires : tie.Need-put-members-requires
 put-members-requires c κs = let a = c .before .before .before .before .before .before .before .args in let h = digits-short 1 (a .word % 32) (omega arith) in let k = members-short (a .word / 32) in omega arith
 
--- src/lib.rt:87:22
 slice-aggregate-put-text : tie.Need-slice-aggregate-put-text
 slice-aggregate-put-text c = search needs
 
--- src/lib.rt:87:5
 put-text-requires : tie.Need-put-text-requires
 put-text-requires c κs = let a = c .before .before .before .before .before .before .before .before .before .before .before .before .args in let h = digits-short 1 (a .word % 32) (omega arith) in let k = members-short (a .word / 32) in omega arith
 
--- src/lib.rt:81:1
 same-length : tie.Need-same-length
 same-length c = search needs
 
--- src/lib.rt:81:1
 returns : tie.Need-returns
 returns c = search (pair-whole, needs)
 

@@ -5,40 +5,28 @@ use Rattle.report_lines.proofs.Digits.{digits-short}
 use Rattle.report_lines.proofs.WholeLines.{refused-whole}
 use Rattle.report_lines.proofs.put_refused.Statement.{statement}
 use Rattle.report_lines.proofs.put_refused.Tie as tie
-use Rattle.report_lines.proofs.put_refused.Reads as reads
-use Rattle.report_lines.proofs.put_refused.Lts as lts
-use Rattle.report_lines.proofs.put_numbered.Reads as put-numbered-reads
-use Rattle.report_lines.proofs.put_text.Reads as put-text-reads
 
--- src/lib.rt:75:35
 slice-aggregate-put-numbered : tie.Need-slice-aggregate-put-numbered
 slice-aggregate-put-numbered c = search needs
 
--- src/lib.rt:75:9
 put-numbered-requires : tie.Need-put-numbered-requires
 put-numbered-requires c κs = let a = c .before .before .before .args in let h = digits-short 2 (a .rule) (omega arith) in let k = digits-short 19 (a .line) (omega arith) in omega arith
 
--- src/lib.rt:76:34
 slice-aggregate-put-numbered-2 : tie.Need-slice-aggregate-put-numbered-2
 slice-aggregate-put-numbered-2 c = search needs
 
--- src/lib.rt:76:9
 put-numbered-requires-2 : tie.Need-put-numbered-requires-2
 put-numbered-requires-2 c κs = let a = c .before .before .before .before .before .before .before .before .args in let h = digits-short 2 (a .rule) (omega arith) in let k = digits-short 19 (a .line) (omega arith) in omega arith
 
--- src/lib.rt:77:22
 slice-aggregate-put-text : tie.Need-slice-aggregate-put-text
 slice-aggregate-put-text c = search needs
 
--- src/lib.rt:77:5
 put-text-requires : tie.Need-put-text-requires
 put-text-requires c κs = let a = c .before .before .before .before .before .before .before .before .before .before .before .before .before .args in let h = digits-short 2 (a .rule) (omega arith) in let k = digits-short 19 (a .line) (omega arith) in omega arith
 
--- src/lib.rt:71:1
 same-length : tie.Need-same-length
 same-length c = search needs
 
--- src/lib.rt:71:1
 returns : tie.Need-returns
 returns c = search (refused-whole, needs)
 

@@ -6,48 +6,34 @@ use Rattle.report_lines.proofs.Digits.{digits-short}
 use Rattle.report_lines.proofs.WholeLines.{step-whole}
 use Rattle.report_lines.proofs.put_step.Statement.{statement}
 use Rattle.report_lines.proofs.put_step.Tie as tie
-use Rattle.report_lines.proofs.put_step.Reads as reads
-use Rattle.report_lines.proofs.put_step.Lts as lts
-use Rattle.report_lines.proofs.put_numbered.Reads as put-numbered-reads
-use Rattle.report_lines.proofs.put_text.Reads as put-text-reads
 
--- src/lib.rt:105:35
 slice-aggregate-put-numbered : tie.Need-slice-aggregate-put-numbered
 slice-aggregate-put-numbered c = search needs
 
--- src/lib.rt:105:46
 cast-put-numbered : tie.Need-cast-put-numbered
 cast-put-numbered c = search needs
 
--- src/lib.rt:105:9
 put-numbered-requires : tie.Need-put-numbered-requires
 put-numbered-requires c κs = let a = c .before .before .before .args in let h = digits-short 0 (a .entry % 8) (omega arith) in let k = digits-short 3 (a .entry / 8) (omega arith) in omega arith
 
--- src/lib.rt:106:34
 slice-aggregate-put-numbered-2 : tie.Need-slice-aggregate-put-numbered-2
 slice-aggregate-put-numbered-2 c = search needs
 
--- src/lib.rt:106:40
 cast-put-numbered-2 : tie.Need-cast-put-numbered-2
 cast-put-numbered-2 c = search needs
 
--- src/lib.rt:106:9
 put-numbered-requires-2 : tie.Need-put-numbered-requires-2
 put-numbered-requires-2 c κs = let a = c .before .before .before .before .before .before .before .before .args in let h = digits-short 0 (a .entry % 8) (omega arith) in let k = digits-short 3 (a .entry / 8) (omega arith) in omega arith
 
--- src/lib.rt:107:22
 slice-aggregate-put-text : tie.Need-slice-aggregate-put-text
 slice-aggregate-put-text c = search needs
 
--- src/lib.rt:107:5
 put-text-requires : tie.Need-put-text-requires
 put-text-requires c κs = let a = c .before .before .before .before .before .before .before .before .before .before .before .before .before .args in let h = digits-short 0 (a .entry % 8) (omega arith) in let k = digits-short 3 (a .entry / 8) (omega arith) in omega arith
 
--- src/lib.rt:101:1
 same-length : tie.Need-same-length
 same-length c = search needs
 
--- src/lib.rt:101:1
 returns : tie.Need-returns
 returns c = search (step-whole, needs)
 

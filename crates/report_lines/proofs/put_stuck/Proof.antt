@@ -5,36 +5,25 @@ use Rattle.report_lines.proofs.Members.{members-short}
 use Rattle.report_lines.proofs.WholeLines.{stuck-whole}
 use Rattle.report_lines.proofs.put_stuck.Statement.{statement}
 use Rattle.report_lines.proofs.put_stuck.Tie as tie
-use Rattle.report_lines.proofs.put_stuck.Reads as reads
-use Rattle.report_lines.proofs.put_stuck.Lts as lts
-use Rattle.report_lines.proofs.put_members.Reads as put-members-reads
-use Rattle.report_lines.proofs.put_text.Reads as put-text-reads
 
--- src/lib.rt:95:31
 slice-aggregate-put-text : tie.Need-slice-aggregate-put-text
 slice-aggregate-put-text c = search needs
 
--- src/lib.rt:95:9
 put-text-requires : tie.Need-put-text-requires
 put-text-requires c κs = search needs
 
--- src/lib.rt:96:9
 put-members-requires : tie.Need-put-members-requires
 put-members-requires c κs = let k = members-short (c .before .before .before .before .before .before .before .args .threads) in omega arith
 
--- src/lib.rt:97:22
 slice-aggregate-put-text-2 : tie.Need-slice-aggregate-put-text-2
 slice-aggregate-put-text-2 c = search needs
 
--- src/lib.rt:97:5
 put-text-requires-2 : tie.Need-put-text-requires-2
 put-text-requires-2 c κs = let k = members-short (c .before .before .before .before .before .before .before .before .before .before .before .before .args .threads) in omega arith
 
--- src/lib.rt:91:1
 same-length : tie.Need-same-length
 same-length c = search needs
 
--- src/lib.rt:91:1
 returns : tie.Need-returns
 returns c = search (stuck-whole, needs)
 

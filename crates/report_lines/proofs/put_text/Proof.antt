@@ -7,8 +7,6 @@ use Rattle.report_lines.specs.Lines.{Wrote}
 use Rattle.report_lines.proofs.Writing.{copy-none, copy-more, copy-done}
 use Rattle.report_lines.proofs.put_text.Statement.{statement}
 use Rattle.report_lines.proofs.put_text.Tie as tie
-use Rattle.report_lines.proofs.put_text.Reads as reads
-use Rattle.report_lines.proofs.put_text.Lts as lts
 
 abbrev Inv-loop : tie.InvT-loop
 Inv-loop out₀ at text i₀ out i = (i ≤ length text) × (at + length text ≤ length out₀) × (length out ≡ length out₀) × Wrote out₀ out at (at + i) (take i text)
@@ -16,43 +14,33 @@ Inv-loop out₀ at text i₀ out i = (i ≤ length text) × (at + length text �
 abbrev μ-loop : tie.MeasureT-loop
 μ-loop out₀ at text i₀ out i = length text - i
 
--- src/lib.rt:16:5
 loop-holds : tie.Need-loop-holds Inv-loop μ-loop
 loop-holds c = search (copy-none, needs)
 
--- src/lib.rt:17:23
 shared-slice-read-out : tie.Need-shared-slice-read-out Inv-loop μ-loop
 shared-slice-read-out c = search needs
 
--- src/lib.rt:17:13
 add-out : tie.Need-add-out Inv-loop μ-loop
 add-out c = search needs
 
--- src/lib.rt:17:9
 slice-write-out : tie.Need-slice-write-out Inv-loop μ-loop
 slice-write-out c = search needs
 
--- src/lib.rt:18:9
 add-i : tie.Need-add-i Inv-loop μ-loop
 add-i c = search needs
 
--- src/lib.rt:16:5
 loop-less : tie.Need-loop-less Inv-loop μ-loop
 loop-less c = search needs
 
--- src/lib.rt:16:5
 loop-again : tie.Need-loop-again Inv-loop μ-loop
 loop-again c = search (copy-more, length-set, needs)
 
--- src/lib.rt:20:5
 add-result : tie.Need-add-result Inv-loop μ-loop
 add-result c = search needs
 
--- src/lib.rt:11:1
 same-length : tie.Need-same-length Inv-loop μ-loop
 same-length c = search needs
 
--- src/lib.rt:11:1
 returns : tie.Need-returns Inv-loop μ-loop
 returns c = search (copy-done, needs)
 
