@@ -63,8 +63,9 @@ unfolding members listed
 listed-short zero m h = omega arith
 listed-short (suc n) m h = rw (listed-append, length-append) (go (inMask m n) (digits-short 1 n (omega arith)) (listed-short n m (omega arith)))
   where
-    go : (b : Bool) → length (digits n) ≤ 2 → length (listed (members n m)) ≤ n * 3 → length (listed (members n m)) + length (listed (cond b (n ∷ []) [])) ≤ suc n * 3
-    go true d r = rw (length-append) (omega arith)
+    go : (b : Bool) → length (digits n) ≤ 2 → length (listed (members n m)) ≤ n * 3
+        → length (listed (members n m)) + length (listed (cond b (n ∷ []) [])) ≤ suc n * 3
+    go true d r = rw length-append (omega arith)
     go false d r = omega arith
 
 pub members-short : (m : ℕ) → length (listed (members 64 m)) ≤ 192
@@ -92,7 +93,8 @@ module _ (out₀ out : List ℕ) (at i mask rest : ℕ) (some : rest ≡ 0 → �
       let first = ap length next-listed ∙ length-append (bytes " " ++ digits (trailingZeros 64 rest)) (listed (members 64 (bitAnd rest (rest - 1)))) in
       omega (arith, w .wrote .place, wrote-length out₀ out at i (w .part) (w .wrote))
 
-  pub listing-more : (out′ : List ℕ) (i′ : ℕ) → Wrote out out′ i i′ (bytes " " ++ digits (trailingZeros 64 rest)) → Listing out₀ out′ at i′ mask (bitAnd rest (rest - 1))
+  pub listing-more : (out′ : List ℕ) (i′ : ℕ) → Wrote out out′ i i′ (bytes " " ++ digits (trailingZeros 64 rest))
+      → Listing out₀ out′ at i′ mask (bitAnd rest (rest - 1))
   listing-more out′ i′ v = record {
     part = w .part ++ (bytes " " ++ digits (trailingZeros 64 rest));
     wrote = wrote-more out₀ out out′ at i i′ (w .part) (bytes " " ++ digits (trailingZeros 64 rest)) (w .wrote) v;

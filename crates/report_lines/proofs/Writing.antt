@@ -41,7 +41,8 @@ wrote-more l l₁ l₂ at i r a b v w =
     }
 
 -- three, one behind another
-pub wrote-three : (l l₁ l₂ l₃ : List ℕ) (at i j r : ℕ) (a b c : List ℕ) → Wrote l l₁ at i a → Wrote l₁ l₂ i j b → Wrote l₂ l₃ j r c → Wrote l l₃ at r (a ++ b ++ c)
+pub wrote-three : (l l₁ l₂ l₃ : List ℕ) (at i j r : ℕ) (a b c : List ℕ) → Wrote l l₁ at i a → Wrote l₁ l₂ i j b → Wrote l₂ l₃ j r c
+    → Wrote l l₃ at r (a ++ b ++ c)
 wrote-three l l₁ l₂ l₃ at i j r a b c u v w = wrote-more l l₂ l₃ at j r (a ++ b) c (wrote-more l l₁ l₂ at i j a b u v) w
 
 -- one byte behind a text

@@ -1,5 +1,5 @@
 -- The lines of the report, byte for byte. 01, "The report".
-use Prim.Native.Nat.{ℕ, zero, suc, _+_, _/_, _%_, _≤_}
+use Prim.Native.Nat.{ℕ, zero, suc, _+_, _*_, _/_, _%_, _≤_}
 use mathlib.Core.Bool.{cond}
 use mathlib.Core.List.{List, [], _∷_, _++_}
 use mathlib.Core.Path.{_≡_}
@@ -62,21 +62,21 @@ stuckLine m = bytes "(stuck" ++ listed (members 64 m) ++ bytes ")\n"
 unfoldable pub stepLine : ℕ → List ℕ
 stepLine e = bytes "(step " ++ digits (e % 8) ++ (bytes " " ++ digits (e / 8)) ++ bytes ")\n"
 
--- bytes that suffice for each line, whatever the numbers: a machine number has at most 20 digits, one of 8 bits 3, and a lock or thread below 64 has 2
+-- bytes that suffice for each line, whatever the numbers: a machine number has at most 20 digits, one of 8 bits 3, a member of a mask of 64 digits 2
 abbrev pub procRoom : ℕ
-procRoom = 27
+procRoom = 6 + 20 + 1
 
 abbrev pub refusedRoom : ℕ
-refusedRoom = 35
+refusedRoom = 9 + 3 + 1 + 20 + 2
 
 abbrev pub pairRoom : ℕ
-pairRoom = 202
+pairRoom = 6 + 2 + 64 * 3 + 2
 
 abbrev pub stuckRoom : ℕ
-stuckRoom = 200
+stuckRoom = 6 + 64 * 3 + 2
 
 abbrev pub stepRoom : ℕ
-stepRoom = 14
+stepRoom = 6 + 1 + 1 + 4 + 2
 
 -- l′ is l with the text written over it at a place, and `next` the place behind the text, within the buffer
 pub record Wrote (l l′ : List ℕ) (at next : ℕ) (text : List ℕ) : Type 0 where

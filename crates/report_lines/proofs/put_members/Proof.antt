@@ -11,7 +11,8 @@ use Rattle.report_lines.proofs.put_members.Statement.{statement}
 use Rattle.report_lines.proofs.put_members.Tie as tie
 
 abbrev Inv-loop : tie.InvT-loop
-Inv-loop out₀ at mask rest₀ i₀ t7 out rest i = (rest < 2 ^ 64) × (at + length (listed (members 64 mask)) ≤ length out₀) × (length out ≡ length out₀) × Listing out₀ out at i mask rest
+Inv-loop out₀ at mask rest₀ i₀ t7 out rest i =
+    (rest < 2 ^ 64) × (at + length (listed (members 64 mask)) ≤ length out₀) × (length out ≡ length out₀) × Listing out₀ out at i mask rest
 
 abbrev μ-loop : tie.MeasureT-loop
 μ-loop out₀ at mask rest₀ i₀ t7 out rest i = rest

@@ -12,16 +12,28 @@ slice-aggregate-put-numbered : tie.Need-slice-aggregate-put-numbered
 slice-aggregate-put-numbered c = search needs
 
 put-numbered-requires : tie.Need-put-numbered-requires
-put-numbered-requires c κs = let a = c .before .before .before .args in let h = digits-short 1 (a .word % 32) (omega arith) in let k = members-short (a .word / 32) in omega arith
+put-numbered-requires c κs =
+    let a = c .before .before .before .args in
+    let h = digits-short 1 (a .word % 32) (omega arith) in
+    let k = members-short (a .word / 32) in
+    omega arith
 
 put-members-requires : tie.Need-put-members-requires
-put-members-requires c κs = let a = c .before .before .before .before .before .before .before .args in let h = digits-short 1 (a .word % 32) (omega arith) in let k = members-short (a .word / 32) in omega arith
+put-members-requires c κs =
+    let a = c .before .before .before .before .before .before .before .args in
+    let h = digits-short 1 (a .word % 32) (omega arith) in
+    let k = members-short (a .word / 32) in
+    omega arith
 
 slice-aggregate-put-text : tie.Need-slice-aggregate-put-text
 slice-aggregate-put-text c = search needs
 
 put-text-requires : tie.Need-put-text-requires
-put-text-requires c κs = let a = c .before .before .before .before .before .before .before .before .before .before .before .before .args in let h = digits-short 1 (a .word % 32) (omega arith) in let k = members-short (a .word / 32) in omega arith
+put-text-requires c κs =
+    let a = c .before .before .before .before .before .before .before .before .before .before .before .before .args in
+    let h = digits-short 1 (a .word % 32) (omega arith) in
+    let k = members-short (a .word / 32) in
+    omega arith
 
 same-length : tie.Need-same-length
 same-length c = search needs

@@ -14,7 +14,11 @@ cast-put-numbered : tie.Need-cast-put-numbered
 cast-put-numbered c = search needs
 
 put-numbered-requires : tie.Need-put-numbered-requires
-put-numbered-requires c κs = let a = c .before .before .before .args in let h = digits-short 0 (a .entry % 8) (omega arith) in let k = digits-short 3 (a .entry / 8) (omega arith) in omega arith
+put-numbered-requires c κs =
+    let a = c .before .before .before .args in
+    let h = digits-short 0 (a .entry % 8) (omega arith) in
+    let k = digits-short 3 (a .entry / 8) (omega arith) in
+    omega arith
 
 slice-aggregate-put-numbered-2 : tie.Need-slice-aggregate-put-numbered-2
 slice-aggregate-put-numbered-2 c = search needs
@@ -23,13 +27,21 @@ cast-put-numbered-2 : tie.Need-cast-put-numbered-2
 cast-put-numbered-2 c = search needs
 
 put-numbered-requires-2 : tie.Need-put-numbered-requires-2
-put-numbered-requires-2 c κs = let a = c .before .before .before .before .before .before .before .before .args in let h = digits-short 0 (a .entry % 8) (omega arith) in let k = digits-short 3 (a .entry / 8) (omega arith) in omega arith
+put-numbered-requires-2 c κs =
+    let a = c .before .before .before .before .before .before .before .before .args in
+    let h = digits-short 0 (a .entry % 8) (omega arith) in
+    let k = digits-short 3 (a .entry / 8) (omega arith) in
+    omega arith
 
 slice-aggregate-put-text : tie.Need-slice-aggregate-put-text
 slice-aggregate-put-text c = search needs
 
 put-text-requires : tie.Need-put-text-requires
-put-text-requires c κs = let a = c .before .before .before .before .before .before .before .before .before .before .before .before .before .args in let h = digits-short 0 (a .entry % 8) (omega arith) in let k = digits-short 3 (a .entry / 8) (omega arith) in omega arith
+put-text-requires c κs =
+    let a = c .before .before .before .before .before .before .before .before .before .before .before .before .before .args in
+    let h = digits-short 0 (a .entry % 8) (omega arith) in
+    let k = digits-short 3 (a .entry / 8) (omega arith) in
+    omega arith
 
 same-length : tie.Need-same-length
 same-length c = search needs

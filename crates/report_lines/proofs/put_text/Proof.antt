@@ -9,7 +9,8 @@ use Rattle.report_lines.proofs.put_text.Statement.{statement}
 use Rattle.report_lines.proofs.put_text.Tie as tie
 
 abbrev Inv-loop : tie.InvT-loop
-Inv-loop out₀ at text i₀ out i = (i ≤ length text) × (at + length text ≤ length out₀) × (length out ≡ length out₀) × Wrote out₀ out at (at + i) (take i text)
+Inv-loop out₀ at text i₀ out i =
+    (i ≤ length text) × (at + length text ≤ length out₀) × (length out ≡ length out₀) × Wrote out₀ out at (at + i) (take i text)
 
 abbrev μ-loop : tie.MeasureT-loop
 μ-loop out₀ at text i₀ out i = length text - i
