@@ -1,0 +1,43 @@
+-- The lines are right as text: reports assembled from them are, byte for byte, the quoted ones. Case B's is the report that 01 prints; the others have the lines that it
+-- lacks. Computed.
+use Prim.Native.Nat.{ℕ}
+use Prim.Native.String.{String}
+use mathlib.Core.Bool.{Bool, true, _&&_}
+use mathlib.Core.List.{List, [], _∷_, _++_}
+use lib.Dec.{T}
+use Rattle.laws.specs.Bytes.{bytes, equal}
+use Rattle.laws.specs.Mask.{bit}
+use Rattle.report_lines.specs.Lines.{digitsIn, digits, members, listed, reportOpen, freeLine, deadlockOpen, closing}
+use Rattle.report_lines.specs.Lines.{procOpen, refusedLine, pairLine, stuckLine, stepLine}
+
+pub record Example : Type 0 where
+  pub lines : List ℕ
+  pub text : String
+
+-- B, A, "with procedure 9 .. refused 9, line 37", and numbers of several digits: all threads stuck, the locks 1, 10 and 31 held, a line's number of 5 digits
+unfoldable pub examples : List Example
+examples =
+    record {
+      lines = reportOpen ++ procOpen 0 ++ pairLine 2 ++ pairLine 128 ++ pairLine 161 ++ closing ++ procOpen 1 ++ pairLine 2 ++ pairLine 129 ++ pairLine 192 ++ closing
+          ++ freeLine ++ closing;
+      text = "(report\n(proc 0\n(pair 2)\n(pair 0 2)\n(pair 1 0 2)\n)\n(proc 1\n(pair 2)\n(pair 1 2)\n(pair 0 1 2)\n)\n(free)\n)\n";
+    }
+    ∷ record {
+      lines = reportOpen ++ procOpen 0 ++ pairLine 0 ++ pairLine 33 ++ closing ++ procOpen 1 ++ pairLine 1 ++ pairLine 64 ++ closing ++ deadlockOpen ++ stuckLine 3
+          ++ stepLine 0 ++ stepLine 1 ++ closing ++ closing;
+      text = "(report\n(proc 0\n(pair 0)\n(pair 1 0)\n)\n(proc 1\n(pair 1)\n(pair 0 1)\n)\n(deadlock\n(stuck 0 1)\n(step 0 0)\n(step 1 0)\n)\n)\n";
+    }
+    ∷ record { lines = reportOpen ++ refusedLine 9 37 ++ closing; text = "(report\n(refused 9 37)\n)\n" }
+    ∷ record {
+      lines = procOpen 63 ++ pairLine 68719509582 ++ stuckLine 63 ++ stepLine 21 ++ refusedLine 10 30207;
+      text = "(proc 63\n(pair 14 1 10 31)\n(stuck 0 1 2 3 4 5)\n(step 5 2)\n(refused 10 30207)\n";
+    }
+    ∷ []
+
+unfoldable pub right : List Example → Bool
+right [] = true
+right (e ∷ es) = equal (e .lines) (bytes (e .text)) && right es
+
+pub examples-right : T (right examples)
+unfolding examples right equal bit digitsIn digits members listed reportOpen freeLine deadlockOpen closing procOpen refusedLine pairLine stuckLine stepLine
+examples-right = tt

@@ -1,0 +1,6 @@
+-- Texts written one behind another, digits, members of a mask.
+pub mod Writing
+pub mod Digits
+pub mod Members
+pub mod WholeLines
+pub mod Examples

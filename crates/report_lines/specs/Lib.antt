@@ -1,0 +1,2 @@
+-- The lines of the report.
+pub mod Lines

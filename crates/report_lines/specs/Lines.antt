@@ -1,0 +1,85 @@
+-- The lines of the report, byte for byte. 01, "The report".
+use Prim.Native.Nat.{ℕ, zero, suc, _+_, _*_, _/_, _%_, _≤_}
+use mathlib.Core.Bool.{cond}
+use mathlib.Core.List.{List, [], _∷_, _++_}
+use mathlib.Core.Path.{_≡_}
+use lib.Dec.{ltb}
+use lib.ListN.{length, take, drop}
+use Rattle.laws.specs.Choice.{if}
+use Rattle.laws.specs.Bytes.{bytes}
+use Rattle.laws.specs.Mask.{inMask}
+
+-- "Numbers .. are decimal": the digits of n, highest first, without a leading zero, if there are no more than k
+unfoldable pub digitsIn : ℕ → ℕ → List ℕ
+digitsIn zero n = []
+digitsIn (suc k) n = if (ltb n 10) ((48 + n) ∷ []) (digitsIn k (n / 10) ++ ((48 + n % 10) ∷ []))
+
+-- right for every number, since n has fewer than n + 2 digits (theorems `digits-bytes`, `digits-value`, `digits-lead`)
+unfoldable pub digits : ℕ → List ℕ
+digits n = digitsIn (suc n) n
+
+-- the numbers below k that are in the mask m, ascending
+unfoldable pub members : ℕ → ℕ → List ℕ
+members zero m = []
+members (suc k) m = members k m ++ cond (inMask m k) (k ∷ []) []
+
+-- a blank and the number, for each
+unfoldable pub listed : List ℕ → List ℕ
+listed [] = []
+listed (k ∷ ks) = bytes " " ++ digits k ++ listed ks
+
+-- "`(report`", "`(free)`", "`(deadlock`", "`)`"
+unfoldable pub reportOpen : List ℕ
+reportOpen = bytes "(report\n"
+
+unfoldable pub freeLine : List ℕ
+freeLine = bytes "(free)\n"
+
+unfoldable pub deadlockOpen : List ℕ
+deadlockOpen = bytes "(deadlock\n"
+
+unfoldable pub closing : List ℕ
+closing = bytes ")\n"
+
+-- "`(proc P`"
+unfoldable pub procOpen : ℕ → List ℕ
+procOpen p = bytes "(proc " ++ digits p ++ bytes "\n"
+
+-- "`(refused R L)` (rule, line)"
+unfoldable pub refusedLine : ℕ → ℕ → List ℕ
+refusedLine r l = bytes "(refused " ++ digits r ++ (bytes " " ++ digits l) ++ bytes ")\n"
+
+-- "A pair line is `(pair L` with the wanted lock. The held locks follow, lowest number first": the word has the wanted lock in its 5 lowest digits, the mask of the
+-- held locks above them
+unfoldable pub pairLine : ℕ → List ℕ
+pairLine w = bytes "(pair " ++ digits (w % 32) ++ listed (members 64 (w / 32)) ++ bytes ")\n"
+
+-- "`(stuck T ..)` with thread numbers ascending", for a mask of threads
+unfoldable pub stuckLine : ℕ → List ℕ
+stuckLine m = bytes "(stuck" ++ listed (members 64 m) ++ bytes ")\n"
+
+-- "one `(step T C)` per entry (thread, choice)": an entry is the thread and 8 times the choice
+unfoldable pub stepLine : ℕ → List ℕ
+stepLine e = bytes "(step " ++ digits (e % 8) ++ (bytes " " ++ digits (e / 8)) ++ bytes ")\n"
+
+-- bytes that suffice for each line, whatever the numbers: a machine number has at most 20 digits, one of 8 bits 3, a member of a mask of 64 digits 2
+abbrev pub procRoom : ℕ
+procRoom = 6 + 20 + 1
+
+abbrev pub refusedRoom : ℕ
+refusedRoom = 9 + 3 + 1 + 20 + 2
+
+abbrev pub pairRoom : ℕ
+pairRoom = 6 + 2 + 64 * 3 + 2
+
+abbrev pub stuckRoom : ℕ
+stuckRoom = 6 + 64 * 3 + 2
+
+abbrev pub stepRoom : ℕ
+stepRoom = 6 + 1 + 1 + 4 + 2
+
+-- l′ is l with the text written over it at a place, and `next` the place behind the text, within the buffer
+pub record Wrote (l l′ : List ℕ) (at next : ℕ) (text : List ℕ) : Type 0 where
+  pub place : next ≡ at + length text
+  pub fits : next ≤ length l
+  pub written : l′ ≡ take at l ++ text ++ drop next l

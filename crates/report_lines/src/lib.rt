@@ -1,0 +1,108 @@
+// The lines of the report into a lent buffer, one behind another. Each function writes at a place and answers the place behind what it wrote; the rest of the buffer
+// is kept.
+ghost use mathlib.Core.Path.{_≡_};
+ghost use mathlib.Core.List.{_++_};
+ghost use Prim.Native.Nat.{_+_, _≤_};
+ghost use lib.ListN.{length};
+ghost use Rattle.report_lines.specs.Lines.{digits, members, listed, procOpen, refusedLine, pairLine, stuckLine, stepLine};
+ghost use Rattle.report_lines.specs.Lines.{procRoom, refusedRoom, pairRoom, stuckRoom, stepRoom, Wrote};
+
+// A text as it is.
+pub fn put_text(out: &mut [u8], at: usize, text: &[u8]) -> usize
+    requires { ⌜ at + length (now text) ≤ length (now out) ⌝ }
+    ensures { λ r. ⌜ Wrote (now (out .entry)) (now (out .exit)) at r (now (text .entry)) ⌝ }
+{
+    let mut i: usize = 0;
+    while i < text.len() {
+        out[at + i] = text[i];
+        i += 1;
+    }
+    at + i
+}
+
+// The digits of a number.
+fn put_digits(out: &mut [u8], at: usize, n: u64) -> usize
+    requires { ⌜ at + length (digits n) ≤ length (now out) ⌝ }
+    ensures { λ r. ⌜ Wrote (now (out .entry)) (now (out .exit)) at r (digits n) ⌝ }
+{
+    if n < 10 {
+        out[at] = b'0' + n as u8;
+        return at + 1;
+    }
+    let i = put_digits(out, at, n / 10);
+    out[i] = b'0' + (n % 10) as u8;
+    i + 1
+}
+
+// A word and a number.
+fn put_numbered(out: &mut [u8], at: usize, word: &[u8], n: u64) -> usize
+    requires { ⌜ at + length (now word ++ digits n) ≤ length (now out) ⌝ }
+    ensures { λ r. ⌜ Wrote (now (out .entry)) (now (out .exit)) at r (now (word .entry) ++ digits n) ⌝ }
+{
+    let i = put_text(out, at, word);
+    put_digits(out, i, n)
+}
+
+// A blank and the number, for each member of a mask: the lowest is found by counting trailing zeros, then cleared.
+fn put_members(out: &mut [u8], at: usize, mask: u64) -> usize
+    requires { ⌜ at + length (listed (members 64 mask)) ≤ length (now out) ⌝ }
+    ensures { λ r. ⌜ Wrote (now (out .entry)) (now (out .exit)) at r (listed (members 64 mask)) ⌝ }
+{
+    let mut rest = mask;
+    let mut i = at;
+    while rest != 0 {
+        let k = u64::trailing_zeros(rest);
+        i = put_numbered(out, i, b" ", k as u64);
+        rest = rest & (rest - 1);
+    }
+    i
+}
+
+// `(proc P`
+pub fn put_proc(out: &mut [u8], at: usize, p: usize) -> usize
+    requires { ⌜ at + procRoom ≤ length (now out) ⌝ }
+    ensures { λ r. ⌜ Wrote (now (out .entry)) (now (out .exit)) at r (procOpen p) ⌝ }
+{
+    let i = put_numbered(out, at, b"(proc ", p as u64);
+    put_text(out, i, b"\n")
+}
+
+// `(refused R L)`
+pub fn put_refused(out: &mut [u8], at: usize, rule: u8, line: usize) -> usize
+    requires { ⌜ at + refusedRoom ≤ length (now out) ⌝ }
+    ensures { λ r. ⌜ Wrote (now (out .entry)) (now (out .exit)) at r (refusedLine rule line) ⌝ }
+{
+    let i = put_numbered(out, at, b"(refused ", rule as u64);
+    let j = put_numbered(out, i, b" ", line as u64);
+    put_text(out, j, b")\n")
+}
+
+// `(pair L ..)`, of a pair's word
+pub fn put_pair(out: &mut [u8], at: usize, word: u64) -> usize
+    requires { ⌜ at + pairRoom ≤ length (now out) ⌝ }
+    ensures { λ r. ⌜ Wrote (now (out .entry)) (now (out .exit)) at r (pairLine word) ⌝ }
+{
+    let i = put_numbered(out, at, b"(pair ", word % 32);
+    let j = put_members(out, i, word / 32);
+    put_text(out, j, b")\n")
+}
+
+// `(stuck T ..)`, of a mask of threads
+pub fn put_stuck(out: &mut [u8], at: usize, threads: u8) -> usize
+    requires { ⌜ at + stuckRoom ≤ length (now out) ⌝ }
+    ensures { λ r. ⌜ Wrote (now (out .entry)) (now (out .exit)) at r (stuckLine threads) ⌝ }
+{
+    let i = put_text(out, at, b"(stuck");
+    let j = put_members(out, i, threads as u64);
+    put_text(out, j, b")\n")
+}
+
+// `(step T C)`, of a schedule's entry
+pub fn put_step(out: &mut [u8], at: usize, entry: u16) -> usize
+    requires { ⌜ at + stepRoom ≤ length (now out) ⌝ }
+    ensures { λ r. ⌜ Wrote (now (out .entry)) (now (out .exit)) at r (stepLine entry) ⌝ }
+{
+    let i = put_numbered(out, at, b"(step ", (entry % 8) as u64);
+    let j = put_numbered(out, i, b" ", (entry / 8) as u64);
+    put_text(out, j, b")\n")
+}
