@@ -14,14 +14,14 @@ use lib.Dec.{eqb, ltb}
 use lib.ListN.{length, getD, set, take, drop, length-drop, drop-of-length-le, List·getD-map}
 use lib.Seq.{lt-length-set, drop-length, drop-set-lt, drop-cons, getD-drop, getD-set-same, getD-set-other}
 use Rattle.laws.specs.Choice.{pick}
-use Rattle.laws.specs.Mask.{bit, inMask}
+use Rattle.laws.specs.Mask.{bit, inMask, maskOf}
 use Rattle.laws.proofs.Tests.{eq-or-ne}
 use Rattle.laws.proofs.Bits.{bit-none}
 use Rattle.laws.proofs.Writes.{emit-more, emit-keep}
-use Rattle.laws.proofs.Masks.{shl-one}
+use Rattle.laws.proofs.Masks.{shl-one, mask-more}
 use Rattle.semantics.proofs.Joins.{joinBelow}
-use Rattle.semantics.proofs.Dropping.{otherThan}
-use Rattle.semantics.proofs.Closing.{maskBelow, heldByMembers, waitsIn, wanting, stuckRound, stuckRounds}
+use Rattle.semantics.proofs.Joins.{otherThan}
+use Rattle.semantics.proofs.Closing.{heldByMembers, waitsIn, wanting, stuckRound, stuckRounds}
 use Rattle.semantics.proofs.RetreatMoves.{othersAt, scanBack, scan-again, JumpTo}
 use Rattle.retreat.specs.Paths.{masksOf, Within, Holding, heldByOthers, meeting, mayGoBack, NoneMayGoBack}
 use Rattle.retreat.specs.Moves.{NoneBelow, FirstBelow, hasStepped, entryOf, Landed, Turned}
@@ -105,33 +105,33 @@ module _ (masks : List ℕ) (m t : ℕ) where
 
 module _ (wishes : List ℕ) where
   pub wanting-none : 0 ≡ wanting 0 wishes
-  unfolding wanting joinBelow
+  unfolding wanting maskOf
   wanting-none = refl
 
   pub wanting-more : (i r x : ℕ) → r ≡ wanting i wishes → x ≡ cond (ltb 0 (getD wishes i 0)) (2 ^ i) 0 → bitOr r x ≡ wanting (i + 1) wishes
   unfolding wanting
-  wanting-more i r x e h = join-more (λ t. ltb 0 (getD wishes t 0)) (λ u. 2 ^ u) i r x e h
+  wanting-more i r x e h = mask-more (λ t. ltb 0 (getD wishes t 0)) i r x e h
 
   pub wanting-done : (i n r : ℕ) → i ≤ n → n ≤ i → r ≡ wanting i wishes → r ≡ wanting n wishes
   wanting-done i n r a b e = rw (← same-end i n a b) e
 
 -- a round as far as thread i
 unfoldable pub roundBelow : ℕ → ℕ → List ℕ → List ℕ → ℕ → ℕ
-roundBelow i n wishes masks m = maskBelow i (λ t. inMask m t && waitsIn n wishes masks m t)
+roundBelow i n wishes masks m = maskOf i (λ t. inMask m t && waitsIn n wishes masks m t)
 
 module _ (wishes masks : List ℕ) (n m : ℕ) where
   pub round-none : 0 ≡ roundBelow 0 n wishes masks m
-  unfolding roundBelow joinBelow
+  unfolding roundBelow maskOf
   round-none = refl
 
   pub round-more : (i r x : ℕ) → r ≡ roundBelow i n wishes masks m → x ≡ cond (inMask m i && waitsIn n wishes masks m i) (2 ^ i) 0
       → bitOr r x ≡ roundBelow (i + 1) n wishes masks m
   unfolding roundBelow
-  round-more i r x e h = join-more (λ t. inMask m t && waitsIn n wishes masks m t) (λ u. 2 ^ u) i r x e h
+  round-more i r x e h = mask-more (λ t. inMask m t && waitsIn n wishes masks m t) i r x e h
 
   pub round-done : (i r : ℕ) → i ≤ n → n ≤ i → r ≡ roundBelow i n wishes masks m → r ≡ stuckRound n wishes masks m
   unfolding roundBelow stuckRound
-  round-done i r a b e = e ∙ ap (λ k. maskBelow k (λ t. inMask m t && waitsIn n wishes masks m t)) (same-end i n a b)
+  round-done i r a b e = e ∙ ap (λ k. maskOf k (λ t. inMask m t && waitsIn n wishes masks m t)) (same-end i n a b)
 
   pub rounds-first : (r : ℕ) → r ≡ wanting n wishes → r ≡ stuckRounds 0 n wishes masks
   unfolding stuckRounds

@@ -14,7 +14,7 @@ use Rattle.laws.proofs.Tests.{eq-or-ne}
 use Rattle.laws.proofs.Bits.{bit-none}
 use Rattle.semantics.specs.Plan.{Block}
 use Rattle.semantics.specs.Run.{ThreadState}
-use Rattle.semantics.proofs.Dropping.{otherThan}
+use Rattle.semantics.proofs.Joins.{otherThan}
 use Rattle.semantics.proofs.Tables.{total, total-lt, total-at}
 use Rattle.semantics.proofs.RetreatMoves.{Paths, GoingBack, othersAt, scanBack, scanned, JumpTo, step-back, jump-back}
 use Rattle.retreat.specs.Paths.{masksOf, choiceAt, Within, Holding, meeting, Lent}

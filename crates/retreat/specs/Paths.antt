@@ -7,7 +7,7 @@ use lib.Bits.{bitAnd}
 use lib.Dec.{eqb}
 use lib.ListN.{length, getD, take, drop}
 use Rattle.laws.specs.Choice.{pick}
-use Rattle.semantics.proofs.Dropping.{otherThan}
+use Rattle.semantics.proofs.Joins.{otherThan}
 use Rattle.semantics.proofs.Joins.{joinBelow}
 use Rattle.semantics.proofs.RetreatMoves.{othersAt}
 

@@ -7,7 +7,7 @@ ghost use lib.Bits.{bitAnd};
 ghost use lib.Dec.{eqb, ltb};
 ghost use lib.ListN.{length, getD, set, drop};
 ghost use Rattle.laws.specs.Mask.{bit, inMask};
-ghost use Rattle.semantics.proofs.Dropping.{otherThan};
+ghost use Rattle.semantics.proofs.Joins.{otherThan};
 ghost use Rattle.semantics.proofs.RetreatMoves.{scanBack, JumpTo};
 ghost use Rattle.semantics.proofs.Closing.{heldByMembers, waitsIn, wanting, stuckRound, stuckRounds};
 ghost use Rattle.retreat.specs.Paths.{masksOf, Within, Holding, heldByOthers, mayGoBack, NoneMayGoBack, Standing, Lent};
