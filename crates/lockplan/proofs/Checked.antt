@@ -107,6 +107,10 @@ module _ (text table : List ℕ) (q : Reading) (n : ℕ) (t : Tabled (planRefusa
   pub plan-table : PlanTable (take (n - 0) table)
   plan-table = accepted-table text (take (n - 0) table) reader-kept plan-forms
 
+  pub plan-sizes : tooLarge (tableForms (take (n - 0) table)) ≡ none
+  unfolding planRefusal
+  plan-sizes = rw plan-forms (first-none (tooLarge (formsOf text)) (tooManyPairs (formsOf text)) (first-none (readerRefusal text) (laterRefusal (formsOf text)) plan-kept .1) .0)
+
   pub plan-few : tooManyPairs (tableForms (take (n - 0) table)) ≡ none
   unfolding planRefusal
   plan-few = rw plan-forms (first-none (tooLarge (formsOf text)) (tooManyPairs (formsOf text)) (first-none (readerRefusal text) (laterRefusal (formsOf text)) plan-kept .1) .1)

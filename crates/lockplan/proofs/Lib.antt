@@ -3,3 +3,4 @@ pub mod Checked
 pub mod LineBounds
 pub mod Found
 pub mod ProcText
+pub mod Judging

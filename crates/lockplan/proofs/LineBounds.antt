@@ -22,7 +22,7 @@ use Rattle.plan.specs.declared.Counts.{Counts}
 use Rattle.plan.specs.Structure.{innermost, advanceOf, goOn, complete, misplaced, misplacedLine}
 use Rattle.plan.specs.Limits.{counted, breaks, lineIf, breaking, breakingLine, noCounts}
 use Rattle.plan.specs.Grammar.{planIn}
-use Rattle.plan.specs.Rules.{Refusal, refusedAt, refusedIf, tooLong, formsRefusal, readerRefusal, procLineFrom, lowestFrom, procRefusal, tooLarge, tooManyPairs, planOf, planRefusal, pairsRefusal}
+use Rattle.plan.specs.Rules.{Refusal, refusedAt, refusedIf, tooLong, formsRefusal, readerRefusal, procLineFrom, lowestFrom, procRefusal, tooLarge, tooManyPairs, planOf, planRefusal, verdictRefusal, pairsRefusal}
 
 -- a named line is at most n
 abbrev AtMost : ℕ → Option ℕ → Type 0
@@ -194,3 +194,7 @@ unfolding pairsRefusal
 pairs-bounded text p lent =
     bounded-or _ _ (bounded-if 1 (ltb lent 128) (omega arith))
     (λ _. bounded-or _ _ (plan-bounded text) (λ _. bounded-if 11 (leb (length (planOf text .procs)) p) (omega arith)))
+
+pub verdict-bounded : (text : List ℕ) (lent : ℕ) (w : Refusal) → verdictRefusal text lent ≡ some w → Numbers w
+unfolding verdictRefusal
+verdict-bounded text lent = bounded-or _ _ (bounded-if 1 (ltb lent 6144) (omega arith)) (λ _. plan-bounded text)

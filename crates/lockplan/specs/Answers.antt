@@ -5,6 +5,9 @@ use Rattle.plan.specs.Rules.{Refusal}
 use Rattle.plan.specs.declared.Reading.{Reading}
 use Rattle.plan.specs.declared.Reading.the-variants.{Accepted}
 use Rattle.plan.specs.declared.Reading.the-variants as plan
+use Rattle.lockplan.specs.declared.Verdict.{Verdict}
+use Rattle.lockplan.specs.declared.Verdict.the-variants.{Free, Deadlock}
+use Rattle.lockplan.specs.declared.Verdict.the-variants as verdict
 use Rattle.lockplan.specs.declared.Listing.{Listing}
 use Rattle.lockplan.specs.declared.Listing.the-variants.{Pairs, Refused}
 
@@ -35,3 +38,23 @@ Carried (Refused r l) = Below r l
 abbrev pub handedOn : Reading → Listing
 handedOn (Accepted n) = Pairs 0
 handedOn (plan.Refused r l) = Refused r l
+
+-- ---- the verdict
+
+-- kind 0, free; kind 1, deadlock: a is the stuck set (bit t for thread t), b the number of entries; kind 2, refused: a is the rule, b the line
+unfoldable pub verdictNumber : Verdict → ℕ
+verdictNumber Free = answerNumber 0 0 0
+verdictNumber (Deadlock n S) = answerNumber 1 S n
+verdictNumber (verdict.Refused r l) = answerNumber 2 r l
+
+-- the part b of the answer, which has to be below 2 to the power 40
+unfoldable pub highPart : Verdict → ℕ
+highPart Free = 0
+highPart (Deadlock n S) = n
+highPart (verdict.Refused r l) = l
+
+-- how many entries a verdict's schedule has
+unfoldable pub scheduleLength : Verdict → ℕ
+scheduleLength Free = 0
+scheduleLength (Deadlock n S) = n
+scheduleLength (verdict.Refused r l) = 0

@@ -2,3 +2,4 @@
 pub mod Answers
 pub mod Promises
 pub mod Steps
+pub mod Judgement

@@ -11,6 +11,13 @@ use Rattle.plan.specs.Table.{tableForms}
 use Rattle.plan.specs.Settled.{tablePlan}
 use Rattle.plan.specs.Rules.{Refusal, refusedIf, pairsRefusal, procLineFrom}
 use Rattle.parts.specs.Parts.{linesPart, formsBefore}
+use Rattle.plan.specs.declared.Reading.{Reading}
+use Rattle.plan.specs.declared.Reading.the-variants.{Accepted}
+use Rattle.plan.specs.declared.Reading.the-variants as plan
+use Rattle.deadlock.specs.declared.Finding.{Finding}
+use Rattle.deadlock.specs.declared.Finding.the-variants.{Never, Reached}
+use Rattle.lockplan.specs.declared.Verdict.{Verdict}
+use Rattle.lockplan.specs.declared.Verdict.the-variants.{Free, Deadlock, Refused}
 use Rattle.lockplan.specs.declared.Listing.{Listing}
 use Rattle.lockplan.specs.Answers.{listingOf}
 use Rattle.lockplan.specs.Promises.{pairsOf}
@@ -34,3 +41,12 @@ unfoldable pub tableText : List ℕ → List ℕ → ℕ → List ℕ
 tableText text ws p =
     let line = procLineFrom 1 p (tableForms ws) in
     if (ltb p (length (tablePlan ws .procs))) (linesPart text (line - 1) (line + formsBefore (tableForms (drop line ws)))) []
+
+-- a refusal of the plan, and a finding over its table, in the verdict's answer
+abbrev pub refusedVerdict : Reading → Verdict
+refusedVerdict (Accepted n) = Free
+refusedVerdict (plan.Refused r l) = Refused r l
+
+abbrev pub verdictOf : Finding → Verdict
+verdictOf Never = Free
+verdictOf (Reached n S) = Deadlock n S

@@ -7,14 +7,24 @@ ghost use Rattle.laws.specs.Choice.{orElse};
 ghost use Rattle.plan.specs.Table.{tableForms};
 ghost use Rattle.plan.specs.Settled.{PlanTable};
 ghost use Rattle.plan.specs.Rules.{planRefusal, tooLarge, tooManyPairs, readingOf, Tabled};
-ghost use Rattle.lockplan.specs.Answers.{listingNumber, handedOn, Carried};
+ghost use Prim.Native.Nat.{min, _^_};
+ghost use Rattle.lockplan.specs.Answers.{listingNumber, handedOn, Carried, verdictNumber, highPart, scheduleLength};
+ghost use Rattle.lockplan.specs.Judgement.{JudgedIn, Judged, JudgedBytes};
 ghost use Rattle.lockplan.specs.Promises.{Listed, ListedBytes, procText};
-ghost use Rattle.lockplan.specs.Steps.{PairsFound, TablePairs, tableText};
+ghost use Rattle.lockplan.specs.Steps.{PairsFound, TablePairs, tableText, refusedVerdict, verdictOf};
+use deadlock::Finding;
 use plan::Reading;
 
 // What listing the pairs of a procedure gives: how many there are, or the refusal.
 pub enum Listing {
     Pairs(usize),
+    Refused { rule: u8, line: usize },
+}
+
+// The verdict on a plan: no run of its gateway reaches a stuck set; a schedule of so many entries leads to one, the largest there; or the refusal.
+pub enum Verdict {
+    Free,
+    Deadlock { entries: usize, stuck: u8 },
     Refused { rule: u8, line: usize },
 }
 
@@ -232,4 +242,130 @@ pub fn proc_text(text: &[u8], proc: usize) -> &[u8]
         &mut scratch,
         &mut list,
     )
+}
+
+// A refusal of the plan, in the verdict's answer.
+fn refused_verdict(reading: Reading) -> Verdict
+    ensures { λ r. ⌜ r ≡ refusedVerdict reading ⌝ }
+{
+    match reading {
+        Reading::Accepted(_) => Verdict::Free,
+        Reading::Refused { rule, line } => Verdict::Refused { rule, line },
+    }
+}
+
+// A finding over the plan's table, in the verdict's answer.
+fn verdict_of(finding: Finding) -> Verdict
+    ensures { λ r. ⌜ r ≡ verdictOf finding ⌝ }
+{
+    match finding {
+        Finding::Never => Verdict::Free,
+        Finding::Reached { entries, stuck } => Verdict::Deadlock { entries, stuck },
+    }
+}
+
+// The verdict on a text, where `lent` entries are lent for the schedule.
+fn find_verdict(
+    text: &[u8],
+    lent: usize,
+    entries: &mut [u16],
+    table: &mut [u64],
+    stack: &mut [u8],
+    starts: &mut [u64],
+    sizes: &mut [u64],
+    scratch: &mut [u64],
+    list: &mut [u64],
+) -> Verdict
+    requires { ⌜ (lent ≤ length (now entries)) × (16384 ≤ length (now table)) × (16384 ≤ length (now stack)) × (64 ≤ length (now starts)) × (64 ≤ length (now sizes)) × (64 ≤ length (now scratch)) × (129 ≤ length (now list)) ⌝ }
+    ensures { λ r. ⌜ JudgedIn (now (text .entry)) lent (now (entries .entry)) r (now (entries .exit)) ⌝ }
+{
+    if lent < 6144 {
+        return Verdict::Refused { rule: 1, line: 0 };
+    }
+    let checked = check_text(text, table, stack, starts, sizes, scratch, list);
+    let Reading::Accepted(n) = checked else {
+        return refused_verdict(checked);
+    };
+    verdict_of(deadlock::judge_table(&table[0..n], entries))
+}
+
+// The same with tables of its own.
+fn verdict_lent(text: &[u8], lent: usize, entries: &mut [u16]) -> Verdict
+    requires { ⌜ lent ≤ length (now entries) ⌝ }
+    ensures { λ r. ⌜ JudgedIn (now (text .entry)) lent (now (entries .entry)) r (now (entries .exit)) ⌝ }
+{
+    let mut table = [0u64; 16384];
+    let mut stack = [0u8; 16384];
+    let mut starts = [0u64; 64];
+    let mut sizes = [0u64; 64];
+    let mut scratch = [0u64; 64];
+    let mut list = [0u64; 129];
+    find_verdict(
+        text,
+        lent,
+        entries,
+        &mut table,
+        &mut stack,
+        &mut starts,
+        &mut sizes,
+        &mut scratch,
+        &mut list,
+    )
+}
+
+// The verdict on a plan text: whether its gateway can come to two or more threads stuck on each other, with a schedule at the start of `out` where it can.
+pub fn judge(text: &[u8], out: &mut [u16]) -> Verdict
+    ensures { λ r. ⌜ Judged (now (text .entry)) (now (out .entry)) r (now (out .exit)) ⌝ }
+{
+    let lent = out.len();
+    verdict_lent(text, lent, out)
+}
+
+// The answer as one number: kind + 256 × a + 65,536 × b.
+fn verdict_number(verdict: Verdict) -> u64
+    requires { ⌜ highPart verdict < 2 ^ 40 ⌝ }
+    ensures { λ r. ⌜ r ≡ verdictNumber verdict ⌝ }
+{
+    match verdict {
+        Verdict::Free => 0,
+        Verdict::Deadlock { entries, stuck } => 1 + 256 * (stuck as u64) + 65536 * (entries as u64),
+        Verdict::Refused { rule, line } => 2 + 256 * (rule as u64) + 65536 * (line as u64),
+    }
+}
+
+// At most as many entries as a schedule can have.
+fn at_most(lent: usize) -> usize
+    ensures { λ r. ⌜ r ≡ min 6144 lent ⌝ }
+{
+    if lent < 6144 { lent } else { 6144 }
+}
+
+// How many entries the schedule of a verdict has.
+fn schedule_length(verdict: Verdict) -> usize
+    ensures { λ r. ⌜ r ≡ scheduleLength verdict ⌝ }
+{
+    match verdict {
+        Verdict::Free => 0,
+        Verdict::Deadlock { entries, stuck: _ } => entries,
+        Verdict::Refused { rule: _, line: _ } => 0,
+    }
+}
+
+fn verdict_bytes(text: &[u8], out: &mut [u8], entries: &mut [u16]) -> u64
+    requires { ⌜ length (now entries) ≡ 6144 ⌝ }
+    ensures { λ r. ⌜ JudgedBytes (now (text .entry)) (now (out .entry)) r (now (out .exit)) ⌝ }
+{
+    let verdict = verdict_lent(text, at_most(out.len() / 2), entries);
+    let n = schedule_length(verdict);
+    buffers::put_entries(&entries[0..n], out);
+    verdict_number(verdict)
+}
+
+// The verdict for C: entries as two bytes each, lowest first.
+#[no_mangle]
+pub extern "C" fn lockplan_verdict(text: &[u8], out: &mut [u8]) -> u64
+    ensures { λ r. ⌜ JudgedBytes (now (text .entry)) (now (out .entry)) r (now (out .exit)) ⌝ }
+{
+    let mut entries = [0u16; 6144];
+    verdict_bytes(text, out, &mut entries)
 }

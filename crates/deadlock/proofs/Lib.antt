@@ -1,0 +1,2 @@
+-- From the search and the schedule to the finding.
+pub mod Laws

@@ -1,0 +1,2 @@
+-- What is asked of the tables, and what is found.
+pub mod Findings
