@@ -267,18 +267,18 @@ fn go_back(
     wishes: &mut [u64],
     masks: &mut [u64],
     present: &mut [u64],
-    entries: &mut [u16],
+    table: &mut [u16],
     n: usize,
 ) -> usize
-    requires { ⌜ Lent (now steps) (now begins) (now js) (now wishes) (now masks) (now present) n × (6144 ≤ length (now entries)) ⌝ }
-    ensures { λ r. ⌜ (r ≤ length (now (entries .exit)))
+    requires { ⌜ Lent (now steps) (now begins) (now js) (now wishes) (now masks) (now present) n × (6144 ≤ length (now table)) ⌝ }
+    ensures { λ r. ⌜ (r ≤ length (now (table .exit)))
         × WentBack (now (steps .entry)) (now (begins .entry)) n (now (js .entry)) (now (wishes .entry)) (now (masks .entry))
-        (now (js .exit)) (drop r (now (entries .exit))) (now (wishes .exit)) (now (masks .exit)) ⌝ }
+        (now (js .exit)) (drop r (now (table .exit))) (now (wishes .exit)) (now (masks .exit)) ⌝ }
 {
-    let mut d = entries.len();
+    let mut d = table.len();
     let mut t = find_stepped(js, n);
     while t < n {
-        d = turn(steps, begins, js, wishes, masks, present, entries, n, d);
+        d = turn(steps, begins, js, wishes, masks, present, table, n, d);
         t = find_stepped(js, n);
     }
     d
@@ -411,16 +411,16 @@ fn from_ends(
     wishes: &mut [u64],
     masks: &mut [u64],
     present: &mut [u64],
-    entries: &mut [u16],
+    table: &mut [u16],
     n: usize,
 ) -> usize
-    requires { ⌜ Lent (now steps) (now begins) (now lens) (now wishes) (now masks) (now present) n × (6144 ≤ length (now entries)) ⌝ }
-    ensures { λ r. ⌜ (r ≤ length (now (entries .exit)))
+    requires { ⌜ Lent (now steps) (now begins) (now lens) (now wishes) (now masks) (now present) n × (6144 ≤ length (now table)) ⌝ }
+    ensures { λ r. ⌜ (r ≤ length (now (table .exit)))
         × FromEnds (now (steps .entry)) (now (begins .entry)) n (now (lens .entry)) (now (wishes .entry))
-        (drop r (now (entries .exit))) (now (wishes .exit)) (now (masks .exit)) ⌝ }
+        (drop r (now (table .exit))) (now (wishes .exit)) (now (masks .exit)) ⌝ }
 {
     fill_masks(steps, lens, masks, n);
-    go_back(steps, begins, lens, wishes, masks, present, entries, n)
+    go_back(steps, begins, lens, wishes, masks, present, table, n)
 }
 
 // The entries copied, and the stuck set.

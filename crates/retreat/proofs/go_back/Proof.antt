@@ -8,12 +8,12 @@ use Rattle.retreat.proofs.go_back.Statement.{statement}
 use Rattle.retreat.proofs.go_back.Tie as tie
 
 abbrev Inv-loop : tie.InvT-loop
-Inv-loop steps begins js₀ wishes₀ masks₀ present₀ entries₀ n d₀ t₀ js wishes masks present entries d t =
-    Lengths steps begins js₀ wishes₀ masks₀ present₀ entries₀ js wishes masks present entries × (d ≤ length entries) × FirstBelow (hasStepped js) n t
-    × Going steps begins n js₀ wishes₀ masks₀ js (drop d entries) wishes masks
+Inv-loop steps begins js₀ wishes₀ masks₀ present₀ table₀ n d₀ t₀ js wishes masks present table d t =
+    Lengths steps begins js₀ wishes₀ masks₀ present₀ table₀ js wishes masks present table × (d ≤ length table) × FirstBelow (hasStepped js) n t
+    × Going steps begins n js₀ wishes₀ masks₀ js (drop d table) wishes masks
 
 abbrev μ-loop : tie.MeasureT-loop
-μ-loop steps begins js₀ wishes₀ masks₀ present₀ entries₀ n d₀ t₀ js wishes masks present entries d t = stepsLeft js n
+μ-loop steps begins js₀ wishes₀ masks₀ present₀ table₀ n d₀ t₀ js wishes masks present table d t = stepsLeft js n
 
 find-stepped-requires : tie.Need-find-stepped-requires Inv-loop μ-loop
 find-stepped-requires c κs = search needs
