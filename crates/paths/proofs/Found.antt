@@ -1,15 +1,15 @@
 -- The walk of a procedure whose pairs have the word finds it (`path-found`), so what is written is the path.
-use Prim.Native.Nat.{ℕ, zero, suc, _+_, _-_, _<_, _≤_}
+use Prim.Native.Nat.{ℕ, _-_, _<_}
 use native.Mathlib.Omega.{arith}
 use mathlib.Core.Bool.{Bool, true, false}
 use mathlib.Core.List.{List, []}
-use mathlib.Core.Path.{_≡_, refl, sym, ap, _∙_}
+use mathlib.Core.Path.{_≡_, sym, ap, _∙_}
 use lib.ListN.{length, take, drop, getD}
 use lib.Seq.{length-take-le}
-use Rattle.semantics.specs.Plan.{Block, bodyIn}
-use Rattle.semantics.specs.Sizes.{sizeWith, sizeAt, sizeOf}
+use Rattle.semantics.specs.Plan.{bodyIn}
+use Rattle.semantics.specs.Sizes.{sizeOf}
 use Rattle.semantics.proofs.Remainders.{body-below}
-use Rattle.semantics.proofs.Paths.{Walked, found, passed, walkWith, walkAt, pathTo, PathFound, path-found}
+use Rattle.semantics.proofs.Paths.{found, path-found}
 use Rattle.plan.specs.Table.{tableForms}
 use Rattle.paths.specs.declared.Stop.{Stop}
 use Rattle.paths.specs.Walks.{procsIn, outcomeOf, Walks, BlockWalked, Asked, PathWritten}

@@ -4,8 +4,8 @@ use native.Mathlib.Nat.{suc-mul}
 use native.Mathlib.Omega.{arith}
 use mathlib.Core.Path.{_≡_, refl}
 
--- Of a walk at a place of a table of n forms, with calls less than d deep. The functions call each other at the same place: k is 0 for `walk`, 2 for those of
--- the statements, 1 for the second block of an either.
+-- Of a walk at a place of a table of n forms, with calls less than d deep. The functions call each other at the same place too: k is 2 for those of the
+-- statements, 1 for the second block of an either, and 0 for `walk`.
 unfoldable pub measure : ℕ → ℕ → ℕ → ℕ → ℕ
 measure d n at k = d * (4 * n + 8) + 4 * (n + 1 - at) + k
 

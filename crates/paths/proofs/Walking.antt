@@ -1,12 +1,12 @@
--- The walk of a block, a statement at a time. Each law says what a function of the walk has done, from what the functions that it called have: the steps put into
--- the buffer are those of `walkWith`, and where a walk goes back, what it wrote before is there still.
-use Prim.Native.Nat.{ℕ, zero, suc, _+_, _-_, _^_, _<_, _≤_}
+-- The walk of a block, a statement at a time. Each law says what a function of the walk has done, from what the functions that it called have done: the steps
+-- put into the buffer are those of `walkWith`, and where a walk goes back, what it wrote before is there still.
+use Prim.Native.Nat.{ℕ, zero, suc, _+_, _-_, _<_, _≤_}
 use native.Mathlib.Omega.{arith}
 use native.Mathlib.Nat.{le-refl}
 use mathlib.Core.Bool.{Bool, true, false, cond}
-use mathlib.Core.List.{List, [], _∷_, _++_}
+use mathlib.Core.List.{List, [], _∷_}
 use mathlib.Core.Path.{_≡_, refl, sym, ap, _∙_}
-use lib.ListN.{length, take, drop, getD}
+use lib.ListN.{length, take, getD}
 use Rattle.text.specs.declared.Form.{Form}
 use Rattle.text.specs.declared.Form.the-variants.{Close, Skip, Call, Hold, Loop, Either, One, Two}
 use Rattle.semantics.specs.Plan.{Block, done, skip, call, hold, loop, either, bodyIn, Written}
@@ -14,11 +14,9 @@ use Rattle.semantics.specs.Sizes.{sizeWith, sizeAt}
 use Rattle.semantics.proofs.Remainders.{body-below}
 use Rattle.semantics.proofs.Paths.{stepOf, holding, put, Walked, found, passed, andThen, gives, walkWith, walkAt}
 use Rattle.plan.specs.Grammar.{blockForms}
-use Rattle.plan.specs.Table.{formAt, tableForms}
-use Rattle.plan.specs.Settled.{PlanTable}
-use Rattle.plan.specs.Starts.{Starts}
+use Rattle.plan.specs.Table.{formAt}
 use Rattle.paths.specs.declared.Stop.{Stop}
-use Rattle.paths.specs.Walks.{procsIn, Kept, PutAt, Ready, stopped, outcomeOf, BlockWalked, Walks}
+use Rattle.paths.specs.Walks.{procsIn, formsFrom, Within, Inside, sizeIn, walkIn, PutAt, Ready, stopped, outcomeOf, BlockWalked, Walks}
 use Rattle.paths.proofs.Buffers.{kept-same, kept-then, kept-back}
 use Rattle.paths.proofs.Blocks.{inBlock, none-begins, begins-in, close-only, skip-only, call-only, hold-only, loop-only, either-only, table-more, table-none, table-behind}
 
@@ -103,11 +101,15 @@ module _ (ps : List Block) (d : ℕ) where
 
 -- ---- what a walk has written
 
+-- a block for whose size there is room is walked
+abbrev Goes : List ℕ → ℕ → ℕ → ℕ → List ℕ → ℕ → List Form → Stop → List ℕ → Block → Type 0
+Goes ws d m w s n later r s₁ b = n + sizeIn ws d b ≤ length s → BlockWalked ws d m w s n b later r s₁
+
 module _ {ws : List ℕ} {d m w : ℕ} {s : List ℕ} {n : ℕ} {b : Block} {later : List Form} {r : Stop} {s₁ : List ℕ} (o : BlockWalked ws d m w s n b later r s₁) where
-  was-passed : r .reached ≡ false → walkWith (walkAt d (procsIn ws) w) w m (take n s) b ≡ passed (take (r .count) s₁)
+  was-passed : r .reached ≡ false → walkIn ws d w m (take n s) b ≡ passed (take (r .count) s₁)
   was-passed f = o .outcome ∙ ap (λ t. outcomeOf t (take (r .count) s₁)) f
 
-  was-found : r .reached ≡ true → walkWith (walkAt d (procsIn ws) w) w m (take n s) b ≡ found (take (r .count) s₁)
+  was-found : r .reached ≡ true → walkIn ws d w m (take n s) b ≡ found (take (r .count) s₁)
   was-found f = o .outcome ∙ ap (λ t. outcomeOf t (take (r .count) s₁)) f
 
 -- an answer that says that the hold was reached
@@ -120,33 +122,33 @@ not-both e f = let z : _≡_ {A = ℕ} 0 1 = cc in absurd (omega arith)
 -- ---- where no block begins, or it has ended
 
 module _ {ws : List ℕ} {d at m w n : ℕ} {s : List ℕ} (r : Stop) (answer : r ≡ stopped false at n) (room : n ≤ length s) where
-  pub ended-walks : length ws ≤ at → Walks ws d (tableForms (drop at ws)) at m w s n r s
+  pub ended-walks : length ws ≤ at → Walks ws d (formsFrom ws at) at m w s n r s
   ended-walks h = rw answer (record {
     buffer = kept-same s n room;
     forward = λ f. le-refl at;
-    walked = λ b later e v k. absurd (none-begins (λ q. q < length (procsIn ws)) later [] b v (sym (table-none ws at h) ∙ e));
+    walked = λ b later e v k. absurd (none-begins (Within ws) later [] b v (sym (table-none ws at h) ∙ e));
   })
 
   pub other-walks : {fs : List Form} (f : Form) → inBlock f ≡ false → Walks ws d (f ∷ fs) at m w s n r s
   other-walks {fs} f z = rw answer (record {
     buffer = kept-same s n room;
     forward = λ f. le-refl at;
-    walked = λ b later e v k. not-both (begins-in (λ q. q < length (procsIn ws)) later fs f b v e) z;
+    walked = λ b later e v k. not-both (begins-in (Within ws) later fs f b v e) z;
   })
 
-  pub close-walks : Walks ws d (Close ∷ tableForms (drop at ws)) at m w s n r s
+  pub close-walks : Walks ws d (Close ∷ formsFrom ws at) at m w s n r s
   close-walks = rw answer (record {
     buffer = kept-same s n room;
     forward = λ f. le-refl at;
     walked = λ b later e v.
-        close-only (λ q. q < length (procsIn ws)) later (tableForms (drop at ws))
-        (λ b. n + sizeWith (sizeAt d (procsIn ws)) b ≤ length s → BlockWalked ws d m w s n b later (stopped false at n) s)
+        close-only (Within ws) later (formsFrom ws at)
+        (Goes ws d m w s n later (stopped false at n) s)
         (λ e h. record { outcome = walk-done (walkAt d (procsIn ws) w) w m (take n s); next = λ f. e; short = omega arith }) b v e;
   })
 
 -- the form at a place, and what was walked from it
 pub walks-at : {ws : List ℕ} {d at m w n : ℕ} {s s₁ : List ℕ} {r : Stop} (f k : Form) → at < length ws → f ≡ formAt (getD ws at 0) → f ≡ k
-    → Walks ws d (k ∷ tableForms (drop (at + 1) ws)) (at + 1) m w s n r s₁ → Walks ws d (tableForms (drop at ws)) at m w s n r s₁
+    → Walks ws d (k ∷ formsFrom ws (at + 1)) (at + 1) m w s n r s₁ → Walks ws d (formsFrom ws at) at m w s n r s₁
 walks-at {ws} {d} {at} f k h e g i = record {
   buffer = i .buffer;
   forward = λ z. let j = i .forward z in omega arith;
@@ -161,17 +163,17 @@ skip-walks {ws} {d} {at} {m} {w} {n} {k} {s} {s₁} {s₂} {r} {fs} p i = record
   buffer = kept-then (p .buffer) (i .buffer);
   forward = i .forward;
   walked = λ b later e v.
-      skip-only (λ q. q < length (procsIn ws)) later fs (λ b. n + sizeWith (sizeAt d (procsIn ws)) b ≤ length s → BlockWalked ws d m w s n b later r s₂) (go later) b v e;
+      skip-only (Within ws) later fs (Goes ws d m w s n later r s₂) (go later) b v e;
 }
   where
-    go : (later : List Form) (x : Block) → Written (λ q. q < length (procsIn ws)) x → fs ≡ blockForms x (Close ∷ later)
-        → n + sizeWith (sizeAt d (procsIn ws)) (skip x) ≤ length s → BlockWalked ws d m w s n (skip x) later r s₂
+    go : (later : List Form) (x : Block) → Inside ws x → fs ≡ blockForms x (Close ∷ later)
+        → Goes ws d m w s n later r s₂ (skip x)
     go later x v e h =
         let z = size-skip (sizeAt d (procsIn ws)) x in
         let o = i .walked x later e v (omega arith) in
         record {
           outcome = walk-skip (walkAt d (procsIn ws) w) w m (take n s) x
-              ∙ ap (λ q. walkWith (walkAt d (procsIn ws) w) w m q x) (sym (p .put (omega arith))) ∙ o .outcome;
+              ∙ ap (λ q. walkIn ws d w m q x) (sym (p .put (omega arith))) ∙ o .outcome;
           next = o .next;
           short = omega arith;
         }
@@ -184,25 +186,25 @@ call-walks-none {ws} {d} {at} {m} {w} {n} {k} {s} {s₁} {s₂} {r} {fs} {p} u z
   buffer = kept-then (u .buffer) (i .buffer);
   forward = i .forward;
   walked = λ b later e v.
-      call-only (λ q. q < length (procsIn ws)) later fs p (λ b. n + sizeWith (sizeAt d (procsIn ws)) b ≤ length s → BlockWalked ws d m w s n b later r s₂) (go later) b v e;
+      call-only (Within ws) later fs p (Goes ws d m w s n later r s₂) (go later) b v e;
 }
   where
-    go : (later : List Form) (x : Block) → p < length (procsIn ws) → Written (λ q. q < length (procsIn ws)) x → fs ≡ blockForms x (Close ∷ later)
-        → n + sizeWith (sizeAt d (procsIn ws)) (call p x) ≤ length s → BlockWalked ws d m w s n (call p x) later r s₂
+    go : (later : List Form) (x : Block) → p < length (procsIn ws) → Inside ws x → fs ≡ blockForms x (Close ∷ later)
+        → Goes ws d m w s n later r s₂ (call p x)
     go later x c v e h =
         let y = size-call (sizeAt d (procsIn ws)) p x in
         let o = i .walked x later e v (omega arith) in
         record {
           outcome = walk-call (walkAt d (procsIn ws) w) w m (take n s) p x
-              ∙ ap (λ q. andThen q (λ q. walkWith (walkAt d (procsIn ws) w) w m q x)) (no-depth (procsIn ws) d w p m (put (take n s) 0 m) z)
-              ∙ ap (λ q. walkWith (walkAt d (procsIn ws) w) w m q x) (sym (u .put (omega arith))) ∙ o .outcome;
+              ∙ ap (λ q. andThen q (λ q. walkIn ws d w m q x)) (no-depth (procsIn ws) d w p m (put (take n s) 0 m) z)
+              ∙ ap (λ q. walkIn ws d w m q x) (sym (u .put (omega arith))) ∙ o .outcome;
           next = o .next;
           short = omega arith;
         }
 
 -- the walk of the procedure that is called
 module _ {ws starts : List ℕ} {d m w n k p at : ℕ} {s s₁ s₂ : List ℕ} {r : Stop} (ready : Ready ws starts m s n) (u : PutAt s n (stepOf 0 m) k s₁) (z : d ≡ 0 → ⊥)
-    (begin : p < length starts → at ≡ getD starts p 0) (i : Walks ws (d - 1) (tableForms (drop at ws)) at m w s₁ k r s₂) where
+    (begin : p < length starts → at ≡ getD starts p 0) (i : Walks ws (d - 1) (formsFrom ws at) at m w s₁ k r s₂) where
   called : p < length (procsIn ws) → n + sizeAt d (procsIn ws) p < length s
       → (later : List Form) × BlockWalked ws (d - 1) m w s₁ k (bodyIn (procsIn ws) p) later r s₂
   called c h =
@@ -219,18 +221,18 @@ module _ {ws starts : List ℕ} {d m w n k p at : ℕ} {s s₁ s₂ : List ℕ} 
     buffer = kept-then (u .buffer) (i .buffer);
     forward = λ g. not-both f g;
     walked = λ b later e v.
-        call-only (λ q. q < length (procsIn ws)) later fs p (λ b. n + sizeWith (sizeAt d (procsIn ws)) b ≤ length s → BlockWalked ws d m w s n b later r s₂) (go later) b v e;
+        call-only (Within ws) later fs p (Goes ws d m w s n later r s₂) (go later) b v e;
   }
     where
-      go : (later : List Form) (x : Block) → p < length (procsIn ws) → Written (λ q. q < length (procsIn ws)) x → fs ≡ blockForms x (Close ∷ later)
-          → n + sizeWith (sizeAt d (procsIn ws)) (call p x) ≤ length s → BlockWalked ws d m w s n (call p x) later r s₂
+      go : (later : List Form) (x : Block) → p < length (procsIn ws) → Inside ws x → fs ≡ blockForms x (Close ∷ later)
+          → Goes ws d m w s n later r s₂ (call p x)
       go later x c v e h =
           let y = size-call (sizeAt d (procsIn ws)) p x in
           let y′ = size-deeper (procsIn ws) d p z in
           let o = called c (omega arith) .1 in
           record {
             outcome = says-found f (walk-call (walkAt d (procsIn ws) w) w m (take n s) p x
-                ∙ ap (λ q. andThen q (λ q. walkWith (walkAt d (procsIn ws) w) w m q x))
+                ∙ ap (λ q. andThen q (λ q. walkIn ws d w m q x))
                 (one-deeper (procsIn ws) d w p m (put (take n s) 0 m) z
                 ∙ ap (λ q. walkWith (walkAt (d - 1) (procsIn ws) w) w m q (bodyIn (procsIn ws) p)) (sym (u .put (omega arith))) ∙ was-found o f));
             next = λ g. not-both f g;
@@ -243,11 +245,11 @@ module _ {ws starts : List ℕ} {d m w n k p at : ℕ} {s s₁ s₂ : List ℕ} 
     buffer = kept-then (kept-then (u .buffer) (i .buffer)) (j .buffer);
     forward = j .forward;
     walked = λ b later e v.
-        call-only (λ q. q < length (procsIn ws)) later fs p (λ b. n + sizeWith (sizeAt d (procsIn ws)) b ≤ length s → BlockWalked ws d m w s n b later r′ s₃) (go later) b v e;
+        call-only (Within ws) later fs p (Goes ws d m w s n later r′ s₃) (go later) b v e;
   }
     where
-      go : (later : List Form) (x : Block) → p < length (procsIn ws) → Written (λ q. q < length (procsIn ws)) x → fs ≡ blockForms x (Close ∷ later)
-          → n + sizeWith (sizeAt d (procsIn ws)) (call p x) ≤ length s → BlockWalked ws d m w s n (call p x) later r′ s₃
+      go : (later : List Form) (x : Block) → p < length (procsIn ws) → Inside ws x → fs ≡ blockForms x (Close ∷ later)
+          → Goes ws d m w s n later r′ s₃ (call p x)
       go later x c v e h =
           let y = size-call (sizeAt d (procsIn ws)) p x in
           let y′ = size-deeper (procsIn ws) d p z in
@@ -256,7 +258,7 @@ module _ {ws starts : List ℕ} {d m w n k p at : ℕ} {s s₁ s₂ : List ℕ} 
           let o′ = j .walked x later e v (omega (arith, o .short)) in
           record {
             outcome = walk-call (walkAt d (procsIn ws) w) w m (take n s) p x
-                ∙ ap (λ q. andThen q (λ q. walkWith (walkAt d (procsIn ws) w) w m q x))
+                ∙ ap (λ q. andThen q (λ q. walkIn ws d w m q x))
                 (one-deeper (procsIn ws) d w p m (put (take n s) 0 m) z
                 ∙ ap (λ q. walkWith (walkAt (d - 1) (procsIn ws) w) w m q (bodyIn (procsIn ws) p)) (sym (u .put (omega arith))) ∙ was-passed o f)
                 ∙ o′ .outcome;
@@ -272,14 +274,14 @@ hold-walks-here {ws} {d} {at} {m} {w} {n} {l} {s} {fs} room g f = record {
   buffer = kept-same s n room;
   forward = λ h. le-refl at;
   walked = λ b later e v.
-      hold-only (λ q. q < length (procsIn ws)) later fs l (λ b. n + sizeWith (sizeAt d (procsIn ws)) b ≤ length s → BlockWalked ws d m w s n b later (stopped true at n) s) (go later) b v e;
+      hold-only (Within ws) later fs l (Goes ws d m w s n later (stopped true at n) s) (go later) b v e;
 }
   where
-    go : (later : List Form) (x y : Block) → l < 32 → Written (λ q. q < length (procsIn ws)) x → Written (λ q. q < length (procsIn ws)) y → fs ≡ blockForms x (Close ∷ blockForms y (Close ∷ later))
-        → n + sizeWith (sizeAt d (procsIn ws)) (hold l x y) ≤ length s → BlockWalked ws d m w s n (hold l x y) later (stopped true at n) s
+    go : (later : List Form) (x y : Block) → l < 32 → Inside ws x → Inside ws y → fs ≡ blockForms x (Close ∷ blockForms y (Close ∷ later))
+        → Goes ws d m w s n later (stopped true at n) s (hold l x y)
     go later x y c v v′ e h = record {
       outcome = walk-hold (walkAt d (procsIn ws) w) w m (take n s) l x y
-          ∙ ap (λ t. cond t (found (take n s)) (andThen (walkWith (walkAt d (procsIn ws) w) w (holding m l) (put (take n s) 0 (holding m l)) x) (λ q. walkWith (walkAt d (procsIn ws) w) w m (put q 0 m) y)))
+          ∙ ap (λ t. cond t (found (take n s)) (andThen (walkIn ws d w (holding m l) (put (take n s) 0 (holding m l)) x) (λ q. walkIn ws d w m (put q 0 m) y)))
           (sym (g c) ∙ f);
       next = λ h. not-both refl h;
       short = omega arith;
@@ -287,31 +289,31 @@ hold-walks-here {ws} {d} {at} {m} {w} {n} {l} {s} {fs} room g f = record {
 
 -- the walk of its block, with the lock held
 module _ (m l : ℕ) {ws : List ℕ} {d at m′ w n k : ℕ} {s s₁ s₂ : List ℕ} {t : Bool} {r : Stop} (g : l < 32 → t ≡ gives w m l) (f : t ≡ false) (with : l < 32 → m′ ≡ holding m l)
-    (u : PutAt s n (stepOf 0 m′) k s₁) (i : Walks ws d (tableForms (drop at ws)) at m′ w s₁ k r s₂) where
-  held-walked : (x y : Block) → l < 32 → Written (λ q. q < length (procsIn ws)) x → (later : List Form) → tableForms (drop at ws) ≡ blockForms x (Close ∷ later)
-      → n + sizeWith (sizeAt d (procsIn ws)) (hold l x y) ≤ length s → BlockWalked ws d m′ w s₁ k x later r s₂
+    (u : PutAt s n (stepOf 0 m′) k s₁) (i : Walks ws d (formsFrom ws at) at m′ w s₁ k r s₂) where
+  held-walked : (x y : Block) → l < 32 → Inside ws x → (later : List Form) → formsFrom ws at ≡ blockForms x (Close ∷ later)
+      → n + sizeIn ws d (hold l x y) ≤ length s → BlockWalked ws d m′ w s₁ k x later r s₂
   held-walked x y c v later e h = let z = size-hold (sizeAt d (procsIn ws)) l x y in i .walked x later e v (omega arith)
 
   -- the walk of the hold goes on behind that of its block
-  held-then : (x y : Block) (o : Walked) → l < 32 → n < length s → walkWith (walkAt d (procsIn ws) w) w m′ (take k s₁) x ≡ o
-      → walkWith (walkAt d (procsIn ws) w) w m (take n s) (hold l x y) ≡ andThen o (λ q. walkWith (walkAt d (procsIn ws) w) w m (put q 0 m) y)
+  held-then : (x y : Block) (o : Walked) → l < 32 → n < length s → walkIn ws d w m′ (take k s₁) x ≡ o
+      → walkIn ws d w m (take n s) (hold l x y) ≡ andThen o (λ q. walkIn ws d w m (put q 0 m) y)
   held-then x y o c h e =
       walk-hold (walkAt d (procsIn ws) w) w m (take n s) l x y
-      ∙ ap (λ t. cond t (found (take n s)) (andThen (walkWith (walkAt d (procsIn ws) w) w (holding m l) (put (take n s) 0 (holding m l)) x) (λ q. walkWith (walkAt d (procsIn ws) w) w m (put q 0 m) y)))
+      ∙ ap (λ t. cond t (found (take n s)) (andThen (walkIn ws d w (holding m l) (put (take n s) 0 (holding m l)) x) (λ q. walkIn ws d w m (put q 0 m) y)))
       (sym (g c) ∙ f)
-      ∙ ap (λ q. andThen q (λ q. walkWith (walkAt d (procsIn ws) w) w m (put q 0 m) y))
-      (ap (λ z. walkWith (walkAt d (procsIn ws) w) w z (put (take n s) 0 z) x) (sym (with c)) ∙ ap (λ q. walkWith (walkAt d (procsIn ws) w) w m′ q x) (sym (u .put h)) ∙ e)
+      ∙ ap (λ q. andThen q (λ q. walkIn ws d w m (put q 0 m) y))
+      (ap (λ z. walkIn ws d w z (put (take n s) 0 z) x) (sym (with c)) ∙ ap (λ q. walkIn ws d w m′ q x) (sym (u .put h)) ∙ e)
 
-  pub hold-walks-found : r .reached ≡ true → Walks ws d (Hold l ∷ tableForms (drop at ws)) at m w s n r s₂
+  pub hold-walks-found : r .reached ≡ true → Walks ws d (Hold l ∷ formsFrom ws at) at m w s n r s₂
   hold-walks-found a = record {
     buffer = kept-then (u .buffer) (i .buffer);
     forward = λ b. not-both a b;
     walked = λ b later e v.
-        hold-only (λ q. q < length (procsIn ws)) later (tableForms (drop at ws)) l (λ b. n + sizeWith (sizeAt d (procsIn ws)) b ≤ length s → BlockWalked ws d m w s n b later r s₂) (go later) b v e;
+        hold-only (Within ws) later (formsFrom ws at) l (Goes ws d m w s n later r s₂) (go later) b v e;
   }
     where
-      go : (later : List Form) (x y : Block) → l < 32 → Written (λ q. q < length (procsIn ws)) x → Written (λ q. q < length (procsIn ws)) y → tableForms (drop at ws) ≡ blockForms x (Close ∷ blockForms y (Close ∷ later))
-          → n + sizeWith (sizeAt d (procsIn ws)) (hold l x y) ≤ length s → BlockWalked ws d m w s n (hold l x y) later r s₂
+      go : (later : List Form) (x y : Block) → l < 32 → Inside ws x → Inside ws y → formsFrom ws at ≡ blockForms x (Close ∷ blockForms y (Close ∷ later))
+          → Goes ws d m w s n later r s₂ (hold l x y)
       go later x y c v v′ e h =
           let z = size-hold (sizeAt d (procsIn ws)) l x y in
           let o = held-walked x y c v (blockForms y (Close ∷ later)) e h in
@@ -322,16 +324,16 @@ module _ (m l : ℕ) {ws : List ℕ} {d at m′ w n k : ℕ} {s s₁ s₂ : List
           }
 
   pub hold-walks-past : {j : ℕ} {r′ : Stop} {s₃ s₄ : List ℕ} → r .reached ≡ false → PutAt s₂ (r .count) (stepOf 0 m) j s₃
-      → Walks ws d (tableForms (drop (r .next) ws)) (r .next) m w s₃ j r′ s₄ → Walks ws d (Hold l ∷ tableForms (drop at ws)) at m w s n r′ s₄
+      → Walks ws d (formsFrom ws (r .next)) (r .next) m w s₃ j r′ s₄ → Walks ws d (Hold l ∷ formsFrom ws at) at m w s n r′ s₄
   hold-walks-past {j} {r′} {s₃} {s₄} a u′ i′ = record {
     buffer = kept-then (kept-then (u .buffer) (i .buffer)) (kept-then (u′ .buffer) (i′ .buffer));
     forward = λ b. let q = i .forward a in let q′ = i′ .forward b in omega arith;
     walked = λ b later e v.
-        hold-only (λ q. q < length (procsIn ws)) later (tableForms (drop at ws)) l (λ b. n + sizeWith (sizeAt d (procsIn ws)) b ≤ length s → BlockWalked ws d m w s n b later r′ s₄) (go later) b v e;
+        hold-only (Within ws) later (formsFrom ws at) l (Goes ws d m w s n later r′ s₄) (go later) b v e;
   }
     where
-      go : (later : List Form) (x y : Block) → l < 32 → Written (λ q. q < length (procsIn ws)) x → Written (λ q. q < length (procsIn ws)) y → tableForms (drop at ws) ≡ blockForms x (Close ∷ blockForms y (Close ∷ later))
-          → n + sizeWith (sizeAt d (procsIn ws)) (hold l x y) ≤ length s → BlockWalked ws d m w s n (hold l x y) later r′ s₄
+      go : (later : List Form) (x y : Block) → l < 32 → Inside ws x → Inside ws y → formsFrom ws at ≡ blockForms x (Close ∷ blockForms y (Close ∷ later))
+          → Goes ws d m w s n later r′ s₄ (hold l x y)
       go later x y c v v′ e h =
           let z = size-hold (sizeAt d (procsIn ws)) l x y in
           let o = held-walked x y c v (blockForms y (Close ∷ later)) e h in
@@ -339,35 +341,35 @@ module _ (m l : ℕ) {ws : List ℕ} {d at m′ w n k : ℕ} {s s₁ s₂ : List
           let o′ = i′ .walked y later (o .next a) v′ (omega (arith, o .short)) in
           record {
             outcome = held-then x y (passed (take (r .count) s₂)) c (omega arith) (was-passed o a)
-                ∙ ap (λ q. walkWith (walkAt d (procsIn ws) w) w m q y) (sym (u′ .put (omega (arith, o .short)))) ∙ o′ .outcome;
+                ∙ ap (λ q. walkIn ws d w m q y) (sym (u′ .put (omega (arith, o .short)))) ∙ o′ .outcome;
             next = o′ .next;
             short = omega (arith, o .short, o′ .short);
           }
 
 -- ---- a loop
 
-module _ {ws : List ℕ} {d at m w n k : ℕ} {s s₁ s₂ : List ℕ} {r : Stop} (u : PutAt s n (stepOf 1 m) k s₁) (i : Walks ws d (tableForms (drop at ws)) at m w s₁ k r s₂) where
-  inner-walked : (x y : Block) → Written (λ q. q < length (procsIn ws)) x → (later : List Form) → tableForms (drop at ws) ≡ blockForms x (Close ∷ later)
-      → n + sizeWith (sizeAt d (procsIn ws)) (loop x y) ≤ length s → BlockWalked ws d m w s₁ k x later r s₂
+module _ {ws : List ℕ} {d at m w n k : ℕ} {s s₁ s₂ : List ℕ} {r : Stop} (u : PutAt s n (stepOf 1 m) k s₁) (i : Walks ws d (formsFrom ws at) at m w s₁ k r s₂) where
+  inner-walked : (x y : Block) → Inside ws x → (later : List Form) → formsFrom ws at ≡ blockForms x (Close ∷ later)
+      → n + sizeIn ws d (loop x y) ≤ length s → BlockWalked ws d m w s₁ k x later r s₂
   inner-walked x y v later e h = let z = size-loop (sizeAt d (procsIn ws)) x y in i .walked x later e v (omega arith)
 
   -- the walk of the loop leaves it behind that of its block
-  inner-then : (x y : Block) (o : Walked) → n < length s → walkWith (walkAt d (procsIn ws) w) w m (take k s₁) x ≡ o
-      → walkWith (walkAt d (procsIn ws) w) w m (take n s) (loop x y) ≡ andThen o (λ q. walkWith (walkAt d (procsIn ws) w) w m (put (take n s) 2 m) y)
+  inner-then : (x y : Block) (o : Walked) → n < length s → walkIn ws d w m (take k s₁) x ≡ o
+      → walkIn ws d w m (take n s) (loop x y) ≡ andThen o (λ q. walkIn ws d w m (put (take n s) 2 m) y)
   inner-then x y o h e =
       walk-loop (walkAt d (procsIn ws) w) w m (take n s) x y
-      ∙ ap (λ q. andThen q (λ q. walkWith (walkAt d (procsIn ws) w) w m (put (take n s) 2 m) y)) (ap (λ q. walkWith (walkAt d (procsIn ws) w) w m q x) (sym (u .put h)) ∙ e)
+      ∙ ap (λ q. andThen q (λ q. walkIn ws d w m (put (take n s) 2 m) y)) (ap (λ q. walkIn ws d w m q x) (sym (u .put h)) ∙ e)
 
-  pub loop-walks-found : r .reached ≡ true → Walks ws d (Loop ∷ tableForms (drop at ws)) at m w s n r s₂
+  pub loop-walks-found : r .reached ≡ true → Walks ws d (Loop ∷ formsFrom ws at) at m w s n r s₂
   loop-walks-found a = record {
     buffer = kept-then (u .buffer) (i .buffer);
     forward = λ b. not-both a b;
     walked = λ b later e v.
-        loop-only (λ q. q < length (procsIn ws)) later (tableForms (drop at ws)) (λ b. n + sizeWith (sizeAt d (procsIn ws)) b ≤ length s → BlockWalked ws d m w s n b later r s₂) (go later) b v e;
+        loop-only (Within ws) later (formsFrom ws at) (Goes ws d m w s n later r s₂) (go later) b v e;
   }
     where
-      go : (later : List Form) (x y : Block) → Written (λ q. q < length (procsIn ws)) x → Written (λ q. q < length (procsIn ws)) y → tableForms (drop at ws) ≡ blockForms x (Close ∷ blockForms y (Close ∷ later))
-          → n + sizeWith (sizeAt d (procsIn ws)) (loop x y) ≤ length s → BlockWalked ws d m w s n (loop x y) later r s₂
+      go : (later : List Form) (x y : Block) → Inside ws x → Inside ws y → formsFrom ws at ≡ blockForms x (Close ∷ blockForms y (Close ∷ later))
+          → Goes ws d m w s n later r s₂ (loop x y)
       go later x y v v′ e h =
           let z = size-loop (sizeAt d (procsIn ws)) x y in
           let o = inner-walked x y v (blockForms y (Close ∷ later)) e h in
@@ -378,16 +380,16 @@ module _ {ws : List ℕ} {d at m w n k : ℕ} {s s₁ s₂ : List ℕ} {r : Stop
           }
 
   pub loop-walks-past : {j : ℕ} {r′ : Stop} {s₃ s₄ : List ℕ} → r .reached ≡ false → PutAt s₂ n (stepOf 2 m) j s₃
-      → Walks ws d (tableForms (drop (r .next) ws)) (r .next) m w s₃ j r′ s₄ → Walks ws d (Loop ∷ tableForms (drop at ws)) at m w s n r′ s₄
+      → Walks ws d (formsFrom ws (r .next)) (r .next) m w s₃ j r′ s₄ → Walks ws d (Loop ∷ formsFrom ws at) at m w s n r′ s₄
   loop-walks-past {j} {r′} {s₃} {s₄} a u′ i′ = record {
     buffer = kept-back (kept-then (u .buffer) (i .buffer)) (kept-then (u′ .buffer) (i′ .buffer));
     forward = λ b. let q = i .forward a in let q′ = i′ .forward b in omega arith;
     walked = λ b later e v.
-        loop-only (λ q. q < length (procsIn ws)) later (tableForms (drop at ws)) (λ b. n + sizeWith (sizeAt d (procsIn ws)) b ≤ length s → BlockWalked ws d m w s n b later r′ s₄) (go later) b v e;
+        loop-only (Within ws) later (formsFrom ws at) (Goes ws d m w s n later r′ s₄) (go later) b v e;
   }
     where
-      go : (later : List Form) (x y : Block) → Written (λ q. q < length (procsIn ws)) x → Written (λ q. q < length (procsIn ws)) y → tableForms (drop at ws) ≡ blockForms x (Close ∷ blockForms y (Close ∷ later))
-          → n + sizeWith (sizeAt d (procsIn ws)) (loop x y) ≤ length s → BlockWalked ws d m w s n (loop x y) later r′ s₄
+      go : (later : List Form) (x y : Block) → Inside ws x → Inside ws y → formsFrom ws at ≡ blockForms x (Close ∷ blockForms y (Close ∷ later))
+          → Goes ws d m w s n later r′ s₄ (loop x y)
       go later x y v v′ e h =
           let z = size-loop (sizeAt d (procsIn ws)) x y in
           let o = inner-walked x y v (blockForms y (Close ∷ later)) e h in
@@ -396,8 +398,8 @@ module _ {ws : List ℕ} {d at m w n k : ℕ} {s s₁ s₂ : List ℕ} {r : Stop
           let o′ = i′ .walked y later (o .next a) v′ (omega arith) in
           record {
             outcome = inner-then x y (passed (take (r .count) s₂)) (omega arith) (was-passed o a)
-                ∙ ap (λ q. walkWith (walkAt d (procsIn ws) w) w m (put q 2 m) y) (sym (back .same))
-                ∙ ap (λ q. walkWith (walkAt d (procsIn ws) w) w m q y) (sym (u′ .put (omega arith))) ∙ o′ .outcome;
+                ∙ ap (λ q. walkIn ws d w m (put q 2 m) y) (sym (back .same))
+                ∙ ap (λ q. walkIn ws d w m q y) (sym (u′ .put (omega arith))) ∙ o′ .outcome;
             next = o′ .next;
             short = omega (arith, o′ .short);
           }
@@ -405,31 +407,31 @@ module _ {ws : List ℕ} {d at m w n k : ℕ} {s s₁ s₂ : List ℕ} {r : Stop
 -- ---- an either
 
 module _ {ws : List ℕ} {d at q m w n k : ℕ} {s s₁ s₂ : List ℕ} {r : Stop} (u : PutAt s n (stepOf 1 m) k s₁) (behind : (at ≤ q) × (at < length ws → q ≡ at + 1))
-    (i : Walks ws d (tableForms (drop q ws)) q m w s₁ k r s₂) where
-  one-walked : (x y z : Block) → Written (λ q. q < length (procsIn ws)) x → (later : List Form) → tableForms (drop at ws) ≡ One ∷ blockForms x (Close ∷ later)
-      → n + sizeWith (sizeAt d (procsIn ws)) (either x y z) ≤ length s → BlockWalked ws d m w s₁ k x later r s₂
+    (i : Walks ws d (formsFrom ws q) q m w s₁ k r s₂) where
+  one-walked : (x y z : Block) → Inside ws x → (later : List Form) → formsFrom ws at ≡ One ∷ blockForms x (Close ∷ later)
+      → n + sizeIn ws d (either x y z) ≤ length s → BlockWalked ws d m w s₁ k x later r s₂
   one-walked x y z v later e h =
       let a = size-either (sizeAt d (procsIn ws)) x y z in
       i .walked x later (table-behind ws at q One (blockForms x (Close ∷ later)) (behind .1) e) v (omega arith)
 
   -- the walk of the either takes two behind that of one
-  one-then : (x y z : Block) (o : Walked) → n < length s → walkWith (walkAt d (procsIn ws) w) w m (take k s₁) x ≡ o
-      → walkWith (walkAt d (procsIn ws) w) w m (take n s) (either x y z) ≡ andThen o (λ q. walkWith (walkAt d (procsIn ws) w) w m (take n s) (either done y z))
+  one-then : (x y z : Block) (o : Walked) → n < length s → walkIn ws d w m (take k s₁) x ≡ o
+      → walkIn ws d w m (take n s) (either x y z) ≡ andThen o (λ q. walkIn ws d w m (take n s) (either done y z))
   one-then x y z o h e =
       walk-either (walkAt d (procsIn ws) w) w m (take n s) x y z
-      ∙ ap (λ q. andThen q (λ q. walkWith (walkAt d (procsIn ws) w) w m (take n s) (either done y z))) (ap (λ q. walkWith (walkAt d (procsIn ws) w) w m q x) (sym (u .put h)) ∙ e)
+      ∙ ap (λ q. andThen q (λ q. walkIn ws d w m (take n s) (either done y z))) (ap (λ q. walkIn ws d w m q x) (sym (u .put h)) ∙ e)
 
-  pub one-walks-found : r .reached ≡ true → Walks ws d (Either ∷ tableForms (drop at ws)) at m w s n r s₂
+  pub one-walks-found : r .reached ≡ true → Walks ws d (Either ∷ formsFrom ws at) at m w s n r s₂
   one-walks-found a = record {
     buffer = kept-then (u .buffer) (i .buffer);
     forward = λ b. not-both a b;
     walked = λ b later e v.
-        either-only (λ q. q < length (procsIn ws)) later (tableForms (drop at ws)) (λ b. n + sizeWith (sizeAt d (procsIn ws)) b ≤ length s → BlockWalked ws d m w s n b later r s₂) (go later) b v e;
+        either-only (Within ws) later (formsFrom ws at) (Goes ws d m w s n later r s₂) (go later) b v e;
   }
     where
-      go : (later : List Form) (x y z : Block) → Written (λ q. q < length (procsIn ws)) x → Written (λ q. q < length (procsIn ws)) y → Written (λ q. q < length (procsIn ws)) z
-          → tableForms (drop at ws) ≡ One ∷ blockForms x (Close ∷ Two ∷ blockForms y (Close ∷ Close ∷ blockForms z (Close ∷ later)))
-          → n + sizeWith (sizeAt d (procsIn ws)) (either x y z) ≤ length s → BlockWalked ws d m w s n (either x y z) later r s₂
+      go : (later : List Form) (x y z : Block) → Inside ws x → Inside ws y → Inside ws z
+          → formsFrom ws at ≡ One ∷ blockForms x (Close ∷ Two ∷ blockForms y (Close ∷ Close ∷ blockForms z (Close ∷ later)))
+          → Goes ws d m w s n later r s₂ (either x y z)
       go later x y z v v′ v″ e h =
           let c = size-either (sizeAt d (procsIn ws)) x y z in
           let o = one-walked x y z v (Two ∷ blockForms y (Close ∷ Close ∷ blockForms z (Close ∷ later))) e h in
@@ -440,18 +442,18 @@ module _ {ws : List ℕ} {d at q m w n k : ℕ} {s s₁ s₂ : List ℕ} {r : St
           }
 
   pub one-walks-past : {r′ : Stop} {s₃ : List ℕ} → r .reached ≡ false
-      → Walks ws d (Either ∷ One ∷ Close ∷ tableForms (drop (r .next) ws)) (r .next) m w s₂ n r′ s₃ → Walks ws d (Either ∷ tableForms (drop at ws)) at m w s n r′ s₃
+      → Walks ws d (Either ∷ One ∷ Close ∷ formsFrom ws (r .next)) (r .next) m w s₂ n r′ s₃ → Walks ws d (Either ∷ formsFrom ws at) at m w s n r′ s₃
   unfolding blockForms Written
   one-walks-past {r′} {s₃} a i′ = record {
     buffer = kept-back (kept-then (u .buffer) (i .buffer)) (i′ .buffer);
     forward = λ b. let c = i .forward a in let c′ = i′ .forward b in omega (arith, behind .0);
     walked = λ b later e v.
-        either-only (λ q. q < length (procsIn ws)) later (tableForms (drop at ws)) (λ b. n + sizeWith (sizeAt d (procsIn ws)) b ≤ length s → BlockWalked ws d m w s n b later r′ s₃) (go later) b v e;
+        either-only (Within ws) later (formsFrom ws at) (Goes ws d m w s n later r′ s₃) (go later) b v e;
   }
     where
-      go : (later : List Form) (x y z : Block) → Written (λ q. q < length (procsIn ws)) x → Written (λ q. q < length (procsIn ws)) y → Written (λ q. q < length (procsIn ws)) z
-          → tableForms (drop at ws) ≡ One ∷ blockForms x (Close ∷ Two ∷ blockForms y (Close ∷ Close ∷ blockForms z (Close ∷ later)))
-          → n + sizeWith (sizeAt d (procsIn ws)) (either x y z) ≤ length s → BlockWalked ws d m w s n (either x y z) later r′ s₃
+      go : (later : List Form) (x y z : Block) → Inside ws x → Inside ws y → Inside ws z
+          → formsFrom ws at ≡ One ∷ blockForms x (Close ∷ Two ∷ blockForms y (Close ∷ Close ∷ blockForms z (Close ∷ later)))
+          → Goes ws d m w s n later r′ s₃ (either x y z)
       go later x y z v v′ v″ e h =
           let c = size-either (sizeAt d (procsIn ws)) x y z in
           let c′ = size-two (sizeAt d (procsIn ws)) y z in
@@ -460,44 +462,44 @@ module _ {ws : List ℕ} {d at q m w n k : ℕ} {s s₁ s₂ : List ℕ} {r : St
           let o′ = i′ .walked (either done y z) later (ap (λ (l : List Form). Either ∷ One ∷ Close ∷ l) (o .next a)) (tt, v′, v″) (omega arith) in
           record {
             outcome = one-then x y z (passed (take (r .count) s₂)) (omega arith) (was-passed o a)
-                ∙ ap (λ q. walkWith (walkAt d (procsIn ws) w) w m q (either done y z)) (sym (back .same)) ∙ o′ .outcome;
+                ∙ ap (λ q. walkIn ws d w m q (either done y z)) (sym (back .same)) ∙ o′ .outcome;
             next = o′ .next;
             short = omega (arith, o′ .short);
           }
 
 -- its second block, as if the first were empty
 module _ {ws : List ℕ} {d at q m w n k : ℕ} {s s₁ s₂ : List ℕ} {r : Stop} (u : PutAt s n (stepOf 2 m) k s₁) (behind : (at ≤ q) × (at < length ws → q ≡ at + 1))
-    (i : Walks ws d (tableForms (drop q ws)) q m w s₁ k r s₂) where
+    (i : Walks ws d (formsFrom ws q) q m w s₁ k r s₂) where
   two-only : (later : List Form) (P : Block → Type 0)
-      → ((y z : Block) → Written (λ q. q < length (procsIn ws)) y → Written (λ q. q < length (procsIn ws)) z → tableForms (drop at ws) ≡ Two ∷ blockForms y (Close ∷ Close ∷ blockForms z (Close ∷ later)) → P (either done y z))
-      → (b : Block) → Written (λ q. q < length (procsIn ws)) b → Either ∷ One ∷ Close ∷ tableForms (drop at ws) ≡ blockForms b (Close ∷ later) → P b
-  two-only later P g = either-only (λ q. q < length (procsIn ws)) later (One ∷ Close ∷ tableForms (drop at ws)) P go
+      → ((y z : Block) → Inside ws y → Inside ws z → formsFrom ws at ≡ Two ∷ blockForms y (Close ∷ Close ∷ blockForms z (Close ∷ later)) → P (either done y z))
+      → (b : Block) → Inside ws b → Either ∷ One ∷ Close ∷ formsFrom ws at ≡ blockForms b (Close ∷ later) → P b
+  two-only later P g = either-only (Within ws) later (One ∷ Close ∷ formsFrom ws at) P go
     where
-      go : (x y z : Block) → Written (λ q. q < length (procsIn ws)) x → Written (λ q. q < length (procsIn ws)) y → Written (λ q. q < length (procsIn ws)) z
-          → One ∷ Close ∷ tableForms (drop at ws) ≡ One ∷ blockForms x (Close ∷ Two ∷ blockForms y (Close ∷ Close ∷ blockForms z (Close ∷ later))) → P (either x y z)
+      go : (x y z : Block) → Inside ws x → Inside ws y → Inside ws z
+          → One ∷ Close ∷ formsFrom ws at ≡ One ∷ blockForms x (Close ∷ Two ∷ blockForms y (Close ∷ Close ∷ blockForms z (Close ∷ later))) → P (either x y z)
       go x y z v v′ v″ e =
-          close-only (λ q. q < length (procsIn ws)) (Two ∷ blockForms y (Close ∷ Close ∷ blockForms z (Close ∷ later))) (tableForms (drop at ws)) (λ x. P (either x y z)) (λ h. g y z v′ v″ h) x v (cc)
+          close-only (Within ws) (Two ∷ blockForms y (Close ∷ Close ∷ blockForms z (Close ∷ later))) (formsFrom ws at) (λ x. P (either x y z)) (λ h. g y z v′ v″ h) x v (cc)
 
-  two-walked : (y z : Block) → Written (λ q. q < length (procsIn ws)) y → (later : List Form) → tableForms (drop at ws) ≡ Two ∷ blockForms y (Close ∷ later)
-      → n + sizeWith (sizeAt d (procsIn ws)) (either done y z) ≤ length s → BlockWalked ws d m w s₁ k y later r s₂
+  two-walked : (y z : Block) → Inside ws y → (later : List Form) → formsFrom ws at ≡ Two ∷ blockForms y (Close ∷ later)
+      → n + sizeIn ws d (either done y z) ≤ length s → BlockWalked ws d m w s₁ k y later r s₂
   two-walked y z v later e h =
       let a = size-two (sizeAt d (procsIn ws)) y z in
       i .walked y later (table-behind ws at q Two (blockForms y (Close ∷ later)) (behind .1) e) v (omega arith)
 
-  two-then : (y z : Block) (o : Walked) → n < length s → walkWith (walkAt d (procsIn ws) w) w m (take k s₁) y ≡ o
-      → walkWith (walkAt d (procsIn ws) w) w m (take n s) (either done y z) ≡ andThen o (λ q. walkWith (walkAt d (procsIn ws) w) w m q z)
+  two-then : (y z : Block) (o : Walked) → n < length s → walkIn ws d w m (take k s₁) y ≡ o
+      → walkIn ws d w m (take n s) (either done y z) ≡ andThen o (λ q. walkIn ws d w m q z)
   two-then y z o h e =
-      walk-two (walkAt d (procsIn ws) w) w m (take n s) y z ∙ ap (λ q. andThen q (λ q. walkWith (walkAt d (procsIn ws) w) w m q z)) (ap (λ q. walkWith (walkAt d (procsIn ws) w) w m q y) (sym (u .put h)) ∙ e)
+      walk-two (walkAt d (procsIn ws) w) w m (take n s) y z ∙ ap (λ q. andThen q (λ q. walkIn ws d w m q z)) (ap (λ q. walkIn ws d w m q y) (sym (u .put h)) ∙ e)
 
-  pub two-walks-found : r .reached ≡ true → Walks ws d (Either ∷ One ∷ Close ∷ tableForms (drop at ws)) at m w s n r s₂
+  pub two-walks-found : r .reached ≡ true → Walks ws d (Either ∷ One ∷ Close ∷ formsFrom ws at) at m w s n r s₂
   two-walks-found a = record {
     buffer = kept-then (u .buffer) (i .buffer);
     forward = λ b. not-both a b;
-    walked = λ b later e v. two-only later (λ b. n + sizeWith (sizeAt d (procsIn ws)) b ≤ length s → BlockWalked ws d m w s n b later r s₂) (go later) b v e;
+    walked = λ b later e v. two-only later (Goes ws d m w s n later r s₂) (go later) b v e;
   }
     where
-      go : (later : List Form) (y z : Block) → Written (λ q. q < length (procsIn ws)) y → Written (λ q. q < length (procsIn ws)) z → tableForms (drop at ws) ≡ Two ∷ blockForms y (Close ∷ Close ∷ blockForms z (Close ∷ later))
-          → n + sizeWith (sizeAt d (procsIn ws)) (either done y z) ≤ length s → BlockWalked ws d m w s n (either done y z) later r s₂
+      go : (later : List Form) (y z : Block) → Inside ws y → Inside ws z → formsFrom ws at ≡ Two ∷ blockForms y (Close ∷ Close ∷ blockForms z (Close ∷ later))
+          → Goes ws d m w s n later r s₂ (either done y z)
       go later y z v v′ e h =
           let c = size-two (sizeAt d (procsIn ws)) y z in
           let o = two-walked y z v (Close ∷ blockForms z (Close ∷ later)) e h in
@@ -508,15 +510,15 @@ module _ {ws : List ℕ} {d at q m w n k : ℕ} {s s₁ s₂ : List ℕ} {r : St
           }
 
   pub two-walks-past : {q′ : ℕ} {r′ : Stop} {s₃ : List ℕ} → r .reached ≡ false → (r .next ≤ q′) × (r .next < length ws → q′ ≡ r .next + 1)
-      → Walks ws d (tableForms (drop q′ ws)) q′ m w s₂ (r .count) r′ s₃ → Walks ws d (Either ∷ One ∷ Close ∷ tableForms (drop at ws)) at m w s n r′ s₃
+      → Walks ws d (formsFrom ws q′) q′ m w s₂ (r .count) r′ s₃ → Walks ws d (Either ∷ One ∷ Close ∷ formsFrom ws at) at m w s n r′ s₃
   two-walks-past {q′} {r′} {s₃} a behind′ i′ = record {
     buffer = kept-then (kept-then (u .buffer) (i .buffer)) (i′ .buffer);
     forward = λ b. let c = i .forward a in let c′ = i′ .forward b in omega (arith, behind .0, behind′ .0);
-    walked = λ b later e v. two-only later (λ b. n + sizeWith (sizeAt d (procsIn ws)) b ≤ length s → BlockWalked ws d m w s n b later r′ s₃) (go later) b v e;
+    walked = λ b later e v. two-only later (Goes ws d m w s n later r′ s₃) (go later) b v e;
   }
     where
-      go : (later : List Form) (y z : Block) → Written (λ q. q < length (procsIn ws)) y → Written (λ q. q < length (procsIn ws)) z → tableForms (drop at ws) ≡ Two ∷ blockForms y (Close ∷ Close ∷ blockForms z (Close ∷ later))
-          → n + sizeWith (sizeAt d (procsIn ws)) (either done y z) ≤ length s → BlockWalked ws d m w s n (either done y z) later r′ s₃
+      go : (later : List Form) (y z : Block) → Inside ws y → Inside ws z → formsFrom ws at ≡ Two ∷ blockForms y (Close ∷ Close ∷ blockForms z (Close ∷ later))
+          → Goes ws d m w s n later r′ s₃ (either done y z)
       go later y z v v′ e h =
           let c = size-two (sizeAt d (procsIn ws)) y z in
           let o = two-walked y z v (Close ∷ blockForms z (Close ∷ later)) e h in

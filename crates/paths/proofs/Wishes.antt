@@ -1,27 +1,23 @@
 -- The block of a procedure begins with a hold just if the form at its place is one.
 use Prim.Native.Nat.{ℕ, _+_, _^_, _<_, _≤_}
-use native.Mathlib.Nat.{le-refl}
 use native.Mathlib.Omega.{arith}
 use mathlib.Core.List.{List, _∷_}
 use mathlib.Core.Logic.{_⊎_, inl, inr}
-use mathlib.Core.Path.{_≡_, refl, sym, ap, _∙_}
+use mathlib.Core.Path.{_≡_, refl, sym, _∙_}
 use lib.ListN.{length, drop, getD}
 use Rattle.text.specs.declared.Form.{Form}
 use Rattle.text.specs.declared.Form.the-variants.{Close, Hold}
-use Rattle.semantics.specs.Plan.{Block, done, skip, call, hold, loop, either, end, bodyIn, Written}
+use Rattle.semantics.specs.Plan.{Block, done, skip, call, hold, loop, either, end, bodyIn}
 use Rattle.semantics.proofs.Remainders.{body-below}
 use Rattle.semantics.proofs.Closing.{wishOf}
 use Rattle.plan.specs.Grammar.{blockForms}
 use Rattle.plan.specs.Table.{formAt, tableForms}
 use Rattle.plan.specs.Settled.{tablePlan, PlanTable}
+use Rattle.paths.specs.Walks.{Within, Inside}
 use Rattle.paths.specs.Wishes.{WishAt}
 use Rattle.paths.proofs.Blocks.{none-begins, hold-only, table-more, table-none}
 
--- calls within the plan
-abbrev Within : List ℕ → ℕ → Type 0
-Within ws q = q < length (tablePlan ws .procs)
-
-within : (ws : List ℕ) → PlanTable ws → (p : ℕ) → p < length (tablePlan ws .procs) → Written (Within ws) (bodyIn (tablePlan ws .procs) p)
+within : (ws : List ℕ) → PlanTable ws → (p : ℕ) → p < length (tablePlan ws .procs) → Inside ws (bodyIn (tablePlan ws .procs) p)
 within ws t p h = body-below (tablePlan ws .procs) (λ q. q) (t .settled .sound) (length (tablePlan ws .procs)) p (omega arith)
 
 -- a block that does not begin with a hold wants no lock

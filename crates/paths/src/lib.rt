@@ -3,12 +3,10 @@ ghost use mathlib.Core.Path.{_≡_};
 ghost use mathlib.Core.Bool.{false};
 ghost use mathlib.Core.List.{_∷_};
 ghost use Prim.Native.Nat.{_+_, _*_, _^_, _<_, _≤_};
-ghost use lib.Bits.{bitOr};
-ghost use lib.ListN.{length, drop, getD};
+ghost use lib.ListN.{length, getD};
 ghost use Rattle.text.specs.declared.Form.the-variants.{Close, Skip, Call, Hold, Loop, Either, One};
 ghost use Rattle.semantics.proofs.Paths.{stepOf, gives, holding};
-ghost use Rattle.plan.specs.Table.{tableForms};
-ghost use Rattle.paths.specs.Walks.{stopped, PutAt, Ready, Walks, Asked, PathWritten};
+ghost use Rattle.paths.specs.Walks.{formsFrom, stopped, PutAt, Ready, Walks, Asked, PathWritten};
 ghost use Rattle.paths.specs.Wishes.{WishAt};
 use text::Form;
 
@@ -104,7 +102,7 @@ fn walk(
     n: usize,
 ) -> Stop
     requires { ⌜ Ready (now table) (now starts) mask (now steps) n ⌝ }
-    ensures { λ r. ⌜ Walks (now (table .entry)) depth (tableForms (drop at (now (table .entry)))) at mask word (now (steps .entry)) n r (now (steps .exit)) ⌝ }
+    ensures { λ r. ⌜ Walks (now (table .entry)) depth (formsFrom (now (table .entry)) at) at mask word (now (steps .entry)) n r (now (steps .exit)) ⌝ }
 {
     if table.len() <= at {
         return passed(at, n);
@@ -138,7 +136,7 @@ fn walk_skip(
     n: usize,
 ) -> Stop
     requires { ⌜ Ready (now table) (now starts) mask (now steps) n ⌝ }
-    ensures { λ r. ⌜ Walks (now (table .entry)) depth (Skip ∷ tableForms (drop at (now (table .entry)))) at mask word (now (steps .entry)) n r (now (steps .exit)) ⌝ }
+    ensures { λ r. ⌜ Walks (now (table .entry)) depth (Skip ∷ formsFrom (now (table .entry)) at) at mask word (now (steps .entry)) n r (now (steps .exit)) ⌝ }
 {
     let k = put(steps, n, 0, mask);
     walk(table, starts, depth, at, mask, word, steps, k)
@@ -157,7 +155,7 @@ fn walk_call(
     n: usize,
 ) -> Stop
     requires { ⌜ Ready (now table) (now starts) mask (now steps) n ⌝ }
-    ensures { λ r. ⌜ Walks (now (table .entry)) depth (Call p ∷ tableForms (drop at (now (table .entry)))) at mask word (now (steps .entry)) n r (now (steps .exit)) ⌝ }
+    ensures { λ r. ⌜ Walks (now (table .entry)) depth (Call p ∷ formsFrom (now (table .entry)) at) at mask word (now (steps .entry)) n r (now (steps .exit)) ⌝ }
 {
     let k = put(steps, n, 0, mask);
     if depth == 0 {
@@ -192,7 +190,7 @@ fn walk_hold(
     n: usize,
 ) -> Stop
     requires { ⌜ Ready (now table) (now starts) mask (now steps) n ⌝ }
-    ensures { λ r. ⌜ Walks (now (table .entry)) depth (Hold l ∷ tableForms (drop at (now (table .entry)))) at mask word (now (steps .entry)) n r (now (steps .exit)) ⌝ }
+    ensures { λ r. ⌜ Walks (now (table .entry)) depth (Hold l ∷ formsFrom (now (table .entry)) at) at mask word (now (steps .entry)) n r (now (steps .exit)) ⌝ }
 {
     if gives_word(mask, l, word) {
         return Stop {
@@ -223,7 +221,7 @@ fn walk_loop(
     n: usize,
 ) -> Stop
     requires { ⌜ Ready (now table) (now starts) mask (now steps) n ⌝ }
-    ensures { λ r. ⌜ Walks (now (table .entry)) depth (Loop ∷ tableForms (drop at (now (table .entry)))) at mask word (now (steps .entry)) n r (now (steps .exit)) ⌝ }
+    ensures { λ r. ⌜ Walks (now (table .entry)) depth (Loop ∷ formsFrom (now (table .entry)) at) at mask word (now (steps .entry)) n r (now (steps .exit)) ⌝ }
 {
     let k = put(steps, n, 1, mask);
     let inside = walk(table, starts, depth, at, mask, word, steps, k);
@@ -246,7 +244,7 @@ fn walk_either(
     n: usize,
 ) -> Stop
     requires { ⌜ Ready (now table) (now starts) mask (now steps) n ⌝ }
-    ensures { λ r. ⌜ Walks (now (table .entry)) depth (Either ∷ tableForms (drop at (now (table .entry)))) at mask word (now (steps .entry)) n r (now (steps .exit)) ⌝ }
+    ensures { λ r. ⌜ Walks (now (table .entry)) depth (Either ∷ formsFrom (now (table .entry)) at) at mask word (now (steps .entry)) n r (now (steps .exit)) ⌝ }
 {
     let k = put(steps, n, 1, mask);
     let one = walk(table, starts, depth, after(table, at), mask, word, steps, k);
@@ -268,7 +266,7 @@ fn walk_two(
     n: usize,
 ) -> Stop
     requires { ⌜ Ready (now table) (now starts) mask (now steps) n ⌝ }
-    ensures { λ r. ⌜ Walks (now (table .entry)) depth (Either ∷ One ∷ Close ∷ tableForms (drop at (now (table .entry)))) at mask word (now (steps .entry)) n r (now (steps .exit)) ⌝ }
+    ensures { λ r. ⌜ Walks (now (table .entry)) depth (Either ∷ One ∷ Close ∷ formsFrom (now (table .entry)) at) at mask word (now (steps .entry)) n r (now (steps .exit)) ⌝ }
 {
     let k = put(steps, n, 2, mask);
     let two = walk(table, starts, depth, after(table, at), mask, word, steps, k);

@@ -1,12 +1,10 @@
--- The measure falls.
+-- Each function puts the steps that `walkWith` puts at its statement, and calls the others for the parts of the statement and for what follows it (`Walking`).
+-- A call goes one deeper, and every other call of a function goes forward in the table (`Measure`).
 use borrow.Author.Needs.{needs}
-use native.Mathlib.Omega.{arith}
-use Prim.Native.Nat.{_+_, _*_, _-_}
+use Prim.Native.Nat.{_+_, _-_}
 use lib.ListN.{length}
 use denote.Ref.{now}
 use native.Mathlib.Nat.{le-refl, le-trans}
-use mathlib.Core.Path.{refl}
-use Rattle.text.specs.declared.Form.the-variants.{Plan, Proc, Thread, Close, Skip, Call, Hold, Loop, Either, One, Two}
 use Rattle.paths.proofs.Blocks.{inBlock}
 use Rattle.paths.proofs.Measure.{measure, statement-falls, walk-falls, two-falls, rest-falls, deeper-falls}
 use Rattle.paths.proofs.Buffers.{ready-next, ready-back}
@@ -122,7 +120,22 @@ walk-two-below t =
     and 3 walk-two-kinds.ps (falls 3 walk-two-kinds.ps _<_ μ-walk-two t) walk-two.Pre
 
 abbrev walk-calls : ℕ → walk-lts.Claims
-walk-calls t = (passed-reads.Asked, passed-reads.Learnt, form-at-reads.Asked, form-at-reads.Learnt, walk-skip-below t, walk-skip.Post, walk-call-below t, walk-call.Post, walk-hold-below t, walk-hold.Post, walk-loop-below t, walk-loop.Post, walk-either-below t, walk-either.Post)
+walk-calls t = (
+  passed-reads.Asked,
+  passed-reads.Learnt,
+  form-at-reads.Asked,
+  form-at-reads.Learnt,
+  walk-skip-below t,
+  walk-skip.Post,
+  walk-call-below t,
+  walk-call.Post,
+  walk-hold-below t,
+  walk-hold.Post,
+  walk-loop-below t,
+  walk-loop.Post,
+  walk-either-below t,
+  walk-either.Post,
+)
 
 abbrev walk-call-calls : ℕ → walk-call-lts.Claims
 walk-call-calls t = (put-reads.Asked, put-reads.Learnt, walk-below t, walk.Post, start-of-reads.Asked, start-of-reads.Learnt)
@@ -366,7 +379,8 @@ walk-either-walk-two-requires t c κs =
     let c₃ = c₂ .before .before in
     let c₄ = c₃ .before .before .before in
     let c₅ = c₄ .before .before .before .before .before in
-    (two-falls _ _ _ _ _ (c₅ .pre .0) (le-trans (c₃ .after .ensures .0) (c₂ .walk .ensures .forward (c₁ .if1 .left))), ready-back (c₅ .pre .1) (c₄ .put .ensures .buffer) (c₂ .walk .ensures .buffer))
+    let later = le-trans (c₃ .after .ensures .0) (c₂ .walk .ensures .forward (c₁ .if1 .left)) in
+    (two-falls _ _ _ _ _ (c₅ .pre .0) later, ready-back (c₅ .pre .1) (c₄ .put .ensures .buffer) (c₂ .walk .ensures .buffer))
 
 walk-either-same-length-2 : (t : ℕ) → walk-either-lts.Need-same-length-2 (walk-either-calls t) (walk-either-at t) walk-either.Post
 walk-either-same-length-2 t c = search needs
@@ -492,7 +506,8 @@ walk-two-walk-requires-2 t c κs =
     let c₃ = c₂ .before .before .before in
     let c₄ = c₃ .before .before in
     let c₅ = c₄ .before .before .before .before .before .before .before .before in
-    (rest-falls _ _ _ _ _ (c₅ .pre .0) (le-trans (c₄ .after .ensures .0) (le-trans (c₃ .walk .ensures .forward (c₂ .if1 .left)) (c₁ .after2 .ensures .0))), ready-next (c₅ .pre .1) (c₅ .pre .1 .locks) (c₃ .walk .ensures .buffer .room))
+    let later = le-trans (c₄ .after .ensures .0) (le-trans (c₃ .walk .ensures .forward (c₂ .if1 .left)) (c₁ .after2 .ensures .0)) in
+    (rest-falls _ _ _ _ _ (c₅ .pre .0) later, ready-next (c₅ .pre .1) (c₅ .pre .1 .locks) (c₃ .walk .ensures .buffer .room))
 
 walk-two-same-length-2 : (t : ℕ) → walk-two-lts.Need-same-length-2 (walk-two-calls t) (walk-two-at t) walk-two.Post
 walk-two-same-length-2 t c = search needs

@@ -4,40 +4,28 @@ use Rattle.paths.proofs.Wishes.{wish-ended, wish-hold, wish-other, othe
 use borrow.Author.Needs.{needs}
 use Rattle.paths.proofs.first_hold.Statement.{statement}
 use Rattle.paths.proofs.first_hold.Tie as tie
-use Rattle.paths.proofs.first_hold.Reads as reads
-use Rattle.paths.proofs.first_hold.Lts as lts
-use Rattle.paths.proofs.lock_bit.Reads as lock-bit-reads
-use Rattle.plan.proofs.form_at.Reads as form-at-reads
 
--- src/lib.rt:328:9
 returns : tie.Need-returns
 returns c = search (wish-ended, needs)
 
--- src/lib.rt:330:30
 mul-form-at : tie.Need-mul-form-at
 mul-form-at c = search needs
 
--- src/lib.rt:330:30
 shared-slice-read-form-at : tie.Need-shared-slice-read-form-at
 shared-slice-read-form-at c = search needs
 
--- src/lib.rt:330:9
 form-at-requires : tie.Need-form-at-requires
 form-at-requires c κs = search needs
 
--- src/lib.rt:331:20
 enum-known-form : tie.Need-enum-known-form
 enum-known-form c = search needs
 
--- src/lib.rt:332:9
 returns-2 : tie.Need-returns-2
 returns-2 c = wish-other _ _ _ (omega arith) (c .before .form-at .ensures) (λ l e. other-tags (rw e at (c .match .keys2)))
 
--- src/lib.rt:334:5
 lock-bit-requires : tie.Need-lock-bit-requires
 lock-bit-requires c κs = search needs
 
--- src/lib.rt:324:1
 returns-3 : tie.Need-returns-3
 returns-3 c = search (wish-hold, needs)
 

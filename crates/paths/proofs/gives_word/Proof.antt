@@ -3,27 +3,19 @@ use Rattle.paths.proofs.Locks.{gives-not, gives-tested}
 use borrow.Author.Needs.{needs}
 use Rattle.paths.proofs.gives_word.Statement.{statement}
 use Rattle.paths.proofs.gives_word.Tie as tie
-use Rattle.paths.proofs.gives_word.Reads as reads
-use Rattle.paths.proofs.gives_word.Lts as lts
-use Rattle.paths.proofs.lock_bit.Reads as lock-bit-reads
 
--- src/lib.rt:44:15
 lock-bit-requires : tie.Need-lock-bit-requires
 lock-bit-requires c κs = search needs
 
--- src/lib.rt:45:9
 returns : tie.Need-returns
 returns c = gives-not _ _ _ _ (c .before .lock-bit .ensures .1) (c .if1 .taken)
 
--- src/lib.rt:47:5
 mul-result : tie.Need-mul-result
 mul-result c = search needs
 
--- src/lib.rt:47:5
 add-result : tie.Need-add-result
 add-result c = search needs
 
--- src/lib.rt:40:1
 returns-2 : tie.Need-returns-2
 returns-2 c = gives-tested _ _ _ _ (c .before .lock-bit .ensures .1) (c .if1 .left)
 

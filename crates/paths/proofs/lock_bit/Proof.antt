@@ -3,18 +3,13 @@ use Rattle.paths.proofs.Locks.{bit-shifted}
 use borrow.Author.Needs.{needs}
 use Rattle.paths.proofs.lock_bit.Statement.{statement}
 use Rattle.paths.proofs.lock_bit.Tie as tie
-use Rattle.paths.proofs.lock_bit.Reads as reads
-use Rattle.paths.proofs.lock_bit.Lts as lts
 
--- src/lib.rt:26:16
 shl-result : tie.Need-shl-result
 shl-result c = search needs
 
--- src/lib.rt:26:9
 returns : tie.Need-returns
 returns c = search (bit-shifted, needs)
 
--- src/lib.rt:22:1
 returns-2 : tie.Need-returns-2
 returns-2 c = search needs
 

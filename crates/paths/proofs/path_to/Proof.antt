@@ -3,31 +3,22 @@ use Rattle.paths.proofs.Found.{path-written}
 use borrow.Author.Needs.{needs}
 use Rattle.paths.proofs.path_to.Statement.{statement}
 use Rattle.paths.proofs.path_to.Tie as tie
-use Rattle.paths.proofs.path_to.Reads as reads
-use Rattle.paths.proofs.path_to.Lts as lts
-use Rattle.paths.proofs.walk.Reads as walk-reads
 
--- src/lib.rt:303:17
 mul-start : tie.Need-mul-start
 mul-start c = search needs
 
--- src/lib.rt:303:17
 shared-slice-read-start : tie.Need-shared-slice-read-start
 shared-slice-read-start c = search needs
 
--- src/lib.rt:304:36
 sub-walk : tie.Need-sub-walk
 sub-walk c = search needs
 
--- src/lib.rt:304:9
 walk-requires : tie.Need-walk-requires
 walk-requires c κs = search needs
 
--- src/lib.rt:292:1
 same-length : tie.Need-same-length
 same-length c = search needs
 
--- src/lib.rt:292:1
 returns : tie.Need-returns
 returns c = search (path-written, needs)
 

@@ -3,15 +3,10 @@ use Rattle.paths.proofs.Locks.{bit-joined}
 use borrow.Author.Needs.{needs}
 use Rattle.paths.proofs.with_lock.Statement.{statement}
 use Rattle.paths.proofs.with_lock.Tie as tie
-use Rattle.paths.proofs.with_lock.Reads as reads
-use Rattle.paths.proofs.with_lock.Lts as lts
-use Rattle.paths.proofs.lock_bit.Reads as lock-bit-reads
 
--- src/lib.rt:36:12
 lock-bit-requires : tie.Need-lock-bit-requires
 lock-bit-requires c κs = search needs
 
--- src/lib.rt:32:1
 returns : tie.Need-returns
 returns c = bit-joined _ _ _ 0 (c .lock-bit .ensures .1) (c .before .pre) (c .lock-bit .ensures .0)
 
