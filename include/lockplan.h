@@ -1,0 +1,122 @@
+/* Lock plans: the verdict and the pair list, on the caller's own buffers.
+ *
+ * A call answers with one 64-bit number, kind + 256 * a + 65536 * b:
+ *
+ *   call      kind                    a            b
+ *   verdict   0 LOCKPLAN_FREE         0            0
+ *             1 LOCKPLAN_DEADLOCK     stuck set    number of schedule entries
+ *             2 LOCKPLAN_REFUSED      rule         line (0 where none is named)
+ *   pairs     0 LOCKPLAN_LISTED       0            number of pairs
+ *             2 LOCKPLAN_REFUSED      rule         line (0 where none is named)
+ *
+ * The stuck set has bit t for thread t. An answer fills the buffer's start, each
+ * entry or word lowest byte first, and keeps the rest; free and refused keep
+ * the whole buffer. Lengths are in bytes. A buffer of fewer whole entries or
+ * words than the constants below is refused with rule 1. No pointer is null,
+ * also where its length is 0, and the two buffers do not overlap.
+ *
+ * For the stack that a call needs see docs/ANSWERS.md.
+ */
+#ifndef LOCKPLAN_H
+#define LOCKPLAN_H
+
+#include <stddef.h>
+#include <stdint.h>
+
+#ifdef __cplusplus
+extern "C" {
+#endif
+
+/* Least number of 16-bit entries in the buffer of a verdict. */
+#define LOCKPLAN_ENTRIES 6144
+/* Least number of 64-bit words in the buffer of a pair list. */
+#define LOCKPLAN_WORDS 128
+/* The same in bytes. */
+#define LOCKPLAN_ENTRY_BYTES (2 * LOCKPLAN_ENTRIES)
+#define LOCKPLAN_WORD_BYTES (8 * LOCKPLAN_WORDS)
+
+#define LOCKPLAN_FREE 0
+#define LOCKPLAN_LISTED 0
+#define LOCKPLAN_DEADLOCK 1
+#define LOCKPLAN_REFUSED 2
+
+uint64_t lockplan_verdict(const uint8_t *text, size_t text_len,
+                          uint8_t *out, size_t out_len);
+
+uint64_t lockplan_pairs(const uint8_t *text, size_t text_len, uint64_t proc,
+                        uint8_t *out, size_t out_len);
+
+/* The parts of an answer. */
+
+static inline unsigned lockplan_kind(uint64_t answer)
+{
+    return (unsigned)(answer & 255);
+}
+
+/* The a of an answer: the stuck set of a deadlock, the rule of a refusal. */
+static inline unsigned lockplan_stuck(uint64_t answer)
+{
+    return (unsigned)(answer >> 8 & 255);
+}
+
+static inline unsigned lockplan_rule(uint64_t answer)
+{
+    return (unsigned)(answer >> 8 & 255);
+}
+
+/* The b of an answer: the number of entries or pairs, the line of a refusal. */
+static inline uint64_t lockplan_count(uint64_t answer)
+{
+    return answer >> 16;
+}
+
+static inline uint64_t lockplan_line(uint64_t answer)
+{
+    return answer >> 16;
+}
+
+/* Entry k of a schedule: thread + 8 * choice. Choice 1 is one or entering, 2 is
+ * two or leaving, 0 is every other step. */
+
+static inline unsigned lockplan_entry(const uint8_t *out, size_t k)
+{
+    return out[2 * k] + 256u * out[2 * k + 1];
+}
+
+static inline unsigned lockplan_thread(unsigned entry)
+{
+    return entry % 8;
+}
+
+static inline unsigned lockplan_choice(unsigned entry)
+{
+    return entry / 8;
+}
+
+/* Word k of a pair list: the locks held as a set of bits, times 32, plus the
+ * lock wanted. */
+
+static inline uint64_t lockplan_word(const uint8_t *out, size_t k)
+{
+    uint64_t word = 0;
+    int byte;
+    for (byte = 7; byte >= 0; byte--)
+        word = word * 256 + out[8 * k + (size_t)byte];
+    return word;
+}
+
+static inline unsigned lockplan_wanted(uint64_t word)
+{
+    return (unsigned)(word % 32);
+}
+
+static inline uint32_t lockplan_held(uint64_t word)
+{
+    return (uint32_t)(word / 32);
+}
+
+#ifdef __cplusplus
+}
+#endif
+
+#endif

@@ -1,0 +1,112 @@
+/* Reads a plan from standard input and prints its report by the C calls: the
+ * pairs of each procedure and, with LOCKPLAN_VERDICT defined, the verdict.
+ *
+ *   cc -std=c99 -I ../../include -DLOCKPLAN_VERDICT caller.c \
+ *      -L ../../target/staticlib -llockplan -o caller
+ *
+ * For the stack that a call needs see docs/ANSWERS.md.
+ */
+#include <stdio.h>
+#include <string.h>
+
+#include "lockplan.h"
+
+/* One byte more than the longest plan: no more is needed to have it refused. */
+static uint8_t text[32768 + 1];
+
+/* Each buffer with some bytes behind it, which the calls keep. */
+static uint8_t words[LOCKPLAN_WORD_BYTES + 8];
+static uint8_t entries[LOCKPLAN_ENTRY_BYTES + 8];
+
+static int refused(uint64_t answer)
+{
+    printf("(refused %u %llu)\n)\n", lockplan_rule(answer),
+           (unsigned long long)lockplan_line(answer));
+    return 0;
+}
+
+static void print_pairs(uint64_t count)
+{
+    uint64_t k;
+    unsigned lock;
+    for (k = 0; k < count; k++) {
+        uint64_t word = lockplan_word(words, (size_t)k);
+        printf("(pair %u", lockplan_wanted(word));
+        for (lock = 0; lock < 32; lock++)
+            if (lockplan_held(word) >> lock & 1)
+                printf(" %u", lock);
+        printf(")\n");
+    }
+}
+
+#ifdef LOCKPLAN_VERDICT
+static void print_verdict(uint64_t answer)
+{
+    uint64_t k;
+    unsigned thread;
+    if (lockplan_kind(answer) == LOCKPLAN_FREE) {
+        printf("(free)\n");
+        return;
+    }
+    printf("(deadlock\n(stuck");
+    for (thread = 0; thread < 8; thread++)
+        if (lockplan_stuck(answer) >> thread & 1)
+            printf(" %u", thread);
+    printf(")\n");
+    for (k = 0; k < lockplan_count(answer); k++) {
+        unsigned entry = lockplan_entry(entries, (size_t)k);
+        printf("(step %u %u)\n", lockplan_thread(entry), lockplan_choice(entry));
+    }
+    printf(")\n");
+}
+#endif
+
+static int kept(const uint8_t *buffer, size_t from, size_t to)
+{
+    for (; from < to; from++)
+        if (buffer[from] != 0xa5)
+            return 0;
+    return 1;
+}
+
+int main(void)
+{
+    size_t length = fread(text, 1, sizeof text, stdin);
+    uint64_t answer, proc;
+
+    if (ferror(stdin)) {
+        perror("caller");
+        return 2;
+    }
+    printf("(report\n");
+    for (proc = 0;; proc++) {
+        memset(words, 0xa5, sizeof words);
+        answer = lockplan_pairs(text, length, proc, words, LOCKPLAN_WORD_BYTES);
+        if (lockplan_kind(answer) == LOCKPLAN_REFUSED) {
+            if (!kept(words, 0, sizeof words))
+                return 3;
+            /* Rule 11: there is no such procedure, the one before was the last. */
+            if (lockplan_rule(answer) == 11)
+                break;
+            return refused(answer);
+        }
+        if (!kept(words, 8 * (size_t)lockplan_count(answer), sizeof words))
+            return 3;
+        printf("(proc %llu\n", (unsigned long long)proc);
+        print_pairs(lockplan_count(answer));
+        printf(")\n");
+    }
+#ifdef LOCKPLAN_VERDICT
+    memset(entries, 0xa5, sizeof entries);
+    answer = lockplan_verdict(text, length, entries, LOCKPLAN_ENTRY_BYTES);
+    if (lockplan_kind(answer) == LOCKPLAN_REFUSED)
+        return refused(answer);
+    if (!kept(entries, 2 * (size_t)lockplan_count(answer), sizeof entries))
+        return 3;
+    print_verdict(answer);
+#else
+    (void)entries;
+#endif
+    printf(")\n");
+    return 0;
+}

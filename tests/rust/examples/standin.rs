@@ -1,0 +1,31 @@
+//! The C functions of the library made of the reference, to try the C program
+//! and the comparison without the library.
+
+use lockplan_tests::standin;
+
+/// # Safety
+/// `text` and `out` point to as many bytes as their lengths say.
+#[no_mangle]
+pub unsafe extern "C" fn lockplan_verdict(
+    text: *const u8,
+    text_len: usize,
+    out: *mut u8,
+    out_len: usize,
+) -> u64 {
+    let text = std::slice::from_raw_parts(text, text_len);
+    standin::verdict(text, std::slice::from_raw_parts_mut(out, out_len))
+}
+
+/// # Safety
+/// `text` and `out` point to as many bytes as their lengths say.
+#[no_mangle]
+pub unsafe extern "C" fn lockplan_pairs(
+    text: *const u8,
+    text_len: usize,
+    proc: u64,
+    out: *mut u8,
+    out_len: usize,
+) -> u64 {
+    let text = std::slice::from_raw_parts(text, text_len);
+    standin::pairs(text, proc, std::slice::from_raw_parts_mut(out, out_len))
+}

@@ -1,0 +1,334 @@
+//! The comparison of the library with the reference on one text.
+
+use crate::answer::{Answer, DEADLOCK, FREE, PAIRS, REFUSED};
+use crate::gateway::replay;
+use crate::guard::Pages;
+use crate::random::Random;
+use crate::reference::{read, Plan, Refusal, MAX_PAIRS, SCHEDULE_ENTRIES};
+use crate::verdict::{conflict, pairs_of_threads};
+
+/// Text and output.
+pub type VerdictCall = fn(&[u8], &mut [u8]) -> u64;
+/// Text, procedure and output.
+pub type PairsCall = fn(&[u8], u64, &mut [u8]) -> u64;
+
+/// The calls of a library, those that it has.
+#[derive(Clone, Copy)]
+pub struct Calls {
+    pub verdict: Option<VerdictCall>,
+    pub pairs: Option<PairsCall>,
+}
+
+/// What a text gave, for the summary.
+#[derive(Clone, Copy, Debug, PartialEq, Eq, PartialOrd, Ord)]
+pub enum Outcome {
+    Free,
+    Deadlock,
+    Refused(u8),
+}
+
+/// Counts of the calls made.
+#[derive(Clone, Copy, Debug, Default)]
+pub struct Counts {
+    pub pair_lists: u64,
+    pub verdicts: u64,
+    pub words: u64,
+    pub entries: u64,
+}
+
+/// The memory lent to the calls.
+pub struct Bench {
+    text: Pages,
+    out: Pages,
+    /// What `out` held before the call.
+    before: Vec<u8>,
+    /// The last text and what the reference says of it.
+    last: Option<(Vec<u8>, Result<Plan, Refusal>, Outcome)>,
+    /// Whether buffers also begin and end at inaccessible memory.
+    edges: bool,
+    pub counts: Counts,
+}
+
+impl Bench {
+    pub fn new(edges: bool) -> Bench {
+        let (text, mut out) = (Pages::new(1 << 20), Pages::new(65_536));
+        let before = vec![0; out.bytes().len()];
+        Bench { text, out, before, last: None, edges, counts: Counts::default() }
+    }
+
+    /// Compares the calls on a text; the lent lengths and places come from `random`.
+    pub fn check(&mut self, calls: Calls, text: &[u8], random: &mut Random) -> Result<Outcome, String> {
+        let (known, plan, outcome) = match self.last.take() {
+            Some(last) if last.0 == text => last,
+            _ => said(text),
+        };
+        if let Some(call) = calls.pairs {
+            for proc in requested(&plan, random) {
+                let least = 8 * MAX_PAIRS;
+                let lent = self.lend(text, least, random);
+                self.pairs(call, &plan, proc, lent)?;
+            }
+        }
+        if let Some(call) = calls.verdict {
+            let least = 2 * SCHEDULE_ENTRIES;
+            let lent = self.lend(text, least, random);
+            self.verdict(call, &plan, outcome == Outcome::Deadlock, lent)?;
+        }
+        self.last = Some((known, plan, outcome));
+        Ok(outcome)
+    }
+
+    /// Places a text and an output part of a random length, mostly long enough.
+    fn lend(&mut self, text: &[u8], least: usize, random: &mut Random) -> Lent {
+        let room = self.text.bytes();
+        let start = match random.below(3) {
+            0 => 0,
+            1 => random.below(room.len() - text.len() + 1),
+            _ => room.len() - text.len(),
+        };
+        room[start..start + text.len()].copy_from_slice(text);
+        let room = self.out.bytes();
+        let entry = if least == 8 * MAX_PAIRS { 8 } else { 2 };
+        let len = match random.below(16) {
+            0 => 0,
+            1 => least - 1,
+            2 => least - entry,
+            3 => random.below(least),
+            4..=6 => least,
+            7 | 8 => least + 1,
+            9 => least + entry - 1,
+            10 => least + entry,
+            _ => least + random.below(5_000),
+        };
+        let out = match random.below(4) {
+            0 if self.edges => 0,
+            1 if self.edges => room.len() - len,
+            0 | 1 => 64,
+            2 => 64 + random.below(64),
+            _ => 1 + 2 * random.below((room.len() - len) / 2),
+        };
+        // Bytes that no answer has by chance all over.
+        for bytes in room.chunks_exact_mut(8) {
+            bytes.copy_from_slice(&random.next().to_le_bytes());
+        }
+        self.before.copy_from_slice(room);
+        Lent { start, text: text.to_vec(), out, len }
+    }
+
+    /// What the call must answer by the lent length and the text, if it is refused.
+    fn refusal(plan: &Result<Plan, Refusal>, lent: &Lent, least: usize) -> Option<Refusal> {
+        if lent.len < least {
+            return Some(Refusal { rule: 1, line: 0 });
+        }
+        plan.as_ref().err().copied()
+    }
+
+    fn pairs(
+        &mut self,
+        call: PairsCall,
+        plan: &Result<Plan, Refusal>,
+        proc: u64,
+        lent: Lent,
+    ) -> Result<(), String> {
+        self.counts.pair_lists += 1;
+        let number = {
+            let text = &self.text.bytes()[lent.start..lent.start + lent.text.len()];
+            call(text, proc, &mut self.out.bytes()[lent.out..lent.out + lent.len])
+        };
+        let what = format!("pairs of procedure {proc}, {} bytes lent at offset {}", lent.len, lent.out);
+        let mut expected = std::mem::take(&mut self.before);
+        let refusal = Bench::refusal(plan, &lent, 8 * MAX_PAIRS);
+        let listed = match plan {
+            Ok(plan) if proc < plan.pairs.len() as u64 => Some(&plan.pairs[proc as usize]),
+            _ => None,
+        };
+        let answer = match (refusal, listed) {
+            (Some(refusal), _) => Answer::refused(refusal),
+            (None, None) => Answer::refused(Refusal { rule: 11, line: 0 }),
+            (None, Some(pairs)) => {
+                let words = pairs.iter().flat_map(|pair| pair.word().to_le_bytes());
+                for (place, byte) in expected[lent.out..].iter_mut().zip(words) {
+                    *place = byte;
+                }
+                self.counts.words += pairs.len() as u64;
+                Answer { kind: PAIRS, a: 0, b: pairs.len() as u64 }
+            }
+        };
+        let result = if number == answer.number() {
+            self.same_memory(&expected, &lent)
+        } else {
+            Err(format!("answer {:?}, not {:?}", Answer::new(number), answer))
+        };
+        self.before = expected;
+        result.map_err(|message| format!("{what}: {message}"))
+    }
+
+    fn verdict(
+        &mut self,
+        call: VerdictCall,
+        plan: &Result<Plan, Refusal>,
+        deadlock: bool,
+        lent: Lent,
+    ) -> Result<(), String> {
+        self.counts.verdicts += 1;
+        let number = {
+            let text = &self.text.bytes()[lent.start..lent.start + lent.text.len()];
+            call(text, &mut self.out.bytes()[lent.out..lent.out + lent.len])
+        };
+        let what = format!("verdict, {} bytes lent at offset {}", lent.len, lent.out);
+        let mut expected = std::mem::take(&mut self.before);
+        let refusal = Bench::refusal(plan, &lent, 2 * SCHEDULE_ENTRIES);
+        let answer = Answer::new(number);
+        let result = match (refusal, plan) {
+            (Some(refusal), _) => same_answer(number, Answer::refused(refusal)),
+            (None, Ok(plan)) if deadlock => self.schedule(plan, answer, &mut expected, &lent),
+            (None, _) => same_answer(number, Answer { kind: FREE, a: 0, b: 0 }),
+        };
+        let result = result.and_then(|()| self.same_memory(&expected, &lent));
+        self.before = expected;
+        result.map_err(|message| format!("{what}: {message}"))
+    }
+
+    /// A deadlock's schedule is a run, short enough, with the stuck set at its end.
+    fn schedule(
+        &mut self,
+        plan: &Plan,
+        answer: Answer,
+        expected: &mut [u8],
+        lent: &Lent,
+    ) -> Result<(), String> {
+        if answer.kind != DEADLOCK {
+            return Err(format!("answer {answer:?}, not a deadlock"));
+        }
+        if answer.b > plan.size_of_threads() || answer.b > SCHEDULE_ENTRIES as u64 {
+            return Err(format!("{} entries, more than {}", answer.b, plan.size_of_threads()));
+        }
+        let bytes = 2 * answer.b as usize;
+        let written = &self.out.bytes()[lent.out..lent.out + bytes];
+        expected[lent.out..lent.out + bytes].copy_from_slice(written);
+        let entries: Vec<u16> =
+            written.chunks_exact(2).map(|entry| u16::from_le_bytes([entry[0], entry[1]])).collect();
+        self.counts.entries += answer.b;
+        let state = replay(plan, &entries)
+            .map_err(|index| format!("entry {index} of {} is not permitted", entries.len()))?;
+        let stuck = u64::from(state.largest_stuck(plan));
+        if stuck == 0 {
+            return Err("no thread is stuck at the end of the schedule".into());
+        }
+        if stuck != answer.a {
+            return Err(format!("stuck set {:#b}, not {stuck:#b}", answer.a));
+        }
+        Ok(())
+    }
+
+    /// Nothing but the promised bytes has changed.
+    fn same_memory(&mut self, expected: &[u8], lent: &Lent) -> Result<(), String> {
+        let text = &self.text.bytes()[lent.start..lent.start + lent.text.len()];
+        if text != lent.text {
+            return Err("the text has changed".into());
+        }
+        let found = self.out.bytes();
+        if found == expected {
+            return Ok(());
+        }
+        let at = (0..found.len()).find(|at| found[*at] != expected[*at]).unwrap();
+        let (place, end) = (at as i64 - lent.out as i64, lent.len);
+        let (found, expected) = (found[at], expected[at]);
+        Err(format!("byte {place} of the buffer (of {end}) is {found:#04x}, not {expected:#04x}"))
+    }
+}
+
+/// What the reference says of a text.
+fn said(text: &[u8]) -> (Vec<u8>, Result<Plan, Refusal>, Outcome) {
+    let plan = read(text);
+    let outcome = match &plan {
+        Err(refusal) => Outcome::Refused(refusal.rule),
+        Ok(plan) if conflict(&pairs_of_threads(plan)).is_some() => Outcome::Deadlock,
+        Ok(_) => Outcome::Free,
+    };
+    (text.to_vec(), plan, outcome)
+}
+
+fn same_answer(number: u64, expected: Answer) -> Result<(), String> {
+    if number == expected.number() {
+        return Ok(());
+    }
+    Err(format!("answer {:?}, not {expected:?}", Answer::new(number)))
+}
+
+/// A text and an output part in the memory of a bench.
+struct Lent {
+    start: usize,
+    text: Vec<u8>,
+    out: usize,
+    len: usize,
+}
+
+/// Some procedures whose pairs are requested, present and absent.
+fn requested(plan: &Result<Plan, Refusal>, random: &mut Random) -> Vec<u64> {
+    let count = plan.as_ref().map_or(1, |plan| plan.procs.len());
+    let mut procs: Vec<u64> = (0..count as u64).collect();
+    random.shuffle(&mut procs);
+    procs.truncate(4);
+    let last = count as u64 - 1;
+    match random.below(6) {
+        0 => procs.push(last + 1),
+        1 => procs.push(*random.pick(&[u64::MAX, 1 << 32, 1 << 63, 64, 256, 65_536])),
+        2 => procs.push(last + (1 << 32)),
+        3 => procs.push(last),
+        _ => {}
+    }
+    procs
+}
+
+/// Removes lines while the text still fails, to make it short.
+pub fn shorten(text: &[u8], fails: &mut dyn FnMut(&[u8]) -> bool) -> Vec<u8> {
+    let mut lines: Vec<&[u8]> = text.split_inclusive(|byte| *byte == 10).collect();
+    let mut piece = lines.len() / 2;
+    while piece > 0 {
+        let mut at = 0;
+        while at < lines.len() {
+            let end = (at + piece).min(lines.len());
+            let shorter: Vec<&[u8]> = [&lines[..at], &lines[end..]].concat();
+            if fails(&shorter.concat()) {
+                lines = shorter;
+            } else {
+                at = end;
+            }
+        }
+        piece /= 2;
+    }
+    // An opening line and its closing one together.
+    let mut at = 0;
+    while at < lines.len() {
+        let mut other = at + 1;
+        let mut removed = false;
+        while other < lines.len() {
+            if lines[other] == b")\n" {
+                let mut shorter = lines.clone();
+                shorter.remove(other);
+                shorter.remove(at);
+                if fails(&shorter.concat()) {
+                    lines = shorter;
+                    removed = true;
+                    break;
+                }
+            }
+            other += 1;
+        }
+        if !removed {
+            at += 1;
+        }
+    }
+    lines.concat()
+}
+
+/// The kind of an answer in words.
+pub fn kind(answer: Answer) -> &'static str {
+    match answer.kind {
+        FREE => "free",
+        DEADLOCK => "deadlock",
+        REFUSED => "refused",
+        _ => "unknown",
+    }
+}

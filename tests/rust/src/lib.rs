@@ -1,0 +1,18 @@
+//! A second implementation of the plan rules, a generator of plan texts, and
+//! the comparison of both with the library.
+
+pub mod answer;
+pub mod compare;
+pub mod families;
+pub mod gateway;
+pub mod generate;
+pub mod guard;
+#[cfg(any(feature = "pairs", feature = "verdict"))]
+pub mod library;
+pub mod pairs;
+pub mod random;
+pub mod reference;
+pub mod report;
+pub mod shelf;
+pub mod standin;
+pub mod verdict;

@@ -1,0 +1,344 @@
+//! Reading a plan text: rules 2 to 10, the tree, the sizes.
+
+use crate::pairs::{self, Pairs};
+
+pub const MAX_BYTES: usize = 32_768;
+pub const MAX_PROCS: usize = 64;
+pub const MAX_STATEMENTS: usize = 1_024;
+pub const MAX_THREADS: usize = 6;
+pub const MAX_BRACKETS: usize = 16;
+pub const MAX_LOCK: u32 = 31;
+pub const MAX_SIZE: u64 = 1_024;
+pub const MAX_PAIRS: usize = 128;
+pub const SCHEDULE_ENTRIES: usize = 6_144;
+
+#[derive(Clone, Copy, Debug, PartialEq, Eq)]
+pub struct Refusal {
+    pub rule: u8,
+    pub line: usize,
+}
+
+fn refuse<T>(rule: u8, line: usize) -> Result<T, Refusal> {
+    Err(Refusal { rule, line })
+}
+
+/// The kind of a line.
+#[derive(Clone, Copy, Debug, PartialEq, Eq, Hash)]
+pub enum Form {
+    Plan,
+    Proc,
+    Thread(u32),
+    Close,
+    Skip,
+    Call(u32),
+    Hold(u32),
+    Loop,
+    Either,
+    One,
+    Two,
+}
+
+/// One to three digits, no leading zero except `0` itself.
+fn number(digits: &[u8]) -> Option<u32> {
+    if digits.is_empty() || digits.len() > 3 || !digits.iter().all(u8::is_ascii_digit) {
+        return None;
+    }
+    if digits.len() > 1 && digits[0] == b'0' {
+        return None;
+    }
+    Some(digits.iter().fold(0, |n, d| 10 * n + u32::from(d - b'0')))
+}
+
+/// The form of a line, its end not included.
+pub fn form(line: &[u8]) -> Option<Form> {
+    let plain: [(&[u8], Form); 8] = [
+        (b"(plan", Form::Plan),
+        (b"(proc", Form::Proc),
+        (b")", Form::Close),
+        (b"(skip)", Form::Skip),
+        (b"(loop", Form::Loop),
+        (b"(either", Form::Either),
+        (b"(one", Form::One),
+        (b"(two", Form::Two),
+    ];
+    if let Some((_, form)) = plain.iter().find(|(bytes, _)| *bytes == line) {
+        return Some(*form);
+    }
+    if let Some(rest) = line.strip_prefix(b"(hold ") {
+        return number(rest).map(Form::Hold);
+    }
+    if let Some(rest) = line.strip_prefix(b"(call ") {
+        return number(rest.strip_suffix(b")")?).map(Form::Call);
+    }
+    if let Some(rest) = line.strip_prefix(b"(thread ") {
+        return number(rest.strip_suffix(b")")?).map(Form::Thread);
+    }
+    None
+}
+
+/// Blocks are numbered in text order; a procedure's blocks follow each other,
+/// its body first, an outer block before its inner ones.
+pub type BlockId = usize;
+
+#[derive(Clone, Copy, Debug, PartialEq, Eq)]
+pub enum Stmt {
+    Skip,
+    Call(usize),
+    Hold(u32, BlockId),
+    Loop(BlockId),
+    Either(BlockId, BlockId),
+}
+
+#[derive(Clone, Debug)]
+pub struct Proc {
+    pub body: BlockId,
+    /// Line of `(proc`.
+    pub line: usize,
+    /// Bytes from the `(proc` line to the end of its closing line.
+    pub start: usize,
+    pub end: usize,
+}
+
+#[derive(Clone, Debug)]
+pub struct Plan {
+    pub blocks: Vec<Vec<Stmt>>,
+    pub procs: Vec<Proc>,
+    pub threads: Vec<usize>,
+    /// By procedure.
+    pub sizes: Vec<u64>,
+    /// By procedure.
+    pub pairs: Vec<Pairs>,
+}
+
+impl Plan {
+    /// The blocks of a procedure.
+    pub fn blocks_of(&self, proc: usize) -> std::ops::Range<BlockId> {
+        let end = self.procs.get(proc + 1).map_or(self.blocks.len(), |next| next.body);
+        self.procs[proc].body..end
+    }
+
+    /// The longest a schedule may be.
+    pub fn size_of_threads(&self) -> u64 {
+        self.threads.iter().map(|proc| self.sizes[*proc]).sum()
+    }
+}
+
+/// Rules 2 to 10.
+pub fn read(text: &[u8]) -> Result<Plan, Refusal> {
+    if text.len() > MAX_BYTES {
+        return refuse(2, 0);
+    }
+    let (forms, starts) = forms(text)?;
+    let mut plan = structure(&forms, &starts)?;
+    limits(&forms)?;
+    names(&forms, plan.procs.len())?;
+    plan.sizes = sizes(&plan);
+    if let Some(proc) = plan.sizes.iter().position(|size| *size > MAX_SIZE) {
+        return refuse(9, plan.procs[proc].line);
+    }
+    plan.pairs = pairs::compositional(&plan);
+    if let Some(proc) = plan.pairs.iter().position(|pairs| pairs.len() > MAX_PAIRS) {
+        return refuse(10, plan.procs[proc].line);
+    }
+    Ok(plan)
+}
+
+/// Rule 3. The forms, and the offset of each line and of the end.
+pub fn forms(text: &[u8]) -> Result<(Vec<Form>, Vec<usize>), Refusal> {
+    let mut forms = Vec::new();
+    let mut starts = vec![0];
+    for line in text.split_inclusive(|byte| *byte == 10) {
+        let found = line.strip_suffix(b"\n").and_then(form);
+        let Some(found) = found else {
+            return refuse(3, forms.len() + 1);
+        };
+        forms.push(found);
+        starts.push(starts[starts.len() - 1] + line.len());
+    }
+    Ok((forms, starts))
+}
+
+/// What is open at a place of the text.
+enum Open {
+    Text {
+        plans: usize,
+    },
+    Plan,
+    Block(BlockId),
+    /// Parts already begun, and the blocks of both.
+    Either(usize, [BlockId; 2]),
+}
+
+/// Rule 4, and the tree; sizes and pairs are left empty.
+pub fn structure(forms: &[Form], starts: &[usize]) -> Result<Plan, Refusal> {
+    let mut plan = Plan {
+        blocks: Vec::new(),
+        procs: Vec::new(),
+        threads: Vec::new(),
+        sizes: Vec::new(),
+        pairs: Vec::new(),
+    };
+    let mut open = vec![Open::Text { plans: 0 }];
+    for (index, form) in forms.iter().enumerate() {
+        if !place(&mut plan, &mut open, *form, index, starts) {
+            return refuse(4, index + 1);
+        }
+    }
+    match open.as_slice() {
+        [Open::Text { plans: 1 }] => Ok(plan),
+        _ => refuse(4, forms.len() + 1),
+    }
+}
+
+fn new_block(plan: &mut Plan) -> BlockId {
+    plan.blocks.push(Vec::new());
+    plan.blocks.len() - 1
+}
+
+/// Puts a line in its place; false where there is none.
+fn place(plan: &mut Plan, open: &mut Vec<Open>, form: Form, index: usize, starts: &[usize]) -> bool {
+    let top = open.last_mut().expect("the text stays open");
+    match top {
+        Open::Text { plans } => {
+            if form != Form::Plan || *plans > 0 {
+                return false;
+            }
+            *plans = 1;
+            open.push(Open::Plan);
+        }
+        Open::Plan => match form {
+            Form::Proc if plan.threads.is_empty() => {
+                let body = new_block(plan);
+                let (line, start) = (index + 1, starts[index]);
+                plan.procs.push(Proc { body, line, start, end: start });
+                open.push(Open::Block(body));
+            }
+            Form::Thread(proc) if !plan.procs.is_empty() => plan.threads.push(proc as usize),
+            Form::Close if !plan.threads.is_empty() => {
+                open.pop();
+            }
+            _ => return false,
+        },
+        Open::Either(parts, blocks) => match (form, *parts) {
+            (Form::One, 0) | (Form::Two, 1) => {
+                let block = blocks[*parts];
+                *parts += 1;
+                open.push(Open::Block(block));
+            }
+            (Form::Close, 2) => {
+                open.pop();
+            }
+            _ => return false,
+        },
+        Open::Block(block) => {
+            let block = *block;
+            let stmt = match form {
+                Form::Skip => Stmt::Skip,
+                Form::Call(proc) => Stmt::Call(proc as usize),
+                Form::Hold(lock) => {
+                    let body = new_block(plan);
+                    open.push(Open::Block(body));
+                    Stmt::Hold(lock, body)
+                }
+                Form::Loop => {
+                    let body = new_block(plan);
+                    open.push(Open::Block(body));
+                    Stmt::Loop(body)
+                }
+                Form::Either => {
+                    let parts = [new_block(plan), new_block(plan)];
+                    open.push(Open::Either(0, parts));
+                    Stmt::Either(parts[0], parts[1])
+                }
+                Form::Close if !plan.blocks[block].is_empty() => {
+                    open.pop();
+                    if let Some(Open::Plan) = open.last() {
+                        plan.procs.last_mut().expect("a procedure was open").end = starts[index + 1];
+                    }
+                    return true;
+                }
+                _ => return false,
+            };
+            plan.blocks[block].push(stmt);
+        }
+    }
+    true
+}
+
+/// Rule 5: the first line at which a count passes its limit.
+fn limits(forms: &[Form]) -> Result<(), Refusal> {
+    let (mut procs, mut statements, mut threads, mut brackets) = (0, 0, 0, 0_usize);
+    for (index, form) in forms.iter().enumerate() {
+        match form {
+            Form::Plan => {}
+            Form::Proc => procs += 1,
+            Form::Thread(_) => threads += 1,
+            // The closing lines of procedures and of the plan end no bracket.
+            Form::Close => brackets = brackets.saturating_sub(1),
+            Form::Skip | Form::Call(_) => statements += 1,
+            Form::Hold(_) | Form::Loop | Form::Either => {
+                statements += 1;
+                brackets += 1;
+            }
+            Form::One | Form::Two => brackets += 1,
+        }
+        if procs > MAX_PROCS
+            || statements > MAX_STATEMENTS
+            || threads > MAX_THREADS
+            || brackets > MAX_BRACKETS
+        {
+            return refuse(5, index + 1);
+        }
+    }
+    Ok(())
+}
+
+/// Rules 6, 7 and 8.
+fn names(forms: &[Form], procs: usize) -> Result<(), Refusal> {
+    let first = |bad: &dyn Fn(&Form, usize) -> bool| {
+        let mut begun = 0;
+        forms.iter().position(|form| {
+            begun += usize::from(*form == Form::Proc);
+            bad(form, begun)
+        })
+    };
+    if let Some(at) = first(&|form, _| matches!(form, Form::Hold(lock) if *lock > MAX_LOCK)) {
+        return refuse(6, at + 1);
+    }
+    // The caller is procedure `begun - 1`.
+    if let Some(at) = first(&|form, begun| matches!(form, Form::Call(proc) if *proc as usize + 1 >= begun)) {
+        return refuse(7, at + 1);
+    }
+    if let Some(at) = first(&|form, _| matches!(form, Form::Thread(proc) if *proc as usize >= procs)) {
+        return refuse(8, at + 1);
+    }
+    Ok(())
+}
+
+/// Sizes by procedure; a sum past 64 bits stays at the greatest number.
+pub fn sizes(plan: &Plan) -> Vec<u64> {
+    let mut blocks = vec![0_u64; plan.blocks.len()];
+    let mut procs: Vec<u64> = Vec::new();
+    for proc in 0..plan.procs.len() {
+        for block in plan.blocks_of(proc).rev() {
+            blocks[block] = plan.blocks[block].iter().fold(0, |sum: u64, stmt| {
+                sum.saturating_add(match stmt {
+                    Stmt::Skip => 1,
+                    Stmt::Call(callee) => procs[*callee].saturating_add(1),
+                    Stmt::Hold(_, body) | Stmt::Loop(body) => blocks[*body].saturating_add(2),
+                    Stmt::Either(one, two) => blocks[*one].saturating_add(blocks[*two]).saturating_add(1),
+                })
+            });
+        }
+        procs.push(blocks[plan.procs[proc].body]);
+    }
+    procs
+}
+
+/// The text of a procedure, empty where the plan is refused or the procedure is absent.
+pub fn proc_text(text: &[u8], proc: usize) -> &[u8] {
+    match read(text) {
+        Ok(plan) => plan.procs.get(proc).map_or(&[], |proc| &text[proc.start..proc.end]),
+        Err(_) => &[],
+    }
+}

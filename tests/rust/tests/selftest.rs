@@ -1,0 +1,606 @@
+//! The reference against itself and against the statements of the rules.
+//! LOCKPLAN_FACTOR multiplies the numbers of texts.
+
+use std::collections::HashSet;
+
+use lockplan_tests::compare::{Bench, Calls, Outcome};
+use lockplan_tests::families::{self, Draft, Tree};
+use lockplan_tests::gateway::{replay, Automaton, State};
+use lockplan_tests::generate::{self, generate};
+use lockplan_tests::pairs::{by_execution, Pair};
+use lockplan_tests::random::Random;
+use lockplan_tests::reference::{form, forms, proc_text, read, structure, Form, Plan, Refusal, Stmt};
+use lockplan_tests::report::{check, report};
+use lockplan_tests::shelf::{others, shelf, Gives};
+use lockplan_tests::verdict::{
+    conflict, conflict_by_choice, conflicting, explore, judge, pairs_of_threads, schedule, schedule_told,
+    Verdict,
+};
+use lockplan_tests::{guard, standin};
+
+fn texts(default: u64) -> u64 {
+    let factor = std::env::var("LOCKPLAN_FACTOR").ok().and_then(|value| value.parse().ok());
+    default * factor.unwrap_or(1)
+}
+
+/// A schedule is a run, short enough, to a state with the stuck set.
+fn right(plan: &Plan, schedule: &[u16], stuck: u32) {
+    assert!(schedule.len() as u64 <= plan.size_of_threads());
+    let state = replay(plan, schedule).expect("a run");
+    assert_eq!(state.largest_stuck(plan), stuck);
+    assert!(stuck.count_ones() >= 2);
+}
+
+fn small_plan(random: &mut Random) -> Draft {
+    match random.below(8) {
+        0 | 1 => generate::plan(random, &generate::TINY),
+        2 => generate::plan(random, &generate::SMALL),
+        3 => generate::plan(random, &generate::NESTED),
+        4 | 5 => generate::crossings(random),
+        6 => generate::circles(random),
+        _ => generate::rings(random),
+    }
+}
+
+#[test]
+fn shelf_gives_what_is_stated() {
+    for entry in shelf().into_iter().chain(others()) {
+        let name = entry.name;
+        match (read(&entry.text), &entry.gives) {
+            (Err(refusal), Gives::Refused(rule, line)) => {
+                assert_eq!(refusal, Refusal { rule: *rule, line: *line }, "{name}");
+                let expected = format!("(report\n(refused {rule} {line})\n)\n");
+                assert_eq!(report(&entry.text), expected.as_bytes(), "{name}");
+                assert!(proc_text(&entry.text, 0).is_empty());
+            }
+            (Ok(plan), Gives::Free) => {
+                assert_eq!(judge(&plan), Verdict::Free, "{name}");
+                assert!(conflict(&pairs_of_threads(&plan)).is_none(), "{name}");
+                assert_eq!(explore(&plan, 1_000_000), Some(Verdict::Free), "{name}");
+            }
+            (Ok(plan), Gives::Deadlock(set)) => {
+                assert!(conflict(&pairs_of_threads(&plan)).is_some(), "{name}");
+                let Some(Verdict::Deadlock { schedule, stuck }) = explore(&plan, 1_000_000) else {
+                    panic!("{name} is free");
+                };
+                assert_eq!(stuck, *set, "{name}");
+                right(&plan, &schedule, stuck);
+                if let Some(stated) = &entry.schedule {
+                    right(&plan, stated, *set);
+                }
+            }
+            (result, gives) => panic!("{name}: {:?}, not {gives:?}", result.err()),
+        }
+        if let Ok(plan) = read(&entry.text) {
+            for (proc, words) in entry.words.iter().enumerate() {
+                let found: Vec<u64> = plan.pairs[proc].iter().map(|pair| pair.word()).collect();
+                assert_eq!(&found, words, "{name}");
+            }
+        }
+    }
+}
+
+#[test]
+fn shelf_sizes_and_counts() {
+    let plan = read(&generate::doubling(8).text()).unwrap();
+    assert_eq!(plan.sizes[8], 766);
+    let (forms, starts) = forms(&generate::doubling(63).text()).unwrap();
+    let tree = structure(&forms, &starts).unwrap();
+    let sizes = lockplan_tests::reference::sizes(&tree);
+    assert_eq!(sizes[9], 1_534);
+    assert_eq!(sizes[62], 3 * (1 << 62) - 2);
+    assert_eq!(sizes[63], u64::MAX);
+    let plan = read(&Draft::each(vec![lockplan_tests::shelf::couples(96)]).text()).unwrap();
+    assert_eq!(plan.pairs[0].len(), 128);
+}
+
+#[test]
+fn report_of_case_b() {
+    let b = shelf().into_iter().find(|entry| entry.name == "B").unwrap();
+    let expected = "(report\n(proc 0\n(pair 2)\n(pair 0 2)\n(pair 1 0 2)\n)\n\
+        (proc 1\n(pair 2)\n(pair 1 2)\n(pair 0 1 2)\n)\n(free)\n)\n";
+    assert_eq!(String::from_utf8(report(&b.text)).unwrap(), expected);
+    let a = shelf().into_iter().find(|entry| entry.name == "A").unwrap();
+    let expected = "(report\n(proc 0\n(pair 0)\n(pair 1 0)\n)\n(proc 1\n(pair 1)\n(pair 0 1)\n)\n\
+        (deadlock\n(stuck 0 1)\n(step 0 0)\n(step 1 0)\n)\n)\n";
+    assert_eq!(String::from_utf8(report(&a.text)).unwrap(), expected);
+}
+
+#[test]
+fn text_of_a_procedure() {
+    let text = b"(plan\n(proc\n(skip)\n)\n(proc\n(hold 3\n(call 0)\n)\n)\n(thread 1)\n)\n";
+    assert_eq!(proc_text(text, 0), b"(proc\n(skip)\n)\n");
+    assert_eq!(proc_text(text, 1), b"(proc\n(hold 3\n(call 0)\n)\n)\n");
+    assert_eq!(proc_text(text, 2), b"");
+    assert_eq!(proc_text(&text[..text.len() - 1], 0), b"");
+    let mut accepted = 0;
+    for index in 0..texts(3_000) {
+        let text = generate(&mut Random::of_text(5, index)).text;
+        if let Ok(plan) = read(&text) {
+            accepted += 1;
+            let whole: Vec<u8> =
+                (0..plan.procs.len()).flat_map(|proc| proc_text(&text, proc).to_vec()).collect();
+            assert!(text[6..].starts_with(&whole));
+        }
+    }
+    println!("procedures of {accepted} texts");
+}
+
+/// All lines of a form, listed.
+#[test]
+fn forms_are_the_listed_lines() {
+    let mut all: HashSet<Vec<u8>> = ["(plan", "(proc", ")", "(skip)", "(loop", "(either", "(one", "(two"]
+        .iter()
+        .map(|line| line.as_bytes().to_vec())
+        .collect();
+    for n in 0..1_000 {
+        all.insert(format!("(hold {n}").into_bytes());
+        all.insert(format!("(call {n})").into_bytes());
+        all.insert(format!("(thread {n})").into_bytes());
+        assert_eq!(form(format!("(hold {n}").as_bytes()), Some(Form::Hold(n)));
+        assert_eq!(form(format!("(call {n})").as_bytes()), Some(Form::Call(n)));
+        assert_eq!(form(format!("(thread {n})").as_bytes()), Some(Form::Thread(n)));
+    }
+    let lines: Vec<Vec<u8>> = all.iter().cloned().collect();
+    let mut random = Random::new(11);
+    let mut hits = 0;
+    for _ in 0..texts(300_000) {
+        let mut line = random.pick(&lines).clone();
+        for _ in 0..random.below(3) {
+            let at = random.below(line.len() + 1);
+            match random.below(3) {
+                0 => line.insert(at, *random.pick(b"() 0123456789holdcatr\r\0")),
+                1 if at < line.len() => drop(line.remove(at)),
+                _ if at < line.len() => line[at] = *random.pick(b"() 0123456789holdcatr\t\xff"),
+                _ => {}
+            }
+        }
+        assert_eq!(form(&line).is_some(), all.contains(&line), "{:?}", String::from_utf8_lossy(&line));
+        hits += u64::from(all.contains(&line));
+    }
+    println!("{hits} lines of a form");
+}
+
+/// Rule 4 a second time, by a grammar: a stack of what must still come.
+fn by_grammar(forms: &[Form]) -> Option<usize> {
+    #[derive(Clone, Copy, PartialEq)]
+    enum Symbol {
+        Line(&'static str),
+        Procs,
+        MoreProcs,
+        MoreThreads,
+        Stmt,
+        MoreStmts,
+    }
+    use Symbol::*;
+    let name = |form: Form| match form {
+        Form::Plan => "plan",
+        Form::Proc => "proc",
+        Form::Thread(_) => "thread",
+        Form::Close => "close",
+        Form::Skip => "skip",
+        Form::Call(_) => "call",
+        Form::Hold(_) => "hold",
+        Form::Loop => "loop",
+        Form::Either => "either",
+        Form::One => "one",
+        Form::Two => "two",
+    };
+    let block = [MoreStmts, Stmt];
+    let mut stack = vec![Line("close"), MoreThreads, Line("thread"), Procs, Line("plan")];
+    for (index, form) in forms.iter().enumerate() {
+        let line = name(*form);
+        loop {
+            let Some(symbol) = stack.pop() else {
+                return Some(index + 1);
+            };
+            match symbol {
+                Line(expected) if expected == line => break,
+                Line(_) => return Some(index + 1),
+                Procs => stack.extend([MoreProcs, Line("close"), block[0], block[1], Line("proc")]),
+                MoreProcs if line == "proc" => stack.push(Procs),
+                MoreThreads if line == "thread" => stack.extend([MoreThreads, Line("thread")]),
+                MoreStmts if matches!(line, "skip" | "call" | "hold" | "loop" | "either") => {
+                    stack.extend(block);
+                }
+                MoreProcs | MoreThreads | MoreStmts => {}
+                Stmt => match line {
+                    "skip" => stack.push(Line("skip")),
+                    "call" => stack.push(Line("call")),
+                    "hold" => stack.extend([Line("close"), block[0], block[1], Line("hold")]),
+                    "loop" => stack.extend([Line("close"), block[0], block[1], Line("loop")]),
+                    "either" => {
+                        stack.extend([Line("close"), Line("close"), block[0], block[1], Line("two")]);
+                        stack.extend([Line("close"), block[0], block[1], Line("one"), Line("either")]);
+                    }
+                    _ => return Some(index + 1),
+                },
+            }
+        }
+    }
+    (!stack.is_empty()).then_some(forms.len() + 1)
+}
+
+#[test]
+fn structure_is_the_grammar() {
+    let (mut right, mut wrong) = (0, 0);
+    for index in 0..texts(60_000) {
+        let case = generate(&mut Random::of_text(21, index));
+        let Ok((forms, starts)) = forms(&case.text) else {
+            continue;
+        };
+        let line = structure(&forms, &starts).err().map(|refusal| refusal.line);
+        assert_eq!(line, by_grammar(&forms), "{}", case.kind);
+        if line.is_none() {
+            right += 1
+        } else {
+            wrong += 1
+        }
+    }
+    println!("{right} of right structure, {wrong} not");
+    assert!(wrong > 1_000);
+}
+
+#[test]
+fn structure_of_all_short_texts() {
+    let texts = generate::beginnings(9);
+    let mut accepted = 0;
+    for text in &texts {
+        let (forms, starts) = forms(text).unwrap();
+        let line = structure(&forms, &starts).err().map(|refusal| refusal.line);
+        assert_eq!(line, by_grammar(&forms), "{}", String::from_utf8_lossy(text));
+        accepted += usize::from(read(text).is_ok());
+    }
+    println!("{} short texts, {accepted} accepted", texts.len());
+}
+
+/// The tree of a plan as a draft.
+fn draft_of(plan: &Plan) -> Draft {
+    fn block(plan: &Plan, id: usize) -> Vec<Tree> {
+        let tree = |stmt: &Stmt| match *stmt {
+            Stmt::Skip => Tree::Skip,
+            Stmt::Call(proc) => Tree::Call(proc),
+            Stmt::Hold(lock, body) => Tree::Hold(lock as usize, block(plan, body)),
+            Stmt::Loop(body) => Tree::Loop(block(plan, body)),
+            Stmt::Either(one, two) => Tree::Either(block(plan, one), block(plan, two)),
+        };
+        plan.blocks[id].iter().map(tree).collect()
+    }
+    let procs = plan.procs.iter().map(|proc| block(plan, proc.body)).collect();
+    Draft { procs, threads: plan.threads.clone() }
+}
+
+#[test]
+fn reading_is_the_inverse_of_printing() {
+    for index in 0..texts(10_000) {
+        let random = &mut Random::of_text(31, index);
+        let draft =
+            if random.chance(80) { small_plan(random) } else { generate::plan(random, &generate::MEDIUM) };
+        let text = draft.text();
+        match read(&text) {
+            Ok(plan) => {
+                assert_eq!(draft_of(&plan), draft);
+                let mut sizes = Vec::new();
+                for (proc, block) in draft.procs.iter().enumerate() {
+                    sizes.push(generate::size(block, &sizes));
+                    assert_eq!(sizes[proc], plan.sizes[proc]);
+                }
+            }
+            Err(refusal) => assert!([9, 10].contains(&refusal.rule), "{refusal:?}"),
+        }
+    }
+}
+
+#[test]
+fn pairs_are_those_of_executions() {
+    let (mut procs, mut pairs) = (0, 0);
+    for index in 0..texts(15_000) {
+        let case = generate(&mut Random::of_text(41, index));
+        let Ok(plan) = read(&case.text) else {
+            continue;
+        };
+        for proc in 0..plan.procs.len() {
+            if plan.procs.len() > 12 && proc % 7 != 0 {
+                continue;
+            }
+            assert_eq!(by_execution(&plan, proc), plan.pairs[proc], "{}", case.kind);
+            procs += 1;
+            pairs += plan.pairs[proc].len();
+        }
+    }
+    println!("{pairs} pairs of {procs} procedures");
+}
+
+#[test]
+fn a_procedure_has_no_more_states_than_its_size_and_one() {
+    for index in 0..texts(3_000) {
+        let case = generate(&mut Random::of_text(51, index));
+        let Ok(plan) = read(&case.text) else {
+            continue;
+        };
+        for proc in plan.threads.iter() {
+            let automaton = Automaton::new(&plan, *proc);
+            assert!(automaton.states.len() as u64 <= plan.sizes[*proc] + 1);
+        }
+    }
+}
+
+#[test]
+fn words_ascend_with_the_order_of_pairs() {
+    let mut random = Random::new(61);
+    for _ in 0..10_000 {
+        let mut pair =
+            || Pair { held: (random.next() >> random.below(64)) as u32, wanted: random.below(32) as u32 };
+        let (a, b) = (pair(), pair());
+        assert_eq!(a.cmp(&b), a.word().cmp(&b.word()));
+    }
+}
+
+/// Free or deadlock by all reachable states and by the condition over pairs.
+#[test]
+fn both_verdicts_agree() {
+    let (mut free, mut deadlocks, mut given_up, mut refused, mut missed) = (0, 0, 0, 0, 0);
+    let mut sizes = [0; 7];
+    for index in 0..texts(30_000) {
+        let random = &mut Random::of_text(71, index);
+        let draft = small_plan(random);
+        let Ok(plan) = read(&draft.text()) else {
+            refused += 1;
+            continue;
+        };
+        let Some(explored) = explore(&plan, 20_000) else {
+            given_up += 1;
+            continue;
+        };
+        let found = conflict(&pairs_of_threads(&plan));
+        match explored {
+            Verdict::Free => {
+                assert_eq!(found, None, "{}", String::from_utf8(draft.text()).unwrap());
+                free += 1;
+            }
+            Verdict::Deadlock { schedule: shortest, stuck } => {
+                let Some(found) = found else {
+                    panic!("{}", String::from_utf8(draft.text()).unwrap());
+                };
+                assert!(conflicting(&found));
+                right(&plan, &shortest, stuck);
+                // A schedule from any conflict, whether or not a run comes to it.
+                for _ in 0..3 {
+                    let mut pairs = pairs_of_threads(&plan);
+                    pairs.iter_mut().for_each(|own| random.shuffle(own));
+                    let any = conflict(&pairs).expect("the order does not matter");
+                    let (other, reached) = schedule_told(&plan, &any);
+                    right(&plan, &other, replay(&plan, &other).unwrap().largest_stuck(&plan));
+                    missed += usize::from(!reached);
+                }
+                deadlocks += 1;
+                sizes[stuck.count_ones() as usize] += 1;
+            }
+        }
+    }
+    println!("{free} free, {deadlocks} deadlocks, {given_up} given up, {refused} refused");
+    println!("deadlocks by stuck threads: {sizes:?}; conflicts that no run came to: {missed}");
+    assert!(deadlocks > 5_000 && free > 5_000);
+}
+
+/// The search for circles against the theorem word for word.
+#[test]
+fn circles_are_enough() {
+    let mut conflicts = 0;
+    let count = texts(20_000);
+    for index in 0..count {
+        let random = &mut Random::of_text(81, index);
+        let locks = random.between(2, 5);
+        let threads: Vec<Vec<Pair>> = (0..random.between(1, 5))
+            .map(|_| {
+                let pair = |random: &mut Random| {
+                    let held = random.below(1 << locks) as u32 & random.below(1 << locks) as u32;
+                    let wanted = random.below(locks) as u32;
+                    (held >> wanted & 1 == 0).then_some(Pair { held, wanted })
+                };
+                (0..random.between(1, 5)).filter_map(|_| pair(random)).collect()
+            })
+            .collect();
+        let found = conflict(&threads);
+        assert_eq!(found.is_some(), conflict_by_choice(&threads).is_some(), "{threads:?}");
+        if let Some(found) = found {
+            assert!(conflicting(&found));
+            conflicts += 1;
+        }
+    }
+    println!("{conflicts} conflicts of {count}");
+}
+
+/// The largest stuck set a second time: drop threads that may step until none may.
+#[test]
+fn largest_stuck_set_is_what_remains() {
+    let mut stuck = 0;
+    for index in 0..texts(4_000) {
+        let random = &mut Random::of_text(91, index);
+        let Ok(plan) = read(&small_plan(random).text()) else {
+            continue;
+        };
+        let mut state = State::new(&plan);
+        for _ in 0..60 {
+            let held: Vec<u32> = state.threads.iter().map(|thread| thread.held()).collect();
+            let mut set: Vec<usize> = (0..held.len()).filter(|t| !state.threads[*t].finished()).collect();
+            while let Some(place) = set.iter().position(|t| {
+                let others = set.iter().filter(|o| *o != t).fold(0, |all, o| all | held[*o]);
+                state.threads[*t].steps(&plan).any(|(_, next)| next.held() & others == 0)
+            }) {
+                set.remove(place);
+            }
+            let remains = set.iter().fold(0, |all, thread| all | 1_u32 << thread);
+            assert_eq!(state.largest_stuck(&plan), remains);
+            stuck += usize::from(remains != 0);
+            // Any step, permitted or not.
+            for _ in 0..8 {
+                if state.step(&plan, random.below(8), random.below(4) as u16) {
+                    break;
+                }
+            }
+        }
+    }
+    println!("{stuck} states with a stuck set");
+    assert!(stuck > 1_000);
+}
+
+#[test]
+fn steps_that_are_never_permitted() {
+    let plan = read(&shelf().remove(0).text).unwrap();
+    for word in [2, 7, 8, 16, 24, 255, 256, 0x8000, 0xffff] {
+        assert_eq!(replay(&plan, &[word]), Err(0), "{word}");
+    }
+    // To the end of thread 0, and one step more.
+    assert!(replay(&plan, &[0; 5]).unwrap().threads[0].finished());
+    assert_eq!(replay(&plan, &[0; 6]), Err(5));
+    assert_eq!(replay(&plan, &[0, 1, 0]), Err(2));
+    assert_eq!(replay(&plan, &[]).unwrap().largest_stuck(&plan), 0);
+}
+
+#[test]
+fn families_give_what_they_say() {
+    for (name, draft, deadlock) in families::all() {
+        let plan = read(&draft.text()).unwrap_or_else(|refusal| panic!("{name}: {refusal:?}"));
+        let pairs: Vec<usize> = plan.threads.iter().map(|proc| plan.pairs[*proc].len()).collect();
+        println!("{name}: pairs {pairs:?}, sizes {}", plan.size_of_threads());
+        match judge(&plan) {
+            Verdict::Free => assert!(!deadlock, "{name}"),
+            Verdict::Deadlock { schedule, stuck } => {
+                assert!(deadlock, "{name}");
+                right(&plan, &schedule, stuck);
+            }
+        }
+    }
+    let late = read(&families::late(6).text()).unwrap();
+    let Verdict::Deadlock { schedule, .. } = judge(&late) else { panic!() };
+    assert_eq!((late.size_of_threads(), schedule.len()), (6_144, 6_120));
+}
+
+/// A schedule for every generated deadlock, also of plans too large for all states.
+#[test]
+fn every_deadlock_has_a_schedule() {
+    let (mut deadlocks, mut longest) = (0, 0);
+    for index in 0..texts(30_000) {
+        let case = generate(&mut Random::of_text(101, index));
+        let Ok(plan) = read(&case.text) else {
+            continue;
+        };
+        if let Some(found) = conflict(&pairs_of_threads(&plan)) {
+            let entries = schedule(&plan, &found);
+            right(&plan, &entries, replay(&plan, &entries).unwrap().largest_stuck(&plan));
+            deadlocks += 1;
+            longest = longest.max(entries.len());
+        }
+    }
+    println!("{deadlocks} schedules, the longest of {longest} entries");
+}
+
+/// Every rule is met, every kind generated, often enough.
+#[test]
+fn generator_meets_everything() {
+    let mut outcomes = std::collections::BTreeMap::new();
+    let mut kinds = std::collections::BTreeMap::new();
+    for index in 0..20_000 {
+        let case = generate(&mut Random::of_text(1, index));
+        let outcome = match read(&case.text) {
+            Err(refusal) => Outcome::Refused(refusal.rule),
+            Ok(plan) if conflict(&pairs_of_threads(&plan)).is_some() => Outcome::Deadlock,
+            Ok(_) => Outcome::Free,
+        };
+        *outcomes.entry(outcome).or_insert(0) += 1;
+        *kinds.entry(case.kind).or_insert(0) += 1;
+    }
+    println!("{outcomes:?}\n{kinds:?}");
+    for rule in 2..=10 {
+        assert!(outcomes[&Outcome::Refused(rule)] >= 30, "rule {rule}");
+    }
+    assert!(outcomes[&Outcome::Free] > 3_000 && outcomes[&Outcome::Deadlock] > 3_000);
+}
+
+fn run(calls: Calls, count: u64, edges: bool) -> Result<Bench, (u64, String)> {
+    let mut bench = Bench::new(edges);
+    let fixed: Vec<Vec<u8>> = shelf().into_iter().chain(others()).map(|entry| entry.text).collect();
+    for index in 0..count {
+        let random = &mut Random::of_text(111, index);
+        let text = match fixed.get(index as usize) {
+            Some(text) => text.clone(),
+            None => generate(random).text,
+        };
+        bench.check(calls, &text, random).map_err(|message| (index, message))?;
+    }
+    Ok(bench)
+}
+
+/// The comparison accepts the stand-in made of the reference.
+#[test]
+fn comparison_accepts_the_stand_in() {
+    let calls = Calls { verdict: Some(standin::verdict), pairs: Some(standin::pairs) };
+    let bench =
+        run(calls, texts(4_000), true).unwrap_or_else(|(index, message)| panic!("{index}: {message}"));
+    println!("{:?}", bench.counts);
+}
+
+/// The comparison finds each fault of the stand-in, and soon.
+#[test]
+fn comparison_finds_every_fault() {
+    for (name, pairs) in standin::FAULTY_PAIRS {
+        let calls = Calls { verdict: None, pairs: Some(pairs) };
+        let (index, message) =
+            run(calls, 4_000, false).err().unwrap_or_else(|| panic!("{name} is not found"));
+        println!("pairs, {name}: text {index}, {message}");
+    }
+    for (name, verdict) in standin::FAULTY_VERDICTS {
+        let calls = Calls { verdict: Some(verdict), pairs: None };
+        let (index, message) =
+            run(calls, 4_000, false).err().unwrap_or_else(|| panic!("{name} is not found"));
+        println!("verdict, {name}: text {index}, {message}");
+    }
+}
+
+/// The same fault at inaccessible memory; ends the process.
+#[test]
+#[ignore = "run by the next test in a process of its own"]
+fn memory_fault() {
+    guard::report_faults();
+    let (_, pairs) = standin::FAULTY_PAIRS.iter().find(|(name, _)| name.contains("behind")).unwrap();
+    let calls = Calls { verdict: None, pairs: Some(*pairs) };
+    let mut bench = Bench::new(true);
+    let text = shelf().remove(0).text;
+    for index in 0..1_000 {
+        guard::now(7, index);
+        let _ = bench.check(calls, &text, &mut Random::new(index));
+    }
+}
+
+#[test]
+#[cfg(target_os = "linux")]
+fn a_memory_fault_names_the_text() {
+    let program = std::env::current_exe().unwrap();
+    let arguments = ["--exact", "memory_fault", "--ignored", "--nocapture"];
+    let output = std::process::Command::new(program).args(arguments).output().unwrap();
+    let message = String::from_utf8_lossy(&output.stderr);
+    assert_eq!(output.status.code(), Some(101), "{message}");
+    assert!(message.contains("memory fault inside the call: --seed 7 --only "), "{message}");
+}
+
+#[test]
+fn check_of_a_report() {
+    let mut deadlocks = 0;
+    for index in 0..texts(2_000) {
+        let case = generate(&mut Random::of_text(121, index));
+        let printed = report(&case.text);
+        assert_eq!(check(&case.text, &printed), Ok(()), "{}", case.kind);
+        // One byte changed is another report.
+        let mut wrong = printed.clone();
+        let at = index as usize % wrong.len();
+        wrong[at] ^= 1;
+        if check(&case.text, &wrong).is_ok() {
+            // Only a choice or thread of another run.
+            let line = wrong[..at].iter().rposition(|byte| *byte == 10).unwrap() + 1;
+            assert!(wrong[line..].starts_with(b"(step "), "{}", String::from_utf8_lossy(&wrong));
+        }
+        deadlocks += usize::from(printed.windows(9).any(|part| part == b"(deadlock"));
+    }
+    println!("{deadlocks} reports with a schedule");
+}
