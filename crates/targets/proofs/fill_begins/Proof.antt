@@ -1,0 +1,93 @@
+use Rattle.targets.proofs.fill_begins.Statement.{statement}
+use Rattle.targets.proofs.fill_begins.Tie as tie
+use Rattle.targets.proofs.fill_begins.Reads as reads
+use Rattle.targets.proofs.fill_begins.Lts as lts
+use Rattle.targets.proofs.begin_of.Reads as begin-of-reads
+
+abbrev Inv-loop : tie.InvT-loop
+Inv-loop table starts procs threads n lens₀ begins₀ wishes₀ t₀ lens begins wishes t = ?
+
+abbrev μ-loop : tie.MeasureT-loop
+μ-loop table starts procs threads n lens₀ begins₀ wishes₀ t₀ lens begins wishes t = ?
+
+-- src/lib.rt:41:5
+loop-holds : tie.Need-loop-holds Inv-loop μ-loop
+loop-holds c = ?
+
+-- src/lib.rt:42:13
+begin-of-requires : tie.Need-begin-of-requires Inv-loop μ-loop
+begin-of-requires c κs = ?
+
+-- src/lib.rt:43:9
+mul-begins : tie.Need-mul-begins Inv-loop μ-loop
+mul-begins c = ?
+
+-- src/lib.rt:43:9
+slice-write-begins : tie.Need-slice-write-begins Inv-loop μ-loop
+slice-write-begins c = ?
+
+-- src/lib.rt:44:9
+mul-wishes : tie.Need-mul-wishes Inv-loop μ-loop
+mul-wishes c = ?
+
+-- src/lib.rt:44:9
+slice-write-wishes : tie.Need-slice-write-wishes Inv-loop μ-loop
+slice-write-wishes c = ?
+
+-- src/lib.rt:45:9
+mul-lens : tie.Need-mul-lens Inv-loop μ-loop
+mul-lens c = ?
+
+-- src/lib.rt:45:9
+slice-write-lens : tie.Need-slice-write-lens Inv-loop μ-loop
+slice-write-lens c = ?
+
+-- src/lib.rt:46:9
+add-t : tie.Need-add-t Inv-loop μ-loop
+add-t c = ?
+
+-- src/lib.rt:41:5
+loop-less : tie.Need-loop-less Inv-loop μ-loop
+loop-less c = ?
+
+-- src/lib.rt:41:5
+loop-again : tie.Need-loop-again Inv-loop μ-loop
+loop-again c = ?
+
+-- src/lib.rt:26:1
+same-length : tie.Need-same-length Inv-loop μ-loop
+same-length c = ?
+
+-- src/lib.rt:26:1
+same-length-2 : tie.Need-same-length-2 Inv-loop μ-loop
+same-length-2 c = ?
+
+-- src/lib.rt:26:1
+same-length-3 : tie.Need-same-length-3 Inv-loop μ-loop
+same-length-3 c = ?
+
+-- src/lib.rt:26:1
+returns : tie.Need-returns Inv-loop μ-loop
+returns c = ?
+
+pub fill-begins-spec : {M : Type 1} → statement M
+fill-begins-spec =
+    tie.close
+    (tie.spec
+    Inv-loop
+    μ-loop
+    loop-holds
+    begin-of-requires
+    mul-begins
+    slice-write-begins
+    mul-wishes
+    slice-write-wishes
+    mul-lens
+    slice-write-lens
+    add-t
+    loop-less
+    loop-again
+    same-length
+    same-length-2
+    same-length-3
+    returns)
