@@ -57,7 +57,7 @@ module _ (ws starts threads chosen : List ℕ) (procs n k : ℕ) (a : Asked ws s
   module _ (steps lens wishes steps′ lens′ wishes′ : List ℕ) (i : ℕ) (here : i < k) (lengths : 6 ≤ length lens) (wanted : 6 ≤ length wishes)
       (d : Done ws chosen i n steps lens wishes) (m : MemberPut ws (threadAt chosen i) (wordAt chosen i) steps lens wishes steps′ lens′ wishes′) where
     few : threadAt chosen i < 6
-    few = let z = few-threads ws starts threads procs n 0 (a .threads-in) in let y = member-present i here in omega arith
+    few = let z = few-threads ws starts threads procs n (a .threads-in) in let y = member-present i here in omega arith
 
     own-length : getD lens′ (threadAt chosen i) 0 ≡ m .count
     own-length = ap (λ l. getD l (threadAt chosen i) 0) (m .lengths) ∙ getD-set-same lens (threadAt chosen i) (m .count) 0 (omega (arith, few))
@@ -141,7 +141,7 @@ module _ (ws starts threads chosen : List ℕ) (procs n k : ℕ) (a : Asked ws s
     prepared b rows lengths beginnings wanted = record {
       right = tables-right b;
       within = paths-within;
-      few = few-threads ws starts threads procs n 0 (a .threads-in);
+      few = few-threads ws starts threads procs n (a .threads-in);
       rows = rows;
       lengths = lengths;
       beginnings = beginnings;

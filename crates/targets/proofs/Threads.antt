@@ -23,6 +23,9 @@ use Rattle.paths.specs.Wishes.{WishAt}
 use Rattle.targets.specs.Tables.{procOf, beginOf, Threads, Begins, NoSteps, Target, RowWritten, MemberPut}
 use Rattle.targets.proofs.Rows.{written, row-same, row-other, put-back}
 
+pub few-threads : (ws starts threads : List ℕ) (procs n : ℕ) → Threads ws starts procs threads n → n ≤ 6
+few-threads ws starts threads procs n a = rw (a .all) (a .plan .settled .few-threads)
+
 module _ (ws starts threads : List ℕ) (procs n t : ℕ) (a : Threads ws starts procs threads n) where
   pub proc-is : t < n → getD threads t 0 ≡ procOf ws t
   unfolding procOf
@@ -34,9 +37,6 @@ module _ (ws starts threads : List ℕ) (procs n t : ℕ) (a : Threads ws starts
 
   pub proc-present : t < n → getD threads t 0 < procs
   proc-present h = rw (proc-is h, a .count) (proc-in h)
-
-  pub few-threads : n ≤ 6
-  few-threads = rw (a .all) (a .plan .settled .few-threads)
 
   pub size-within : t < n → sizeOf (tablePlan ws .procs) (procOf ws t) ≤ 1024
   size-within h = sizes-within (tableForms ws) (a .sized) (procOf ws t) (proc-in h)

@@ -6,7 +6,14 @@ ghost use Rattle.targets.specs.Tables.{procOf, beginOf, Threads, Asked, 
 ghost use Rattle.paths.specs.Walks.{Asked as PathAsked};
 
 // The procedure that thread t runs.
-fn proc_of(table: &[u64], starts: &[u64], procs: usize, threads: &[u64], n: usize, t: usize) -> usize
+fn proc_of(
+    table: &[u64],
+    starts: &[u64],
+    procs: usize,
+    threads: &[u64],
+    n: usize,
+    t: usize,
+) -> usize
     requires { ⌜ Threads (now table) (now starts) procs (now threads) n × (t < n) ⌝ }
     ensures { λ r. ⌜ (r ≡ procOf (now (table .entry)) t) × (r < procs) ⌝ }
 {
@@ -113,7 +120,18 @@ fn put_members(
 {
     let mut i: usize = 0;
     while i < k {
-        put_member(table, starts, procs, threads, n, chosen[i], path, steps, lens, wishes);
+        put_member(
+            table,
+            starts,
+            procs,
+            threads,
+            n,
+            chosen[i],
+            path,
+            steps,
+            lens,
+            wishes,
+        );
         i += 1;
     }
 }
@@ -140,5 +158,17 @@ pub fn thread_paths(
         (now (wishes .exit)) ⌝ }
 {
     fill_begins(table, starts, procs, threads, n, lens, begins, wishes);
-    put_members(table, starts, procs, threads, n, chosen, k, path, steps, lens, wishes);
+    put_members(
+        table,
+        starts,
+        procs,
+        threads,
+        n,
+        chosen,
+        k,
+        path,
+        steps,
+        lens,
+        wishes,
+    );
 }

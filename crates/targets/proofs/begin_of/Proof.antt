@@ -1,3 +1,5 @@
+-- What the procedure of the thread begins with.
+use Rattle.targets.proofs.Threads.{begin-is}
 use borrow.Author.Needs.{needs}
 use Rattle.targets.proofs.begin_of.Statement.{statement}
 use Rattle.targets.proofs.begin_of.Tie as tie
@@ -24,7 +26,7 @@ first-hold-requires c κs = search needs
 
 -- src/lib.rt:17:1
 returns : tie.Need-returns
-returns c = ?
+returns c = search (begin-is, needs)
 
 pub begin-of-spec : {M : Type 1} → statement M
 begin-of-spec =

@@ -1,3 +1,5 @@
+-- The path of the member, then its length and its wish.
+use Rattle.targets.proofs.Threads.{target-asked, member-put}
 use borrow.Author.Needs.{needs}
 use Rattle.targets.proofs.put_member.Statement.{statement}
 use Rattle.targets.proofs.put_member.Tie as tie
@@ -13,7 +15,7 @@ proc-of-requires c κs = search needs
 
 -- src/lib.rt:91:9
 put-path-requires : tie.Need-put-path-requires
-put-path-requires c κs = ?
+put-path-requires c κs = search (target-asked, needs)
 
 -- src/lib.rt:92:5
 mul-lens : tie.Need-mul-lens
@@ -53,7 +55,7 @@ same-length-4 c = search needs
 
 -- src/lib.rt:71:1
 returns : tie.Need-returns
-returns c = ?
+returns c = search (member-put, needs)
 
 pub put-member-spec : {M : Type 1} → statement M
 put-member-spec =

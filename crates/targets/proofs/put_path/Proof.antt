@@ -1,3 +1,5 @@
+-- The path is found, and copied to the start of its row.
+use Rattle.targets.proofs.Threads.{path-within, path-room, row-written}
 use borrow.Author.Needs.{needs}
 use Rattle.targets.proofs.put_path.Statement.{statement}
 use Rattle.targets.proofs.put_path.Tie as tie
@@ -24,7 +26,7 @@ part-copy-words-start c = search needs
 
 -- src/lib.rt:66:25
 part-copy-words-end : tie.Need-part-copy-words-end
-part-copy-words-end c = ?
+part-copy-words-end c = search (path-within, needs)
 
 -- src/lib.rt:66:38
 mul-copy-words : tie.Need-mul-copy-words
@@ -44,7 +46,7 @@ part-copy-words-end-2 c = search needs
 
 -- src/lib.rt:66:5
 copy-words-requires : tie.Need-copy-words-requires
-copy-words-requires c κs = ?
+copy-words-requires c κs = search (path-room, needs)
 
 -- src/lib.rt:51:1
 same-length : tie.Need-same-length
@@ -56,7 +58,7 @@ same-length-2 c = search needs
 
 -- src/lib.rt:51:1
 returns : tie.Need-returns
-returns c = ?
+returns c = search (row-written, needs)
 
 pub put-path-spec : {M : Type 1} → statement M
 put-path-spec =
