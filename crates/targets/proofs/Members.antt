@@ -21,7 +21,7 @@ use Rattle.plan.specs.Settled.{tablePlan}
 use Rattle.conflict.specs.Entries.{threadAt, wordAt}
 use Rattle.retreat.specs.Paths.{pathOf, Within}
 use Rattle.retreat.specs.Answer.{Right}
-use Rattle.targets.specs.Tables.{pairLists, procOf, beginOf, Threads, Asked, Prepared, Begins, NoSteps, Target, RowWritten, MemberPut, Done}
+use Rattle.targets.specs.Tables.{pairLists, procOf, beginOf, Threads, Asked, Begins, NoSteps, Target, RowWritten, MemberPut, Done}
 use Rattle.targets.proofs.Threads.{few-threads, size-within}
 
 getD-map-in : (f : ℕ → List ℕ) (l : List ℕ) (i : ℕ) → i < length l → getD (map f l) i [] ≡ f (getD l i 0)
@@ -111,7 +111,7 @@ module _ (ws starts threads chosen : List ℕ) (procs n k : ℕ) (a : Asked ws s
   done-end i steps lens wishes h l d = let e : i ≡ k = omega arith in subst (λ j. Done ws chosen j n steps lens wishes) e d
 
   module _ (steps lens begins wishes : List ℕ) (d : Done ws chosen k n steps lens wishes) where
-    paths-within : Within lens n
+    pub paths-within : Within lens n
     unfolding Within
     paths-within t h =
         ⊎-elim
@@ -122,7 +122,7 @@ module _ (ws starts threads chosen : List ℕ) (procs n k : ℕ) (a : Asked ws s
         let o = d .others t h (λ j l e. none j l (eq→eqb (threadAt chosen j) t e)) in omega (arith, o .0))
         (search-below k (λ j. eqb (threadAt chosen j) t))
 
-    tables-right : Begins ws begins n → Right (tablePlan ws) (pairLists ws) k (threadAt chosen) (wordAt chosen) steps lens begins wishes n
+    pub tables-right : Begins ws begins n → Right (tablePlan ws) (pairLists ws) k (threadAt chosen) (wordAt chosen) steps lens begins wishes n
     unfolding Begins beginOf procOf
     tables-right b = record {
       threads = a .threads-in .all;
@@ -134,18 +134,6 @@ module _ (ws starts threads chosen : List ℕ) (procs n k : ℕ) (a : Asked ws s
       wish = d .wish;
       others = λ t h none. let o = d .others t h none in (o .0, o .1 ∙ sym (b t h));
       begins-with = b;
-    }
-
-    pub prepared : Begins ws begins n → 6144 ≤ length steps → 6 ≤ length lens → 6 ≤ length begins → 6 ≤ length wishes
-        → Prepared ws chosen k n steps lens begins wishes
-    prepared b rows lengths beginnings wanted = record {
-      right = tables-right b;
-      within = paths-within;
-      few = few-threads ws starts threads procs n (a .threads-in);
-      rows = rows;
-      lengths = lengths;
-      beginnings = beginnings;
-      wanted = wanted;
     }
 
 pub done-none : (ws chosen steps lens wishes : List ℕ) (n : ℕ) → NoSteps lens n → Begins ws wishes n → Done ws chosen 0 n steps lens wishes

@@ -59,7 +59,20 @@ loop-less c = search needs
 
 -- src/lib.rt:41:5
 loop-again : tie.Need-loop-again Inv-loop μ-loop
-loop-again c = search (begins-more, no-steps-more, needs)
+loop-again c = (
+  search needs,
+  search needs,
+  search needs,
+  search needs,
+  search needs,
+  search needs,
+  search needs,
+  search needs,
+  search needs,
+  search (no-steps-more, needs),
+  search (begins-more, needs),
+  search (begins-more, needs),
+)
 
 -- src/lib.rt:26:1
 same-length : tie.Need-same-length Inv-loop μ-loop

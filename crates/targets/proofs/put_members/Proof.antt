@@ -44,7 +44,19 @@ loop-less c = search needs
 
 -- src/lib.rt:115:5
 loop-again : tie.Need-loop-again Inv-loop μ-loop
-loop-again c = search (done-more, needs)
+loop-again c = (
+  search needs,
+  search needs,
+  search needs,
+  search needs,
+  search needs,
+  search needs,
+  search needs,
+  search needs,
+  search needs,
+  search needs,
+  search (done-more, needs),
+)
 
 -- src/lib.rt:97:1
 same-length : tie.Need-same-length Inv-loop μ-loop

@@ -1,5 +1,5 @@
 -- The threads at their start, then the members of the circle.
-use Rattle.targets.proofs.Members.{prepared}
+use Rattle.targets.proofs.Members.{tables-right, paths-within}
 use borrow.Author.Needs.{needs}
 use Rattle.targets.proofs.thread_paths.Statement.{statement}
 use Rattle.targets.proofs.thread_paths.Tie as tie
@@ -14,7 +14,15 @@ fill-begins-requires c κs = search needs
 
 -- src/lib.rt:143:5
 put-members-requires : tie.Need-put-members-requires
-put-members-requires c κs = search needs
+put-members-requires c κs = (
+  search needs,
+  search needs,
+  search needs,
+  search needs,
+  search needs,
+  search needs,
+  search needs,
+)
 
 -- src/lib.rt:123:1
 same-length : tie.Need-same-length
@@ -38,7 +46,15 @@ same-length-5 c = search needs
 
 -- src/lib.rt:123:1
 returns : tie.Need-returns
-returns c = search (prepared, needs)
+returns c = record {
+  right = search (tables-right, needs);
+  within = search (paths-within, needs);
+  few = search needs;
+  rows = search needs;
+  lengths = search needs;
+  beginnings = search needs;
+  wanted = search needs;
+}
 
 pub thread-paths-spec : {M : Type 1} → statement M
 thread-paths-spec =
