@@ -1,0 +1,98 @@
+-- The first i members of the circle are done.
+use borrow.Author.Needs.{needs}
+use Prim.Native.Nat.{_-_, _≤_}
+use mathlib.Core.Path.{_≡_}
+use lib.ListN.{length}
+use Rattle.targets.specs.Tables.{Asked, Done}
+use Rattle.targets.proofs.Threads.{few-threads}
+use Rattle.targets.proofs.Members.{asked-target, done-none, done-more, done-end}
+use Rattle.targets.proofs.put_members.Statement.{statement}
+use Rattle.targets.proofs.put_members.Tie as tie
+use Rattle.targets.proofs.put_members.Reads as reads
+use Rattle.targets.proofs.put_members.Lts as lts
+use Rattle.targets.proofs.put_member.Reads as put-member-reads
+
+abbrev Inv-loop : tie.InvT-loop
+Inv-loop table starts procs threads n chosen k path₀ steps₀ lens₀ wishes₀ i₀ path steps lens wishes i = (i ≤ k) × Asked table starts procs threads n chosen k × (1025 ≤ length path) × (6144 ≤ length steps) × (6 ≤ length lens) × (6 ≤ length wishes) × (length path ≡ length path₀) × (length steps ≡ length steps₀) × (length lens ≡ length lens₀) × (length wishes ≡ length wishes₀) × Done table chosen i n steps lens wishes
+
+abbrev μ-loop : tie.MeasureT-loop
+μ-loop table starts procs threads n chosen k path₀ steps₀ lens₀ wishes₀ i₀ path steps lens wishes i = k - i
+
+-- src/lib.rt:115:5
+loop-holds : tie.Need-loop-holds Inv-loop μ-loop
+loop-holds c = search (done-none, needs)
+
+-- src/lib.rt:116:54
+mul-put-member : tie.Need-mul-put-member Inv-loop μ-loop
+mul-put-member c = search needs
+
+-- src/lib.rt:116:54
+shared-slice-read-put-member : tie.Need-shared-slice-read-put-member Inv-loop μ-loop
+shared-slice-read-put-member c = search needs
+
+-- src/lib.rt:116:9
+put-member-requires : tie.Need-put-member-requires Inv-loop μ-loop
+put-member-requires c κs = search (few-threads, asked-target, needs)
+
+-- src/lib.rt:117:9
+add-i : tie.Need-add-i Inv-loop μ-loop
+add-i c = search needs
+
+-- src/lib.rt:115:5
+loop-less : tie.Need-loop-less Inv-loop μ-loop
+loop-less c = search needs
+
+-- src/lib.rt:115:5
+loop-again : tie.Need-loop-again Inv-loop μ-loop
+loop-again c = (
+  search needs,
+  search needs,
+  search needs,
+  search needs,
+  search needs,
+  search needs,
+  search needs,
+  search needs,
+  search needs,
+  search needs,
+  search (done-more, needs),
+)
+
+-- src/lib.rt:97:1
+same-length : tie.Need-same-length Inv-loop μ-loop
+same-length c = search needs
+
+-- src/lib.rt:97:1
+same-length-2 : tie.Need-same-length-2 Inv-loop μ-loop
+same-length-2 c = search needs
+
+-- src/lib.rt:97:1
+same-length-3 : tie.Need-same-length-3 Inv-loop μ-loop
+same-length-3 c = search needs
+
+-- src/lib.rt:97:1
+same-length-4 : tie.Need-same-length-4 Inv-loop μ-loop
+same-length-4 c = search needs
+
+-- src/lib.rt:97:1
+returns : tie.Need-returns Inv-loop μ-loop
+returns c = search (done-end, needs)
+
+pub put-members-spec : {M : Type 1} → statement M
+put-members-spec =
+    tie.close
+    (tie.spec
+    Inv-loop
+    μ-loop
+    loop-holds
+    mul-put-member
+    shared-slice-read-put-member
+    put-member-requires
+    add-i
+    loop-less
+    loop-again
+    same-length
+    same-length-2
+    same-length-3
+    same-length-4
+    returns)

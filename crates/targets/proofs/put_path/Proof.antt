@@ -1,0 +1,79 @@
+-- The path is found, and copied to the start of its row.
+use Rattle.targets.proofs.Threads.{path-within, path-room, row-written}
+use borrow.Author.Needs.{needs}
+use Rattle.targets.proofs.put_path.Statement.{statement}
+use Rattle.targets.proofs.put_path.Tie as tie
+use Rattle.targets.proofs.put_path.Reads as reads
+use Rattle.targets.proofs.put_path.Lts as lts
+use Rattle.buffers.proofs.copy_words.Reads as copy-words-reads
+use Rattle.paths.proofs.path_to.Reads as path-to-reads
+
+-- src/lib.rt:64:9
+path-to-requires : tie.Need-path-to-requires
+path-to-requires c κs = search needs
+
+-- src/lib.rt:65:14
+mul-at : tie.Need-mul-at
+mul-at c = search needs
+
+-- src/lib.rt:66:25
+sub-copy-words : tie.Need-sub-copy-words
+sub-copy-words c = search needs
+
+-- src/lib.rt:66:25
+part-copy-words-start : tie.Need-part-copy-words-start
+part-copy-words-start c = search needs
+
+-- src/lib.rt:66:25
+part-copy-words-end : tie.Need-part-copy-words-end
+part-copy-words-end c = search (path-within, needs)
+
+-- src/lib.rt:66:38
+mul-copy-words : tie.Need-mul-copy-words
+mul-copy-words c = search needs
+
+-- src/lib.rt:66:38
+sub-copy-words-2 : tie.Need-sub-copy-words-2
+sub-copy-words-2 c = search needs
+
+-- src/lib.rt:66:38
+part-copy-words-start-2 : tie.Need-part-copy-words-start-2
+part-copy-words-start-2 c = search needs
+
+-- src/lib.rt:66:38
+part-copy-words-end-2 : tie.Need-part-copy-words-end-2
+part-copy-words-end-2 c = search needs
+
+-- src/lib.rt:66:5
+copy-words-requires : tie.Need-copy-words-requires
+copy-words-requires c κs = search (path-room, needs)
+
+-- src/lib.rt:51:1
+same-length : tie.Need-same-length
+same-length c = search needs
+
+-- src/lib.rt:51:1
+same-length-2 : tie.Need-same-length-2
+same-length-2 c = search needs
+
+-- src/lib.rt:51:1
+returns : tie.Need-returns
+returns c = search (row-written, needs)
+
+pub put-path-spec : {M : Type 1} → statement M
+put-path-spec =
+    tie.close
+    (tie.spec
+    path-to-requires
+    mul-at
+    sub-copy-words
+    part-copy-words-start
+    part-copy-words-end
+    mul-copy-words
+    sub-copy-words-2
+    part-copy-words-start-2
+    part-copy-words-end-2
+    copy-words-requires
+    same-length
+    same-length-2
+    returns)
