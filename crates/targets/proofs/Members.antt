@@ -21,7 +21,7 @@ use Rattle.plan.specs.Settled.{tablePlan}
 use Rattle.conflict.specs.Entries.{threadAt, wordAt}
 use Rattle.retreat.specs.Paths.{pathOf, Within}
 use Rattle.retreat.specs.Answer.{Right}
-use Rattle.targets.specs.Tables.{pairLists, procOf, beginOf, Threads, Asked, Begins, NoSteps, Target, RowWritten, MemberPut, Done}
+use Rattle.targets.specs.Tables.{pairLists, procOf, beginOf, Threads, Asked, Room, Prepared, Begins, NoSteps, Target, RowWritten, MemberPut, Done}
 use Rattle.targets.proofs.Threads.{few-threads, size-within}
 
 getD-map-in : (f : ℕ → List ℕ) (l : List ℕ) (i : ℕ) → i < length l → getD (map f l) i [] ≡ f (getD l i 0)
@@ -54,17 +54,17 @@ module _ (ws starts threads chosen : List ℕ) (procs n k : ℕ) (a : Asked ws s
 
   -- ---- one member more
 
-  module _ (steps lens wishes steps′ lens′ wishes′ : List ℕ) (i : ℕ) (here : i < k) (lengths : 6 ≤ length lens) (wanted : 6 ≤ length wishes)
-      (d : Done ws chosen i n steps lens wishes) (m : MemberPut ws (threadAt chosen i) (wordAt chosen i) steps lens wishes steps′ lens′ wishes′) where
+  module _ (steps lens wishes steps′ lens′ wishes′ : List ℕ) (i : ℕ) (here : i < k)
+      (path begins : List ℕ) (room : Room path steps lens begins wishes) (d : Done ws chosen i n steps lens wishes) (m : MemberPut ws (threadAt chosen i) (wordAt chosen i) steps lens wishes steps′ lens′ wishes′) where
     few : threadAt chosen i < 6
     few = let z = few-threads ws starts threads procs n (a .threads-in) in let y = member-present i here in omega arith
 
     own-length : getD lens′ (threadAt chosen i) 0 ≡ m .count
-    own-length = ap (λ l. getD l (threadAt chosen i) 0) (m .lengths) ∙ getD-set-same lens (threadAt chosen i) (m .count) 0 (omega (arith, few))
+    own-length = ap (λ l. getD l (threadAt chosen i) 0) (m .lengths) ∙ getD-set-same lens (threadAt chosen i) (m .count) 0 (omega (arith, few, room .lengths, room .wanted))
 
     own-wish : getD wishes′ (threadAt chosen i) 0 ≡ 2 ^ wantOf (wordAt chosen i)
     own-wish = ap (λ l. getD l (threadAt chosen i) 0) (m .wanted)
-        ∙ getD-set-same wishes (threadAt chosen i) (2 ^ wantOf (wordAt chosen i)) 0 (omega (arith, few))
+        ∙ getD-set-same wishes (threadAt chosen i) (2 ^ wantOf (wordAt chosen i)) 0 (omega (arith, few, room .lengths, room .wanted))
 
     other-length : (u : ℕ) → u ≢ threadAt chosen i → getD lens′ u 0 ≡ getD lens u 0
     other-length u z = ap (λ l. getD l u 0) (m .lengths) ∙ getD-set-other lens (threadAt chosen i) u (m .count) 0 z
@@ -107,11 +107,8 @@ module _ (ws starts threads chosen : List ℕ) (procs n k : ℕ) (a : Asked ws s
 
   -- ---- all members
 
-  pub done-end : (i : ℕ) (steps lens wishes : List ℕ) → i ≤ k → k ≤ i → Done ws chosen i n steps lens wishes → Done ws chosen k n steps lens wishes
-  done-end i steps lens wishes h l d = let e : i ≡ k = omega arith in subst (λ j. Done ws chosen j n steps lens wishes) e d
-
   module _ (steps lens begins wishes : List ℕ) (d : Done ws chosen k n steps lens wishes) where
-    pub paths-within : Within lens n
+    paths-within : Within lens n
     unfolding Within
     paths-within t h =
         ⊎-elim
@@ -122,7 +119,7 @@ module _ (ws starts threads chosen : List ℕ) (procs n k : ℕ) (a : Asked ws s
         let o = d .others t h (λ j l e. none j l (eq→eqb (threadAt chosen j) t e)) in omega (arith, o .0))
         (search-below k (λ j. eqb (threadAt chosen j) t))
 
-    pub tables-right : Begins ws begins n → Right (tablePlan ws) (pairLists ws) k (threadAt chosen) (wordAt chosen) steps lens begins wishes n
+    tables-right : Begins ws begins n → Right (tablePlan ws) (pairLists ws) k (threadAt chosen) (wordAt chosen) steps lens begins wishes n
     unfolding Begins beginOf procOf
     tables-right b = record {
       threads = a .threads-in .all;
@@ -135,6 +132,21 @@ module _ (ws starts threads chosen : List ℕ) (procs n k : ℕ) (a : Asked ws s
       others = λ t h none. let o = d .others t h none in (o .0, o .1 ∙ sym (b t h));
       begins-with = b;
     }
+
+  pub prepared : (path steps lens begins wishes : List ℕ) (i : ℕ) → i ≤ k → k ≤ i → Room path steps lens begins wishes → Begins ws begins n
+      → Done ws chosen i n steps lens wishes → Prepared ws chosen k n steps lens begins wishes
+  prepared path steps lens begins wishes i h l room b d =
+      let e : i ≡ k = omega arith in
+      let all : Done ws chosen k n steps lens wishes = subst (λ j. Done ws chosen j n steps lens wishes) e d in
+      record {
+        right = tables-right steps lens begins wishes all b;
+        within = paths-within steps lens begins wishes all;
+        few = few-threads ws starts threads procs n (a .threads-in);
+        rows = room .rows;
+        lengths = room .lengths;
+        beginnings = room .beginnings;
+        wanted = room .wanted;
+      }
 
 pub done-none : (ws chosen steps lens wishes : List ℕ) (n : ℕ) → NoSteps lens n → Begins ws wishes n → Done ws chosen 0 n steps lens wishes
 unfolding NoSteps Begins

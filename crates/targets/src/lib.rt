@@ -2,7 +2,7 @@
 ghost use mathlib.Core.Path.{_≡_};
 ghost use Prim.Native.Nat.{_/_, _%_, _≤_, _<_};
 ghost use lib.ListN.{length};
-ghost use Rattle.targets.specs.Tables.{procOf, beginOf, Threads, Asked, Room, Prepared, Begins, NoSteps, Target, RowWritten, MemberPut, Done};
+ghost use Rattle.targets.specs.Tables.{procOf, beginOf, Threads, Asked, Room, Prepared, Begins, NoSteps, Target, RowWritten, MemberPut};
 ghost use Rattle.paths.specs.Walks.{Asked as PathAsked};
 
 // The procedure that thread t runs.
@@ -112,11 +112,13 @@ fn put_members(
     path: &mut [u64],
     steps: &mut [u64],
     lens: &mut [u64],
+    begins: &[u64],
     wishes: &mut [u64],
 )
-    requires { ⌜ Asked (now table) (now starts) procs (now threads) n (now chosen) k × (1025 ≤ length (now path)) × (6144 ≤ length (now steps))
-        × (6 ≤ length (now lens)) × (6 ≤ length (now wishes)) × NoSteps (now lens) n × Begins (now table) (now wishes) n ⌝ }
-    ensures { λ _. ⌜ Done (now (table .entry)) (now (chosen .entry)) k n (now (steps .exit)) (now (lens .exit)) (now (wishes .exit)) ⌝ }
+    requires { ⌜ Asked (now table) (now starts) procs (now threads) n (now chosen) k × Room (now path) (now steps) (now lens) (now begins) (now wishes)
+        × NoSteps (now lens) n × Begins (now table) (now begins) n × Begins (now table) (now wishes) n ⌝ }
+    ensures { λ _. ⌜ Prepared (now (table .entry)) (now (chosen .entry)) k n (now (steps .exit)) (now (lens .exit)) (now (begins .entry))
+        (now (wishes .exit)) ⌝ }
 {
     let mut i: usize = 0;
     while i < k {
@@ -169,6 +171,7 @@ pub fn thread_paths(
         path,
         steps,
         lens,
+        begins,
         wishes,
     );
 }

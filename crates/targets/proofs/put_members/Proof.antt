@@ -3,9 +3,9 @@ use borrow.Author.Needs.{needs}
 use Prim.Native.Nat.{_-_, _≤_}
 use mathlib.Core.Path.{_≡_}
 use lib.ListN.{length}
-use Rattle.targets.specs.Tables.{Asked, Done}
+use Rattle.targets.specs.Tables.{Asked, Room, Begins, Done}
 use Rattle.targets.proofs.Threads.{few-threads}
-use Rattle.targets.proofs.Members.{asked-target, done-none, done-more, done-end}
+use Rattle.targets.proofs.Members.{asked-target, done-none, done-more, prepared}
 use Rattle.targets.proofs.put_members.Statement.{statement}
 use Rattle.targets.proofs.put_members.Tie as tie
 use Rattle.targets.proofs.put_members.Reads as reads
@@ -13,40 +13,41 @@ use Rattle.targets.proofs.put_members.Lts as lts
 use Rattle.targets.proofs.put_member.Reads as put-member-reads
 
 abbrev Inv-loop : tie.InvT-loop
-Inv-loop table starts procs threads n chosen k path₀ steps₀ lens₀ wishes₀ i₀ path steps lens wishes i = (i ≤ k) × Asked table starts procs threads n chosen k × (1025 ≤ length path) × (6144 ≤ length steps) × (6 ≤ length lens) × (6 ≤ length wishes) × (length path ≡ length path₀) × (length steps ≡ length steps₀) × (length lens ≡ length lens₀) × (length wishes ≡ length wishes₀) × Done table chosen i n steps lens wishes
+Inv-loop table starts procs threads n chosen k path₀ steps₀ lens₀ begins wishes₀ i₀ path steps lens wishes i =
+    (i ≤ k) × Asked table starts procs threads n chosen k × Room path steps lens begins wishes × Begins table begins n
+    × (length path ≡ length path₀) × (length steps ≡ length steps₀) × (length lens ≡ length lens₀) × (length wishes ≡ length wishes₀)
+    × Done table chosen i n steps lens wishes
 
 abbrev μ-loop : tie.MeasureT-loop
-μ-loop table starts procs threads n chosen k path₀ steps₀ lens₀ wishes₀ i₀ path steps lens wishes i = k - i
+μ-loop table starts procs threads n chosen k path₀ steps₀ lens₀ begins wishes₀ i₀ path steps lens wishes i = k - i
 
--- src/lib.rt:115:5
+-- src/lib.rt:124:5
 loop-holds : tie.Need-loop-holds Inv-loop μ-loop
 loop-holds c = search (done-none, needs)
 
--- src/lib.rt:116:54
+-- src/lib.rt:131:13
 mul-put-member : tie.Need-mul-put-member Inv-loop μ-loop
 mul-put-member c = search needs
 
--- src/lib.rt:116:54
+-- src/lib.rt:131:13
 shared-slice-read-put-member : tie.Need-shared-slice-read-put-member Inv-loop μ-loop
 shared-slice-read-put-member c = search needs
 
--- src/lib.rt:116:9
+-- src/lib.rt:125:9
 put-member-requires : tie.Need-put-member-requires Inv-loop μ-loop
 put-member-requires c κs = search (few-threads, asked-target, needs)
 
--- src/lib.rt:117:9
+-- src/lib.rt:137:9
 add-i : tie.Need-add-i Inv-loop μ-loop
 add-i c = search needs
 
--- src/lib.rt:115:5
+-- src/lib.rt:124:5
 loop-less : tie.Need-loop-less Inv-loop μ-loop
 loop-less c = search needs
 
--- src/lib.rt:115:5
+-- src/lib.rt:124:5
 loop-again : tie.Need-loop-again Inv-loop μ-loop
 loop-again c = (
-  search needs,
-  search needs,
   search needs,
   search needs,
   search needs,
@@ -58,25 +59,25 @@ loop-again c = (
   search (done-more, needs),
 )
 
--- src/lib.rt:97:1
+-- src/lib.rt:104:1
 same-length : tie.Need-same-length Inv-loop μ-loop
 same-length c = search needs
 
--- src/lib.rt:97:1
+-- src/lib.rt:104:1
 same-length-2 : tie.Need-same-length-2 Inv-loop μ-loop
 same-length-2 c = search needs
 
--- src/lib.rt:97:1
+-- src/lib.rt:104:1
 same-length-3 : tie.Need-same-length-3 Inv-loop μ-loop
 same-length-3 c = search needs
 
--- src/lib.rt:97:1
+-- src/lib.rt:104:1
 same-length-4 : tie.Need-same-length-4 Inv-loop μ-loop
 same-length-4 c = search needs
 
--- src/lib.rt:97:1
+-- src/lib.rt:104:1
 returns : tie.Need-returns Inv-loop μ-loop
-returns c = search (done-end, needs)
+returns c = search (prepared, needs)
 
 pub put-members-spec : {M : Type 1} → statement M
 put-members-spec =

@@ -1,5 +1,4 @@
 -- The threads at their start, then the members of the circle.
-use Rattle.targets.proofs.Members.{tables-right, paths-within}
 use borrow.Author.Needs.{needs}
 use Rattle.targets.proofs.thread_paths.Statement.{statement}
 use Rattle.targets.proofs.thread_paths.Tie as tie
@@ -8,11 +7,11 @@ use Rattle.targets.proofs.thread_paths.Lts as lts
 use Rattle.targets.proofs.fill_begins.Reads as fill-begins-reads
 use Rattle.targets.proofs.put_members.Reads as put-members-reads
 
--- src/lib.rt:142:5
+-- src/lib.rt:162:5
 fill-begins-requires : tie.Need-fill-begins-requires
 fill-begins-requires c κs = search needs
 
--- src/lib.rt:143:5
+-- src/lib.rt:163:5
 put-members-requires : tie.Need-put-members-requires
 put-members-requires c κs = (
   search needs,
@@ -20,41 +19,31 @@ put-members-requires c κs = (
   search needs,
   search needs,
   search needs,
-  search needs,
-  search needs,
 )
 
--- src/lib.rt:123:1
+-- src/lib.rt:143:1
 same-length : tie.Need-same-length
 same-length c = search needs
 
--- src/lib.rt:123:1
+-- src/lib.rt:143:1
 same-length-2 : tie.Need-same-length-2
 same-length-2 c = search needs
 
--- src/lib.rt:123:1
+-- src/lib.rt:143:1
 same-length-3 : tie.Need-same-length-3
 same-length-3 c = search needs
 
--- src/lib.rt:123:1
+-- src/lib.rt:143:1
 same-length-4 : tie.Need-same-length-4
 same-length-4 c = search needs
 
--- src/lib.rt:123:1
+-- src/lib.rt:143:1
 same-length-5 : tie.Need-same-length-5
 same-length-5 c = search needs
 
--- src/lib.rt:123:1
+-- src/lib.rt:143:1
 returns : tie.Need-returns
-returns c = record {
-  right = search (tables-right, needs);
-  within = search (paths-within, needs);
-  few = search needs;
-  rows = search needs;
-  lengths = search needs;
-  beginnings = search needs;
-  wanted = search needs;
-}
+returns c = search needs
 
 pub thread-paths-spec : {M : Type 1} → statement M
 thread-paths-spec =
