@@ -20,22 +20,10 @@ use Rattle.plan.specs.Table.{formAt, tableForms}
 use Rattle.plan.specs.Settled.{PlanTable, tablePlan}
 use Rattle.plan.specs.Rules.{Refusal, refusedIf, readerRefusal, planRefusal, tooLarge, tooManyPairs, tooLong, readingOf, Tabled}
 use Rattle.plan.proofs.Laws.{first-refuses, first-passes}
+use Rattle.plan.proofs.Filling.{accepted-none, accepted-count}
 use Rattle.plan.proofs.Kept.{first-none}
 use Rattle.plan.proofs.Sound.{accepted-table}
 use Rattle.procs.proofs.WithinSize.{proc-refusal-none}
-
--- TEMP
-accepted-none : (a : Option Refusal) (m n : ℕ) → readingOf a m ≡ Accepted n → a ≡ none
-unfolding readingOf
-accepted-none none m n e = refl
-accepted-none (some r) m n e = let z : _≡_ {A = ℕ} 0 1 = cc in absurd (omega arith)
-
-accepted-count : (a : Option Refusal) (m n : ℕ) → readingOf a m ≡ Accepted n → n ≡ m
-unfolding readingOf
-accepted-count none m n e = cc
-accepted-count (some r) m n e = let z : _≡_ {A = ℕ} 0 1 = cc in absurd (omega arith)
-
--- END TEMP
 
 -- rules 9 and 10, of forms
 abbrev pub laterRefusal : List Form → Option Refusal

@@ -78,12 +78,12 @@ filling-done text table table₀ at n s h a b c =
     record { answer = rw (← e, k); forms = λ _. rw k f }
 
 -- an answer that accepts
-accepted-none : (a : Option Refusal) (m n : ℕ) → readingOf a m ≡ Accepted n → a ≡ none
+pub accepted-none : (a : Option Refusal) (m n : ℕ) → readingOf a m ≡ Accepted n → a ≡ none
 unfolding readingOf
 accepted-none none m n e = refl
 accepted-none (some r) m n e = let z : _≡_ {A = ℕ} 0 1 = cc in absurd (omega arith)
 
-accepted-count : (a : Option Refusal) (m n : ℕ) → readingOf a m ≡ Accepted n → n ≡ m
+pub accepted-count : (a : Option Refusal) (m n : ℕ) → readingOf a m ≡ Accepted n → n ≡ m
 unfolding readingOf
 accepted-count none m n e = cc
 accepted-count (some r) m n e = let z : _≡_ {A = ℕ} 0 1 = cc in absurd (omega arith)

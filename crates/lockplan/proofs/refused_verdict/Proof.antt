@@ -1,22 +1,16 @@
 use borrow.Author.Needs.{needs}
 use Rattle.lockplan.proofs.refused_verdict.Statement.{statement}
 use Rattle.lockplan.proofs.refused_verdict.Tie as tie
-use Rattle.lockplan.proofs.refused_verdict.Reads as reads
-use Rattle.lockplan.proofs.refused_verdict.Lts as lts
 
--- src/lib.rt:252:33
 enum-told : tie.Need-enum-told
 enum-told c = search needs
 
--- src/lib.rt:253:28
 enum-known-reading : tie.Need-enum-known-reading
 enum-known-reading c = search needs
 
--- src/lib.rt:248:1
 returns : tie.Need-returns
 returns c = search needs
 
--- src/lib.rt:248:1
 returns-2 : tie.Need-returns-2
 returns-2 c = rw (c .before .reading .given .1)
 

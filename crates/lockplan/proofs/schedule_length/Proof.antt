@@ -3,32 +3,24 @@ use Rattle.lockplan.proofs.Judging.{length-case}
 use borrow.Author.Needs.{needs}
 use Rattle.lockplan.proofs.schedule_length.Statement.{statement}
 use Rattle.lockplan.proofs.schedule_length.Tie as tie
-use Rattle.lockplan.proofs.schedule_length.Reads as reads
-use Rattle.lockplan.proofs.schedule_length.Lts as lts
 
--- src/lib.rt:291:26
 enum-told : tie.Need-enum-told
 enum-told c = search needs
 
--- src/lib.rt:292:29
 enum-known-verdict : tie.Need-enum-known-verdict
 enum-known-verdict c = search needs
 
--- src/lib.rt:293:50
 enum-told-2 : tie.Need-enum-told-2
 enum-told-2 c = search needs
 
--- src/lib.rt:287:1
 returns : tie.Need-returns
 unfolding scheduleLength
 returns c = search (length-case, needs)
 
--- src/lib.rt:287:1
 returns-2 : tie.Need-returns-2
 unfolding scheduleLength
 returns-2 c = search (length-case, needs)
 
--- src/lib.rt:287:1
 returns-3 : tie.Need-returns-3
 unfolding scheduleLength
 returns-3 c = search (length-case, needs)

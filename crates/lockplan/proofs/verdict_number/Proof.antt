@@ -4,72 +4,54 @@ use Rattle.lockplan.proofs.Judging.{verdict-case, high-entries, high-li
 use borrow.Author.Needs.{needs}
 use Rattle.lockplan.proofs.verdict_number.Statement.{statement}
 use Rattle.lockplan.proofs.verdict_number.Tie as tie
-use Rattle.lockplan.proofs.verdict_number.Reads as reads
-use Rattle.lockplan.proofs.verdict_number.Lts as lts
 
--- src/lib.rt:273:26
 enum-told : tie.Need-enum-told
 enum-told c = search needs
 
--- src/lib.rt:274:29
 enum-known-verdict : tie.Need-enum-known-verdict
 enum-known-verdict c = search needs
 
--- src/lib.rt:274:60
 cast-result : tie.Need-cast-result
 cast-result c = search needs
 
--- src/lib.rt:274:53
 mul-result : tie.Need-mul-result
 mul-result c = search needs
 
--- src/lib.rt:274:49
 add-result : tie.Need-add-result
 add-result c = search needs
 
--- src/lib.rt:274:76
 mul-result-2 : tie.Need-mul-result-2
 mul-result-2 c = let h = high-entries _ _ _ (c .before .before .before .pre) (c .before .verdict .given .1) in omega arith
 
--- src/lib.rt:274:49
 add-result-2 : tie.Need-add-result-2
 add-result-2 c = let h = high-entries _ _ _ (c .before .before .before .pre) (c .before .verdict .given .1) in omega arith
 
--- src/lib.rt:275:28
 enum-known-verdict-2 : tie.Need-enum-known-verdict-2
 enum-known-verdict-2 c = search needs
 
--- src/lib.rt:275:55
 cast-result-2 : tie.Need-cast-result-2
 cast-result-2 c = search needs
 
--- src/lib.rt:275:48
 mul-result-3 : tie.Need-mul-result-3
 mul-result-3 c = search needs
 
--- src/lib.rt:275:44
 add-result-3 : tie.Need-add-result-3
 add-result-3 c = search needs
 
--- src/lib.rt:275:70
 mul-result-4 : tie.Need-mul-result-4
 mul-result-4 c = let h = high-line _ _ _ (c .before .before .before .pre) (c .before .verdict2 .given .1) in omega arith
 
--- src/lib.rt:275:44
 add-result-4 : tie.Need-add-result-4
 add-result-4 c = let h = high-line _ _ _ (c .before .before .before .pre) (c .before .verdict2 .given .1) in omega arith
 
--- src/lib.rt:268:1
 returns : tie.Need-returns
 unfolding verdictNumber
 returns c = search (verdict-case, needs)
 
--- src/lib.rt:268:1
 returns-2 : tie.Need-returns-2
 unfolding verdictNumber
 returns-2 c = search (verdict-case, needs)
 
--- src/lib.rt:268:1
 returns-3 : tie.Need-returns-3
 unfolding verdictNumber
 returns-3 c = search (verdict-case, needs)

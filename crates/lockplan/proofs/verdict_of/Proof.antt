@@ -1,22 +1,16 @@
 use borrow.Author.Needs.{needs}
 use Rattle.lockplan.proofs.verdict_of.Statement.{statement}
 use Rattle.lockplan.proofs.verdict_of.Tie as tie
-use Rattle.lockplan.proofs.verdict_of.Reads as reads
-use Rattle.lockplan.proofs.verdict_of.Lts as lts
 
--- src/lib.rt:262:27
 enum-told : tie.Need-enum-told
 enum-told c = search needs
 
--- src/lib.rt:263:28
 enum-known-finding : tie.Need-enum-known-finding
 enum-known-finding c = search needs
 
--- src/lib.rt:258:1
 returns : tie.Need-returns
 returns c = search needs
 
--- src/lib.rt:258:1
 returns-2 : tie.Need-returns-2
 returns-2 c = rw (c .before .finding .given .1)
 
