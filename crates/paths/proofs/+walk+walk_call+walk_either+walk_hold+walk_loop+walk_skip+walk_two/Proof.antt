@@ -7,7 +7,6 @@ use denote.Ref.{now}
 use native.Mathlib.Nat.{le-refl, le-trans}
 use Rattle.paths.proofs.Blocks.{inBlock}
 use Rattle.paths.proofs.Measure.{measure, statement-falls, walk-falls, two-falls, rest-falls, deeper-falls}
-use Rattle.paths.proofs.Buffers.{ready-next, ready-back}
 use Rattle.paths.proofs.Walking.{ended-walks, other-walks, close-walks, walks-at, skip-walks, call-walks-none, call-walks-found, call-walks-past}
 use Rattle.paths.proofs.Walking.{hold-walks-here, hold-walks-found, hold-walks-past, loop-walks-found, loop-walks-past}
 use Rattle.paths.proofs.Walking.{one-walks-found, one-walks-past, two-walks-found, two-walks-past}
@@ -144,7 +143,16 @@ abbrev walk-either-calls : ℕ → walk-either-lts.Claims
 walk-either-calls t = (put-reads.Asked, put-reads.Learnt, after-reads.Asked, after-reads.Learnt, walk-below t, walk.Post, walk-two-below t, walk-two.Post)
 
 abbrev walk-hold-calls : ℕ → walk-hold-lts.Claims
-walk-hold-calls t = (gives-word-reads.Asked, gives-word-reads.Learnt, with-lock-reads.Asked, with-lock-reads.Learnt, put-reads.Asked, put-reads.Learnt, walk-below t, walk.Post)
+walk-hold-calls t = (
+  gives-word-reads.Asked,
+  gives-word-reads.Learnt,
+  with-lock-reads.Asked,
+  with-lock-reads.Learnt,
+  put-reads.Asked,
+  put-reads.Learnt,
+  walk-below t,
+  walk.Post,
+)
 
 abbrev walk-loop-calls : ℕ → walk-loop-lts.Claims
 walk-loop-calls t = (put-reads.Asked, put-reads.Learnt, walk-below t, walk.Post)
@@ -312,9 +320,8 @@ walk-call-put-requires t c κs = search needs
 
 walk-call-walk-requires : (t : ℕ) → walk-call-lts.Need-walk-requires (walk-call-calls t) (walk-call-at t) walk-call.Post
 walk-call-walk-requires t c κs =
-    let c₁ = c .before .before .before .before in
-    let c₂ = c₁ .before .before .before .before .before in
-    (walk-falls _ _ _ _ _ (c₂ .pre .0) (le-refl _), ready-next (c₂ .pre .1) (c₂ .pre .1 .locks) (c₁ .put .ensures .buffer .room))
+    let c₁ = c .before .before .before .before .before .before .before .before .before in
+    (walk-falls _ _ _ _ _ (c₁ .pre .0) (le-refl _), search needs)
 
 walk-call-same-length : (t : ℕ) → walk-call-lts.Need-same-length (walk-call-calls t) (walk-call-at t) walk-call.Post
 walk-call-same-length t c = search needs
@@ -331,9 +338,8 @@ walk-call-start-of-requires t c κs = search needs
 walk-call-walk-requires-2 : (t : ℕ) → walk-call-lts.Need-walk-requires-2 (walk-call-calls t) (walk-call-at t) walk-call.Post
 walk-call-walk-requires-2 t c κs =
     let c₁ = c .before .before in
-    let c₂ = c₁ .before .before .before in
-    let c₃ = c₂ .before .before .before .before .before in
-    (deeper-falls _ _ _ _ _ (c₃ .pre .0) (c₁ .if1 .left), ready-next (c₃ .pre .1) (c₃ .pre .1 .locks) (c₂ .put .ensures .buffer .room))
+    let c₂ = c₁ .before .before .before .before .before .before .before .before in
+    (deeper-falls _ _ _ _ _ (c₂ .pre .0) (c₁ .if1 .left), search needs)
 
 walk-call-same-length-2 : (t : ℕ) → walk-call-lts.Need-same-length-2 (walk-call-calls t) (walk-call-at t) walk-call.Post
 walk-call-same-length-2 t c = search needs
@@ -343,9 +349,8 @@ walk-call-returns-2 t c = search (call-walks-found, needs)
 
 walk-call-walk-requires-3 : (t : ℕ) → walk-call-lts.Need-walk-requires-3 (walk-call-calls t) (walk-call-at t) walk-call.Post
 walk-call-walk-requires-3 t c κs =
-    let c₁ = c .before .before .before .before in
-    let c₂ = c₁ .before .before .before .before .before .before .before .before .before .before .before in
-    (walk-falls _ _ _ _ _ (c₂ .pre .0) (le-refl _), ready-next (c₂ .pre .1) (c₂ .pre .1 .locks) (c₁ .walk2 .ensures .buffer .room))
+    let c₁ = c .before .before .before .before .before .before .before .before .before .before .before .before .before .before .before in
+    (walk-falls _ _ _ _ _ (c₁ .pre .0) (le-refl _), search needs)
 
 walk-call-same-length-3 : (t : ℕ) → walk-call-lts.Need-same-length-3 (walk-call-calls t) (walk-call-at t) walk-call.Post
 walk-call-same-length-3 t c = search needs
@@ -362,9 +367,8 @@ walk-either-after-requires t c κs = search needs
 walk-either-walk-requires : (t : ℕ) → walk-either-lts.Need-walk-requires (walk-either-calls t) (walk-either-at t) walk-either.Post
 walk-either-walk-requires t c κs =
     let c₁ = c .before in
-    let c₂ = c₁ .before .before .before in
-    let c₃ = c₂ .before .before .before .before .before in
-    (walk-falls _ _ _ _ _ (c₃ .pre .0) (c₁ .after .ensures .0), ready-next (c₃ .pre .1) (c₃ .pre .1 .locks) (c₂ .put .ensures .buffer .room))
+    let c₂ = c₁ .before .before .before .before .before .before .before .before in
+    (walk-falls _ _ _ _ _ (c₂ .pre .0) (c₁ .after .ensures .0), search needs)
 
 walk-either-same-length : (t : ℕ) → walk-either-lts.Need-same-length (walk-either-calls t) (walk-either-at t) walk-either.Post
 walk-either-same-length t c = search needs
@@ -377,10 +381,8 @@ walk-either-walk-two-requires t c κs =
     let c₁ = c .before in
     let c₂ = c₁ .before .before .before in
     let c₃ = c₂ .before .before in
-    let c₄ = c₃ .before .before .before in
-    let c₅ = c₄ .before .before .before .before .before in
-    let later = le-trans (c₃ .after .ensures .0) (c₂ .walk .ensures .forward (c₁ .if1 .left)) in
-    (two-falls _ _ _ _ _ (c₅ .pre .0) later, ready-back (c₅ .pre .1) (c₄ .put .ensures .buffer) (c₂ .walk .ensures .buffer))
+    let c₄ = c₃ .before .before .before .before .before .before .before .before in
+    (two-falls _ _ _ _ _ (c₄ .pre .0) (le-trans (c₃ .after .ensures .0) (c₂ .walk .ensures .forward (c₁ .if1 .left))), search needs)
 
 walk-either-same-length-2 : (t : ℕ) → walk-either-lts.Need-same-length-2 (walk-either-calls t) (walk-either-at t) walk-either.Post
 walk-either-same-length-2 t c = search needs
@@ -402,10 +404,8 @@ walk-hold-put-requires t c κs = search needs
 
 walk-hold-walk-requires : (t : ℕ) → walk-hold-lts.Need-walk-requires (walk-hold-calls t) (walk-hold-at t) walk-hold.Post
 walk-hold-walk-requires t c κs =
-    let c₁ = c .before .before .before in
-    let c₂ = c₁ .before .before in
-    let c₃ = c₂ .before .before .before .before .before .before in
-    (walk-falls _ _ _ _ _ (c₃ .pre .0) (le-refl _), ready-next (c₃ .pre .1) (c₂ .with-lock .ensures .0) (c₁ .put .ensures .buffer .room))
+    let c₁ = c .before .before .before .before .before .before .before .before .before .before .before in
+    (walk-falls _ _ _ _ _ (c₁ .pre .0) (le-refl _), search needs)
 
 walk-hold-same-length : (t : ℕ) → walk-hold-lts.Need-same-length (walk-hold-calls t) (walk-hold-at t) walk-hold.Post
 walk-hold-same-length t c = search needs
@@ -418,11 +418,10 @@ walk-hold-put-requires-2 t c κs = search needs
 
 walk-hold-walk-requires-2 : (t : ℕ) → walk-hold-lts.Need-walk-requires-2 (walk-hold-calls t) (walk-hold-at t) walk-hold.Post
 walk-hold-walk-requires-2 t c κs =
-    let c₁ = c .before .before .before in
-    let c₂ = c₁ .before .before in
-    let c₃ = c₂ .before .before .before in
-    let c₄ = c₃ .before .before .before .before .before .before .before .before .before .before .before .before in
-    (walk-falls _ _ _ _ _ (c₄ .pre .0) (c₃ .walk .ensures .forward (c₂ .if2 .left)), ready-next (c₄ .pre .1) (c₄ .pre .1 .locks) (c₁ .put2 .ensures .buffer .room))
+    let c₁ = c .before .before .before .before .before in
+    let c₂ = c₁ .before .before .before in
+    let c₃ = c₂ .before .before .before .before .before .before .before .before .before .before .before .before in
+    (walk-falls _ _ _ _ _ (c₃ .pre .0) (c₂ .walk .ensures .forward (c₁ .if2 .left)), search needs)
 
 walk-hold-same-length-2 : (t : ℕ) → walk-hold-lts.Need-same-length-2 (walk-hold-calls t) (walk-hold-at t) walk-hold.Post
 walk-hold-same-length-2 t c = search needs
@@ -435,9 +434,8 @@ walk-loop-put-requires t c κs = search needs
 
 walk-loop-walk-requires : (t : ℕ) → walk-loop-lts.Need-walk-requires (walk-loop-calls t) (walk-loop-at t) walk-loop.Post
 walk-loop-walk-requires t c κs =
-    let c₁ = c .before .before .before in
-    let c₂ = c₁ .before .before .before .before .before in
-    (walk-falls _ _ _ _ _ (c₂ .pre .0) (le-refl _), ready-next (c₂ .pre .1) (c₂ .pre .1 .locks) (c₁ .put .ensures .buffer .room))
+    let c₁ = c .before .before .before .before .before .before .before .before in
+    (walk-falls _ _ _ _ _ (c₁ .pre .0) (le-refl _), search needs)
 
 walk-loop-same-length : (t : ℕ) → walk-loop-lts.Need-same-length (walk-loop-calls t) (walk-loop-at t) walk-loop.Post
 walk-loop-same-length t c = search needs
@@ -450,11 +448,10 @@ walk-loop-put-requires-2 t c κs = search needs
 
 walk-loop-walk-requires-2 : (t : ℕ) → walk-loop-lts.Need-walk-requires-2 (walk-loop-calls t) (walk-loop-at t) walk-loop.Post
 walk-loop-walk-requires-2 t c κs =
-    let c₁ = c .before .before .before in
-    let c₂ = c₁ .before .before in
-    let c₃ = c₂ .before .before .before in
-    let c₄ = c₃ .before .before .before .before .before .before .before .before .before in
-    (walk-falls _ _ _ _ _ (c₄ .pre .0) (c₃ .walk .ensures .forward (c₂ .if1 .left)), ready-next (c₄ .pre .1) (c₄ .pre .1 .locks) (c₁ .put2 .ensures .buffer .room))
+    let c₁ = c .before .before .before .before .before in
+    let c₂ = c₁ .before .before .before in
+    let c₃ = c₂ .before .before .before .before .before .before .before .before .before in
+    (walk-falls _ _ _ _ _ (c₃ .pre .0) (c₂ .walk .ensures .forward (c₁ .if1 .left)), search needs)
 
 walk-loop-same-length-2 : (t : ℕ) → walk-loop-lts.Need-same-length-2 (walk-loop-calls t) (walk-loop-at t) walk-loop.Post
 walk-loop-same-length-2 t c = search needs
@@ -467,9 +464,8 @@ walk-skip-put-requires t c κs = search needs
 
 walk-skip-walk-requires : (t : ℕ) → walk-skip-lts.Need-walk-requires (walk-skip-calls t) (walk-skip-at t) walk-skip.Post
 walk-skip-walk-requires t c κs =
-    let c₁ = c .before .before .before in
-    let c₂ = c₁ .before .before .before .before .before in
-    (walk-falls _ _ _ _ _ (c₂ .pre .0) (le-refl _), ready-next (c₂ .pre .1) (c₂ .pre .1 .locks) (c₁ .put .ensures .buffer .room))
+    let c₁ = c .before .before .before .before .before .before .before .before in
+    (walk-falls _ _ _ _ _ (c₁ .pre .0) (le-refl _), search needs)
 
 walk-skip-same-length : (t : ℕ) → walk-skip-lts.Need-same-length (walk-skip-calls t) (walk-skip-at t) walk-skip.Post
 walk-skip-same-length t c = search needs
@@ -486,9 +482,8 @@ walk-two-after-requires t c κs = search needs
 walk-two-walk-requires : (t : ℕ) → walk-two-lts.Need-walk-requires (walk-two-calls t) (walk-two-at t) walk-two.Post
 walk-two-walk-requires t c κs =
     let c₁ = c .before in
-    let c₂ = c₁ .before .before .before in
-    let c₃ = c₂ .before .before .before .before .before in
-    (rest-falls _ _ _ _ _ (c₃ .pre .0) (c₁ .after .ensures .0), ready-next (c₃ .pre .1) (c₃ .pre .1 .locks) (c₂ .put .ensures .buffer .room))
+    let c₂ = c₁ .before .before .before .before .before .before .before .before in
+    (rest-falls _ _ _ _ _ (c₂ .pre .0) (c₁ .after .ensures .0), search needs)
 
 walk-two-same-length : (t : ℕ) → walk-two-lts.Need-same-length (walk-two-calls t) (walk-two-at t) walk-two.Post
 walk-two-same-length t c = search needs
@@ -506,8 +501,7 @@ walk-two-walk-requires-2 t c κs =
     let c₃ = c₂ .before .before .before in
     let c₄ = c₃ .before .before in
     let c₅ = c₄ .before .before .before .before .before .before .before .before in
-    let later = le-trans (c₄ .after .ensures .0) (le-trans (c₃ .walk .ensures .forward (c₂ .if1 .left)) (c₁ .after2 .ensures .0)) in
-    (rest-falls _ _ _ _ _ (c₅ .pre .0) later, ready-next (c₅ .pre .1) (c₅ .pre .1 .locks) (c₃ .walk .ensures .buffer .room))
+    (rest-falls _ _ _ _ _ (c₅ .pre .0) (le-trans (c₄ .after .ensures .0) (le-trans (c₃ .walk .ensures .forward (c₂ .if1 .left)) (c₁ .after2 .ensures .0))), search needs)
 
 walk-two-same-length-2 : (t : ℕ) → walk-two-lts.Need-same-length-2 (walk-two-calls t) (walk-two-at t) walk-two.Post
 walk-two-same-length-2 t c = search needs
