@@ -327,7 +327,7 @@ walk-call-same-length : (t : ℕ) → walk-call-lts.Need-same-length (walk-call-
 walk-call-same-length t c = search needs
 
 walk-call-returns : (t : ℕ) → walk-call-lts.Need-returns (walk-call-calls t) (walk-call-at t) walk-call.Post
-walk-call-returns t c = search (call-walks-none, needs)
+walk-call-returns t c = search call-walks-none
 
 walk-call-sub-walk : (t : ℕ) → walk-call-lts.Need-sub-walk (walk-call-calls t) (walk-call-at t) walk-call.Post
 walk-call-sub-walk t c = search needs
@@ -345,7 +345,7 @@ walk-call-same-length-2 : (t : ℕ) → walk-call-lts.Need-same-length-2 (walk-c
 walk-call-same-length-2 t c = search needs
 
 walk-call-returns-2 : (t : ℕ) → walk-call-lts.Need-returns-2 (walk-call-calls t) (walk-call-at t) walk-call.Post
-walk-call-returns-2 t c = search (call-walks-found, needs)
+walk-call-returns-2 t c = search call-walks-found
 
 walk-call-walk-requires-3 : (t : ℕ) → walk-call-lts.Need-walk-requires-3 (walk-call-calls t) (walk-call-at t) walk-call.Post
 walk-call-walk-requires-3 t c κs =
@@ -356,7 +356,7 @@ walk-call-same-length-3 : (t : ℕ) → walk-call-lts.Need-same-length-3 (walk-c
 walk-call-same-length-3 t c = search needs
 
 walk-call-returns-3 : (t : ℕ) → walk-call-lts.Need-returns-3 (walk-call-calls t) (walk-call-at t) walk-call.Post
-walk-call-returns-3 t c = search (call-walks-past, needs)
+walk-call-returns-3 t c = search call-walks-past
 
 walk-either-put-requires : (t : ℕ) → walk-either-lts.Need-put-requires (walk-either-calls t) (walk-either-at t) walk-either.Post
 walk-either-put-requires t c κs = search needs
@@ -374,7 +374,7 @@ walk-either-same-length : (t : ℕ) → walk-either-lts.Need-same-length (walk-e
 walk-either-same-length t c = search needs
 
 walk-either-returns : (t : ℕ) → walk-either-lts.Need-returns (walk-either-calls t) (walk-either-at t) walk-either.Post
-walk-either-returns t c = search (one-walks-found, needs)
+walk-either-returns t c = search one-walks-found
 
 walk-either-walk-two-requires : (t : ℕ) → walk-either-lts.Need-walk-two-requires (walk-either-calls t) (walk-either-at t) walk-either.Post
 walk-either-walk-two-requires t c κs =
@@ -388,13 +388,13 @@ walk-either-same-length-2 : (t : ℕ) → walk-either-lts.Need-same-length-2 (wa
 walk-either-same-length-2 t c = search needs
 
 walk-either-returns-2 : (t : ℕ) → walk-either-lts.Need-returns-2 (walk-either-calls t) (walk-either-at t) walk-either.Post
-walk-either-returns-2 t c = search (one-walks-past, needs)
+walk-either-returns-2 t c = search one-walks-past
 
 walk-hold-gives-word-requires : (t : ℕ) → walk-hold-lts.Need-gives-word-requires (walk-hold-calls t) (walk-hold-at t) walk-hold.Post
 walk-hold-gives-word-requires t c κs = search needs
 
 walk-hold-returns : (t : ℕ) → walk-hold-lts.Need-returns (walk-hold-calls t) (walk-hold-at t) walk-hold.Post
-walk-hold-returns t c = search (hold-walks-here, needs)
+walk-hold-returns t c = search hold-walks-here
 
 walk-hold-with-lock-requires : (t : ℕ) → walk-hold-lts.Need-with-lock-requires (walk-hold-calls t) (walk-hold-at t) walk-hold.Post
 walk-hold-with-lock-requires t c κs = search needs
@@ -411,7 +411,7 @@ walk-hold-same-length : (t : ℕ) → walk-hold-lts.Need-same-length (walk-hold-
 walk-hold-same-length t c = search needs
 
 walk-hold-returns-2 : (t : ℕ) → walk-hold-lts.Need-returns-2 (walk-hold-calls t) (walk-hold-at t) walk-hold.Post
-walk-hold-returns-2 t c = search (hold-walks-found, needs)
+walk-hold-returns-2 t c = search hold-walks-found
 
 walk-hold-put-requires-2 : (t : ℕ) → walk-hold-lts.Need-put-requires-2 (walk-hold-calls t) (walk-hold-at t) walk-hold.Post
 walk-hold-put-requires-2 t c κs = search needs
@@ -427,7 +427,7 @@ walk-hold-same-length-2 : (t : ℕ) → walk-hold-lts.Need-same-length-2 (walk-h
 walk-hold-same-length-2 t c = search needs
 
 walk-hold-returns-3 : (t : ℕ) → walk-hold-lts.Need-returns-3 (walk-hold-calls t) (walk-hold-at t) walk-hold.Post
-walk-hold-returns-3 t c = search (hold-walks-past, needs)
+walk-hold-returns-3 t c = search hold-walks-past
 
 walk-loop-put-requires : (t : ℕ) → walk-loop-lts.Need-put-requires (walk-loop-calls t) (walk-loop-at t) walk-loop.Post
 walk-loop-put-requires t c κs = search needs
@@ -441,7 +441,7 @@ walk-loop-same-length : (t : ℕ) → walk-loop-lts.Need-same-length (walk-loop-
 walk-loop-same-length t c = search needs
 
 walk-loop-returns : (t : ℕ) → walk-loop-lts.Need-returns (walk-loop-calls t) (walk-loop-at t) walk-loop.Post
-walk-loop-returns t c = search (loop-walks-found, needs)
+walk-loop-returns t c = search loop-walks-found
 
 walk-loop-put-requires-2 : (t : ℕ) → walk-loop-lts.Need-put-requires-2 (walk-loop-calls t) (walk-loop-at t) walk-loop.Post
 walk-loop-put-requires-2 t c κs = search needs
@@ -457,7 +457,7 @@ walk-loop-same-length-2 : (t : ℕ) → walk-loop-lts.Need-same-length-2 (walk-l
 walk-loop-same-length-2 t c = search needs
 
 walk-loop-returns-2 : (t : ℕ) → walk-loop-lts.Need-returns-2 (walk-loop-calls t) (walk-loop-at t) walk-loop.Post
-walk-loop-returns-2 t c = search (loop-walks-past, needs)
+walk-loop-returns-2 t c = search loop-walks-past
 
 walk-skip-put-requires : (t : ℕ) → walk-skip-lts.Need-put-requires (walk-skip-calls t) (walk-skip-at t) walk-skip.Post
 walk-skip-put-requires t c κs = search needs
@@ -471,7 +471,7 @@ walk-skip-same-length : (t : ℕ) → walk-skip-lts.Need-same-length (walk-skip-
 walk-skip-same-length t c = search needs
 
 walk-skip-returns : (t : ℕ) → walk-skip-lts.Need-returns (walk-skip-calls t) (walk-skip-at t) walk-skip.Post
-walk-skip-returns t c = search (skip-walks, needs)
+walk-skip-returns t c = search skip-walks
 
 walk-two-put-requires : (t : ℕ) → walk-two-lts.Need-put-requires (walk-two-calls t) (walk-two-at t) walk-two.Post
 walk-two-put-requires t c κs = search needs
@@ -489,7 +489,7 @@ walk-two-same-length : (t : ℕ) → walk-two-lts.Need-same-length (walk-two-cal
 walk-two-same-length t c = search needs
 
 walk-two-returns : (t : ℕ) → walk-two-lts.Need-returns (walk-two-calls t) (walk-two-at t) walk-two.Post
-walk-two-returns t c = search (two-walks-found, needs)
+walk-two-returns t c = search two-walks-found
 
 walk-two-after-requires-2 : (t : ℕ) → walk-two-lts.Need-after-requires-2 (walk-two-calls t) (walk-two-at t) walk-two.Post
 walk-two-after-requires-2 t c κs = search needs
@@ -507,7 +507,7 @@ walk-two-same-length-2 : (t : ℕ) → walk-two-lts.Need-same-length-2 (walk-two
 walk-two-same-length-2 t c = search needs
 
 walk-two-returns-2 : (t : ℕ) → walk-two-lts.Need-returns-2 (walk-two-calls t) (walk-two-at t) walk-two.Post
-walk-two-returns-2 t c = search (two-walks-past, needs)
+walk-two-returns-2 t c = search two-walks-past
 
 pub +walk+walk-call+walk-either+walk-hold+walk-loop+walk-skip+walk-two-spec :
     {M : Type 1} → statement M
