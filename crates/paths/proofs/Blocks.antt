@@ -83,7 +83,8 @@ module _ (C : ℕ → Type 0) (later fs : List Form) where
   call-only n P g (either a b r) v e = let z : _≡_ {A = ℕ} 0 1 = cc in absurd (omega arith)
   call-only n P g (end l r) v e = absurd v
 
-  pub hold-only : (n : ℕ) (P : Block → Type 0) → ((b r : Block) → n < 32 → Written C b → Written C r → fs ≡ blockForms b (Close ∷ blockForms r (Close ∷ later)) → P (hold n b r))
+  pub hold-only : (n : ℕ) (P : Block → Type 0)
+      → ((b r : Block) → n < 32 → Written C b → Written C r → fs ≡ blockForms b (Close ∷ blockForms r (Close ∷ later)) → P (hold n b r))
       → (b : Block) → Written C b → Hold n ∷ fs ≡ blockForms b (Close ∷ later) → P b
   unfolding Written blockForms
   hold-only n P g done v e = let z : _≡_ {A = ℕ} 0 1 = cc in absurd (omega arith)

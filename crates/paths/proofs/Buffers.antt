@@ -1,5 +1,5 @@
 -- The buffer of steps: what stands in front of the place where a step is put stays, and so does what a walk goes back to.
-use Prim.Native.Nat.{ℕ, _+_, _^_, _<_, _≤_}
+use Prim.Native.Nat.{ℕ, _+_, _<_, _≤_}
 use native.Mathlib.Numerals.{add-one}
 use native.Mathlib.Omega.{arith}
 use native.Mathlib.Nat.{le-refl}
@@ -7,7 +7,7 @@ use mathlib.Core.List.{List}
 use mathlib.Core.Path.{_≡_, refl, sym, ap, _∙_}
 use lib.ListN.{length, take, set, length-set}
 use lib.Seq.{take-take, take-set-le, take-suc-set}
-use Rattle.paths.specs.Walks.{Kept, PutAt, Ready}
+use Rattle.paths.specs.Walks.{Kept, PutAt}
 
 pub kept-same : (s : List ℕ) (n : ℕ) → n ≤ length s → Kept s n s n
 kept-same s n h = record { grows = le-refl n; room = h; size = refl; same = refl }
@@ -39,11 +39,3 @@ module _ (s : List ℕ) (n e : ℕ) where
 
   pub put-full : length s ≤ n → n ≤ length s → PutAt s n e n s
   put-full h k = record { buffer = kept-same s n k; one = omega arith; put = λ l. absurd (omega arith) }
-
--- ---- what the next walk asks
-
-pub ready-next : {ws starts : List ℕ} {m m′ n k : ℕ} {s s′ : List ℕ} → Ready ws starts m s n → m′ < 2 ^ 32 → k ≤ length s′ → Ready ws starts m′ s′ k
-ready-next r h k = record { plan = r .plan; begins = r .begins; locks = h; room = k }
-
-pub ready-back : {ws starts : List ℕ} {m n k j : ℕ} {s s₁ s₂ : List ℕ} → Ready ws starts m s n → Kept s n s₁ k → Kept s₁ k s₂ j → Ready ws starts m s₂ n
-ready-back r a b = record { plan = r .plan; begins = r .begins; locks = r .locks; room = let c = kept-then a b in omega arith }

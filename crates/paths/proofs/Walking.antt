@@ -18,7 +18,8 @@ use Rattle.plan.specs.Table.{formAt}
 use Rattle.paths.specs.declared.Stop.{Stop}
 use Rattle.paths.specs.Walks.{procsIn, formsFrom, Within, Inside, sizeIn, walkIn, PutAt, Ready, stopped, outcomeOf, BlockWalked, Walks}
 use Rattle.paths.proofs.Buffers.{kept-same, kept-then, kept-back}
-use Rattle.paths.proofs.Blocks.{inBlock, none-begins, begins-in, close-only, skip-only, call-only, hold-only, loop-only, either-only, table-more, table-none, table-behind}
+use Rattle.paths.proofs.Blocks.{inBlock, none-begins, begins-in, table-more, table-none, table-behind}
+use Rattle.paths.proofs.Blocks.{close-only, skip-only, call-only, hold-only, loop-only, either-only}
 
 -- ---- the theory's walk and sizes, by the first statement
 
@@ -288,8 +289,8 @@ hold-walks-here {ws} {d} {at} {m} {w} {n} {l} {s} {fs} room g f = record {
     }
 
 -- the walk of its block, with the lock held
-module _ (m l : ℕ) {ws : List ℕ} {d at m′ w n k : ℕ} {s s₁ s₂ : List ℕ} {t : Bool} {r : Stop} (g : l < 32 → t ≡ gives w m l) (f : t ≡ false) (with : l < 32 → m′ ≡ holding m l)
-    (u : PutAt s n (stepOf 0 m′) k s₁) (i : Walks ws d (formsFrom ws at) at m′ w s₁ k r s₂) where
+module _ (m l : ℕ) {ws : List ℕ} {d at m′ w n k : ℕ} {s s₁ s₂ : List ℕ} {t : Bool} {r : Stop} (g : l < 32 → t ≡ gives w m l) (f : t ≡ false)
+    (with : l < 32 → m′ ≡ holding m l) (u : PutAt s n (stepOf 0 m′) k s₁) (i : Walks ws d (formsFrom ws at) at m′ w s₁ k r s₂) where
   held-walked : (x y : Block) → l < 32 → Inside ws x → (later : List Form) → formsFrom ws at ≡ blockForms x (Close ∷ later)
       → n + sizeIn ws d (hold l x y) ≤ length s → BlockWalked ws d m′ w s₁ k x later r s₂
   held-walked x y c v later e h = let z = size-hold (sizeAt d (procsIn ws)) l x y in i .walked x later e v (omega arith)
@@ -478,7 +479,8 @@ module _ {ws : List ℕ} {d at q m w n k : ℕ} {s s₁ s₂ : List ℕ} {r : St
       go : (x y z : Block) → Inside ws x → Inside ws y → Inside ws z
           → One ∷ Close ∷ formsFrom ws at ≡ One ∷ blockForms x (Close ∷ Two ∷ blockForms y (Close ∷ Close ∷ blockForms z (Close ∷ later))) → P (either x y z)
       go x y z v v′ v″ e =
-          close-only (Within ws) (Two ∷ blockForms y (Close ∷ Close ∷ blockForms z (Close ∷ later))) (formsFrom ws at) (λ x. P (either x y z)) (λ h. g y z v′ v″ h) x v (cc)
+          close-only (Within ws) (Two ∷ blockForms y (Close ∷ Close ∷ blockForms z (Close ∷ later))) (formsFrom ws at)
+          (λ x. P (either x y z)) (λ h. g y z v′ v″ h) x v (cc)
 
   two-walked : (y z : Block) → Inside ws y → (later : List Form) → formsFrom ws at ≡ Two ∷ blockForms y (Close ∷ later)
       → n + sizeIn ws d (either done y z) ≤ length s → BlockWalked ws d m w s₁ k y later r s₂

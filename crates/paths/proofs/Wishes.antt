@@ -32,7 +32,10 @@ wish-none f fs later (either a b r) n e = refl
 wish-none f fs later (end l r) n e = refl
 
 -- the tag of a hold is none of the others
-pub other-tags : (_≡_ {A = ℕ} 6 0) ⊎ ((_≡_ {A = ℕ} 6 1) ⊎ ((_≡_ {A = ℕ} 6 2) ⊎ ((_≡_ {A = ℕ} 6 3) ⊎ ((_≡_ {A = ℕ} 6 4) ⊎ ((_≡_ {A = ℕ} 6 5) ⊎ ((_≡_ {A = ℕ} 6 7) ⊎ ((_≡_ {A = ℕ} 6 8) ⊎ ((_≡_ {A = ℕ} 6 9) ⊎ (_≡_ {A = ℕ} 6 10))))))))) → ⊥
+abbrev SixIs : ℕ → Type 0
+SixIs k = 6 ≡ k
+
+pub other-tags : SixIs 0 ⊎ (SixIs 1 ⊎ (SixIs 2 ⊎ (SixIs 3 ⊎ (SixIs 4 ⊎ (SixIs 5 ⊎ (SixIs 7 ⊎ (SixIs 8 ⊎ (SixIs 9 ⊎ SixIs 10)))))))) → ⊥
 other-tags (inl e) = absurd (omega arith)
 other-tags (inr (inl e)) = absurd (omega arith)
 other-tags (inr (inr (inl e))) = absurd (omega arith)

@@ -266,7 +266,8 @@ fn walk_two(
     n: usize,
 ) -> Stop
     requires { ⌜ Ready (now table) (now starts) mask (now steps) n ⌝ }
-    ensures { λ r. ⌜ Walks (now (table .entry)) depth (Either ∷ One ∷ Close ∷ formsFrom (now (table .entry)) at) at mask word (now (steps .entry)) n r (now (steps .exit)) ⌝ }
+    ensures { λ r. ⌜ Walks (now (table .entry)) depth (Either ∷ One ∷ Close ∷ formsFrom (now (table .entry)) at)
+        at mask word (now (steps .entry)) n r (now (steps .exit)) ⌝ }
 {
     let k = put(steps, n, 2, mask);
     let two = walk(table, starts, depth, after(table, at), mask, word, steps, k);

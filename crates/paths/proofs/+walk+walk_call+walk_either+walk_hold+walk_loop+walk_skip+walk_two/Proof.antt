@@ -7,7 +7,6 @@ use denote.Ref.{now}
 use native.Mathlib.Nat.{le-refl, le-trans}
 use Rattle.paths.proofs.Blocks.{inBlock}
 use Rattle.paths.proofs.Measure.{measure, statement-falls, walk-falls, two-falls, rest-falls, deeper-falls}
-use Rattle.paths.proofs.Buffers.{ready-next, ready-back}
 use Rattle.paths.proofs.Walking.{ended-walks, other-walks, close-walks, walks-at, skip-walks, call-walks-none, call-walks-found, call-walks-past}
 use Rattle.paths.proofs.Walking.{hold-walks-here, hold-walks-found, hold-walks-past, loop-walks-found, loop-walks-past}
 use Rattle.paths.proofs.Walking.{one-walks-found, one-walks-past, two-walks-found, two-walks-past}
@@ -144,7 +143,16 @@ abbrev walk-either-calls : ℕ → walk-either-lts.Claims
 walk-either-calls t = (put-reads.Asked, put-reads.Learnt, after-reads.Asked, after-reads.Learnt, walk-below t, walk.Post, walk-two-below t, walk-two.Post)
 
 abbrev walk-hold-calls : ℕ → walk-hold-lts.Claims
-walk-hold-calls t = (gives-word-reads.Asked, gives-word-reads.Learnt, with-lock-reads.Asked, with-lock-reads.Learnt, put-reads.Asked, put-reads.Learnt, walk-below t, walk.Post)
+walk-hold-calls t = (
+  gives-word-reads.Asked,
+  gives-word-reads.Learnt,
+  with-lock-reads.Asked,
+  with-lock-reads.Learnt,
+  put-reads.Asked,
+  put-reads.Learnt,
+  walk-below t,
+  walk.Post,
+)
 
 abbrev walk-loop-calls : ℕ → walk-loop-lts.Claims
 walk-loop-calls t = (put-reads.Asked, put-reads.Learnt, walk-below t, walk.Post)
@@ -312,15 +320,14 @@ walk-call-put-requires t c κs = search needs
 
 walk-call-walk-requires : (t : ℕ) → walk-call-lts.Need-walk-requires (walk-call-calls t) (walk-call-at t) walk-call.Post
 walk-call-walk-requires t c κs =
-    let c₁ = c .before .before .before .before in
-    let c₂ = c₁ .before .before .before .before .before in
-    (walk-falls _ _ _ _ _ (c₂ .pre .0) (le-refl _), ready-next (c₂ .pre .1) (c₂ .pre .1 .locks) (c₁ .put .ensures .buffer .room))
+    let c₁ = c .before .before .before .before .before .before .before .before .before in
+    (walk-falls _ _ _ _ _ (c₁ .pre .0) (le-refl _), search needs)
 
 walk-call-same-length : (t : ℕ) → walk-call-lts.Need-same-length (walk-call-calls t) (walk-call-at t) walk-call.Post
 walk-call-same-length t c = search needs
 
 walk-call-returns : (t : ℕ) → walk-call-lts.Need-returns (walk-call-calls t) (walk-call-at t) walk-call.Post
-walk-call-returns t c = search (call-walks-none, needs)
+walk-call-returns t c = search call-walks-none
 
 walk-call-sub-walk : (t : ℕ) → walk-call-lts.Need-sub-walk (walk-call-calls t) (walk-call-at t) walk-call.Post
 walk-call-sub-walk t c = search needs
@@ -331,27 +338,25 @@ walk-call-start-of-requires t c κs = search needs
 walk-call-walk-requires-2 : (t : ℕ) → walk-call-lts.Need-walk-requires-2 (walk-call-calls t) (walk-call-at t) walk-call.Post
 walk-call-walk-requires-2 t c κs =
     let c₁ = c .before .before in
-    let c₂ = c₁ .before .before .before in
-    let c₃ = c₂ .before .before .before .before .before in
-    (deeper-falls _ _ _ _ _ (c₃ .pre .0) (c₁ .if1 .left), ready-next (c₃ .pre .1) (c₃ .pre .1 .locks) (c₂ .put .ensures .buffer .room))
+    let c₂ = c₁ .before .before .before .before .before .before .before .before in
+    (deeper-falls _ _ _ _ _ (c₂ .pre .0) (c₁ .if1 .left), search needs)
 
 walk-call-same-length-2 : (t : ℕ) → walk-call-lts.Need-same-length-2 (walk-call-calls t) (walk-call-at t) walk-call.Post
 walk-call-same-length-2 t c = search needs
 
 walk-call-returns-2 : (t : ℕ) → walk-call-lts.Need-returns-2 (walk-call-calls t) (walk-call-at t) walk-call.Post
-walk-call-returns-2 t c = search (call-walks-found, needs)
+walk-call-returns-2 t c = search call-walks-found
 
 walk-call-walk-requires-3 : (t : ℕ) → walk-call-lts.Need-walk-requires-3 (walk-call-calls t) (walk-call-at t) walk-call.Post
 walk-call-walk-requires-3 t c κs =
-    let c₁ = c .before .before .before .before in
-    let c₂ = c₁ .before .before .before .before .before .before .before .before .before .before .before in
-    (walk-falls _ _ _ _ _ (c₂ .pre .0) (le-refl _), ready-next (c₂ .pre .1) (c₂ .pre .1 .locks) (c₁ .walk2 .ensures .buffer .room))
+    let c₁ = c .before .before .before .before .before .before .before .before .before .before .before .before .before .before .before in
+    (walk-falls _ _ _ _ _ (c₁ .pre .0) (le-refl _), search needs)
 
 walk-call-same-length-3 : (t : ℕ) → walk-call-lts.Need-same-length-3 (walk-call-calls t) (walk-call-at t) walk-call.Post
 walk-call-same-length-3 t c = search needs
 
 walk-call-returns-3 : (t : ℕ) → walk-call-lts.Need-returns-3 (walk-call-calls t) (walk-call-at t) walk-call.Post
-walk-call-returns-3 t c = search (call-walks-past, needs)
+walk-call-returns-3 t c = search call-walks-past
 
 walk-either-put-requires : (t : ℕ) → walk-either-lts.Need-put-requires (walk-either-calls t) (walk-either-at t) walk-either.Post
 walk-either-put-requires t c κs = search needs
@@ -362,37 +367,34 @@ walk-either-after-requires t c κs = search needs
 walk-either-walk-requires : (t : ℕ) → walk-either-lts.Need-walk-requires (walk-either-calls t) (walk-either-at t) walk-either.Post
 walk-either-walk-requires t c κs =
     let c₁ = c .before in
-    let c₂ = c₁ .before .before .before in
-    let c₃ = c₂ .before .before .before .before .before in
-    (walk-falls _ _ _ _ _ (c₃ .pre .0) (c₁ .after .ensures .0), ready-next (c₃ .pre .1) (c₃ .pre .1 .locks) (c₂ .put .ensures .buffer .room))
+    let c₂ = c₁ .before .before .before .before .before .before .before .before in
+    (walk-falls _ _ _ _ _ (c₂ .pre .0) (c₁ .after .ensures .0), search needs)
 
 walk-either-same-length : (t : ℕ) → walk-either-lts.Need-same-length (walk-either-calls t) (walk-either-at t) walk-either.Post
 walk-either-same-length t c = search needs
 
 walk-either-returns : (t : ℕ) → walk-either-lts.Need-returns (walk-either-calls t) (walk-either-at t) walk-either.Post
-walk-either-returns t c = search (one-walks-found, needs)
+walk-either-returns t c = search one-walks-found
 
 walk-either-walk-two-requires : (t : ℕ) → walk-either-lts.Need-walk-two-requires (walk-either-calls t) (walk-either-at t) walk-either.Post
 walk-either-walk-two-requires t c κs =
     let c₁ = c .before in
     let c₂ = c₁ .before .before .before in
     let c₃ = c₂ .before .before in
-    let c₄ = c₃ .before .before .before in
-    let c₅ = c₄ .before .before .before .before .before in
-    let later = le-trans (c₃ .after .ensures .0) (c₂ .walk .ensures .forward (c₁ .if1 .left)) in
-    (two-falls _ _ _ _ _ (c₅ .pre .0) later, ready-back (c₅ .pre .1) (c₄ .put .ensures .buffer) (c₂ .walk .ensures .buffer))
+    let c₄ = c₃ .before .before .before .before .before .before .before .before in
+    (two-falls _ _ _ _ _ (c₄ .pre .0) (le-trans (c₃ .after .ensures .0) (c₂ .walk .ensures .forward (c₁ .if1 .left))), search needs)
 
 walk-either-same-length-2 : (t : ℕ) → walk-either-lts.Need-same-length-2 (walk-either-calls t) (walk-either-at t) walk-either.Post
 walk-either-same-length-2 t c = search needs
 
 walk-either-returns-2 : (t : ℕ) → walk-either-lts.Need-returns-2 (walk-either-calls t) (walk-either-at t) walk-either.Post
-walk-either-returns-2 t c = search (one-walks-past, needs)
+walk-either-returns-2 t c = search one-walks-past
 
 walk-hold-gives-word-requires : (t : ℕ) → walk-hold-lts.Need-gives-word-requires (walk-hold-calls t) (walk-hold-at t) walk-hold.Post
 walk-hold-gives-word-requires t c κs = search needs
 
 walk-hold-returns : (t : ℕ) → walk-hold-lts.Need-returns (walk-hold-calls t) (walk-hold-at t) walk-hold.Post
-walk-hold-returns t c = search (hold-walks-here, needs)
+walk-hold-returns t c = search hold-walks-here
 
 walk-hold-with-lock-requires : (t : ℕ) → walk-hold-lts.Need-with-lock-requires (walk-hold-calls t) (walk-hold-at t) walk-hold.Post
 walk-hold-with-lock-requires t c κs = search needs
@@ -402,80 +404,74 @@ walk-hold-put-requires t c κs = search needs
 
 walk-hold-walk-requires : (t : ℕ) → walk-hold-lts.Need-walk-requires (walk-hold-calls t) (walk-hold-at t) walk-hold.Post
 walk-hold-walk-requires t c κs =
-    let c₁ = c .before .before .before in
-    let c₂ = c₁ .before .before in
-    let c₃ = c₂ .before .before .before .before .before .before in
-    (walk-falls _ _ _ _ _ (c₃ .pre .0) (le-refl _), ready-next (c₃ .pre .1) (c₂ .with-lock .ensures .0) (c₁ .put .ensures .buffer .room))
+    let c₁ = c .before .before .before .before .before .before .before .before .before .before .before in
+    (walk-falls _ _ _ _ _ (c₁ .pre .0) (le-refl _), search needs)
 
 walk-hold-same-length : (t : ℕ) → walk-hold-lts.Need-same-length (walk-hold-calls t) (walk-hold-at t) walk-hold.Post
 walk-hold-same-length t c = search needs
 
 walk-hold-returns-2 : (t : ℕ) → walk-hold-lts.Need-returns-2 (walk-hold-calls t) (walk-hold-at t) walk-hold.Post
-walk-hold-returns-2 t c = search (hold-walks-found, needs)
+walk-hold-returns-2 t c = search hold-walks-found
 
 walk-hold-put-requires-2 : (t : ℕ) → walk-hold-lts.Need-put-requires-2 (walk-hold-calls t) (walk-hold-at t) walk-hold.Post
 walk-hold-put-requires-2 t c κs = search needs
 
 walk-hold-walk-requires-2 : (t : ℕ) → walk-hold-lts.Need-walk-requires-2 (walk-hold-calls t) (walk-hold-at t) walk-hold.Post
 walk-hold-walk-requires-2 t c κs =
-    let c₁ = c .before .before .before in
-    let c₂ = c₁ .before .before in
-    let c₃ = c₂ .before .before .before in
-    let c₄ = c₃ .before .before .before .before .before .before .before .before .before .before .before .before in
-    (walk-falls _ _ _ _ _ (c₄ .pre .0) (c₃ .walk .ensures .forward (c₂ .if2 .left)), ready-next (c₄ .pre .1) (c₄ .pre .1 .locks) (c₁ .put2 .ensures .buffer .room))
+    let c₁ = c .before .before .before .before .before in
+    let c₂ = c₁ .before .before .before in
+    let c₃ = c₂ .before .before .before .before .before .before .before .before .before .before .before .before in
+    (walk-falls _ _ _ _ _ (c₃ .pre .0) (c₂ .walk .ensures .forward (c₁ .if2 .left)), search needs)
 
 walk-hold-same-length-2 : (t : ℕ) → walk-hold-lts.Need-same-length-2 (walk-hold-calls t) (walk-hold-at t) walk-hold.Post
 walk-hold-same-length-2 t c = search needs
 
 walk-hold-returns-3 : (t : ℕ) → walk-hold-lts.Need-returns-3 (walk-hold-calls t) (walk-hold-at t) walk-hold.Post
-walk-hold-returns-3 t c = search (hold-walks-past, needs)
+walk-hold-returns-3 t c = search hold-walks-past
 
 walk-loop-put-requires : (t : ℕ) → walk-loop-lts.Need-put-requires (walk-loop-calls t) (walk-loop-at t) walk-loop.Post
 walk-loop-put-requires t c κs = search needs
 
 walk-loop-walk-requires : (t : ℕ) → walk-loop-lts.Need-walk-requires (walk-loop-calls t) (walk-loop-at t) walk-loop.Post
 walk-loop-walk-requires t c κs =
-    let c₁ = c .before .before .before in
-    let c₂ = c₁ .before .before .before .before .before in
-    (walk-falls _ _ _ _ _ (c₂ .pre .0) (le-refl _), ready-next (c₂ .pre .1) (c₂ .pre .1 .locks) (c₁ .put .ensures .buffer .room))
+    let c₁ = c .before .before .before .before .before .before .before .before in
+    (walk-falls _ _ _ _ _ (c₁ .pre .0) (le-refl _), search needs)
 
 walk-loop-same-length : (t : ℕ) → walk-loop-lts.Need-same-length (walk-loop-calls t) (walk-loop-at t) walk-loop.Post
 walk-loop-same-length t c = search needs
 
 walk-loop-returns : (t : ℕ) → walk-loop-lts.Need-returns (walk-loop-calls t) (walk-loop-at t) walk-loop.Post
-walk-loop-returns t c = search (loop-walks-found, needs)
+walk-loop-returns t c = search loop-walks-found
 
 walk-loop-put-requires-2 : (t : ℕ) → walk-loop-lts.Need-put-requires-2 (walk-loop-calls t) (walk-loop-at t) walk-loop.Post
 walk-loop-put-requires-2 t c κs = search needs
 
 walk-loop-walk-requires-2 : (t : ℕ) → walk-loop-lts.Need-walk-requires-2 (walk-loop-calls t) (walk-loop-at t) walk-loop.Post
 walk-loop-walk-requires-2 t c κs =
-    let c₁ = c .before .before .before in
-    let c₂ = c₁ .before .before in
-    let c₃ = c₂ .before .before .before in
-    let c₄ = c₃ .before .before .before .before .before .before .before .before .before in
-    (walk-falls _ _ _ _ _ (c₄ .pre .0) (c₃ .walk .ensures .forward (c₂ .if1 .left)), ready-next (c₄ .pre .1) (c₄ .pre .1 .locks) (c₁ .put2 .ensures .buffer .room))
+    let c₁ = c .before .before .before .before .before in
+    let c₂ = c₁ .before .before .before in
+    let c₃ = c₂ .before .before .before .before .before .before .before .before .before in
+    (walk-falls _ _ _ _ _ (c₃ .pre .0) (c₂ .walk .ensures .forward (c₁ .if1 .left)), search needs)
 
 walk-loop-same-length-2 : (t : ℕ) → walk-loop-lts.Need-same-length-2 (walk-loop-calls t) (walk-loop-at t) walk-loop.Post
 walk-loop-same-length-2 t c = search needs
 
 walk-loop-returns-2 : (t : ℕ) → walk-loop-lts.Need-returns-2 (walk-loop-calls t) (walk-loop-at t) walk-loop.Post
-walk-loop-returns-2 t c = search (loop-walks-past, needs)
+walk-loop-returns-2 t c = search loop-walks-past
 
 walk-skip-put-requires : (t : ℕ) → walk-skip-lts.Need-put-requires (walk-skip-calls t) (walk-skip-at t) walk-skip.Post
 walk-skip-put-requires t c κs = search needs
 
 walk-skip-walk-requires : (t : ℕ) → walk-skip-lts.Need-walk-requires (walk-skip-calls t) (walk-skip-at t) walk-skip.Post
 walk-skip-walk-requires t c κs =
-    let c₁ = c .before .before .before in
-    let c₂ = c₁ .before .before .before .before .before in
-    (walk-falls _ _ _ _ _ (c₂ .pre .0) (le-refl _), ready-next (c₂ .pre .1) (c₂ .pre .1 .locks) (c₁ .put .ensures .buffer .room))
+    let c₁ = c .before .before .before .before .before .before .before .before in
+    (walk-falls _ _ _ _ _ (c₁ .pre .0) (le-refl _), search needs)
 
 walk-skip-same-length : (t : ℕ) → walk-skip-lts.Need-same-length (walk-skip-calls t) (walk-skip-at t) walk-skip.Post
 walk-skip-same-length t c = search needs
 
 walk-skip-returns : (t : ℕ) → walk-skip-lts.Need-returns (walk-skip-calls t) (walk-skip-at t) walk-skip.Post
-walk-skip-returns t c = search (skip-walks, needs)
+walk-skip-returns t c = search skip-walks
 
 walk-two-put-requires : (t : ℕ) → walk-two-lts.Need-put-requires (walk-two-calls t) (walk-two-at t) walk-two.Post
 walk-two-put-requires t c κs = search needs
@@ -486,15 +482,14 @@ walk-two-after-requires t c κs = search needs
 walk-two-walk-requires : (t : ℕ) → walk-two-lts.Need-walk-requires (walk-two-calls t) (walk-two-at t) walk-two.Post
 walk-two-walk-requires t c κs =
     let c₁ = c .before in
-    let c₂ = c₁ .before .before .before in
-    let c₃ = c₂ .before .before .before .before .before in
-    (rest-falls _ _ _ _ _ (c₃ .pre .0) (c₁ .after .ensures .0), ready-next (c₃ .pre .1) (c₃ .pre .1 .locks) (c₂ .put .ensures .buffer .room))
+    let c₂ = c₁ .before .before .before .before .before .before .before .before in
+    (rest-falls _ _ _ _ _ (c₂ .pre .0) (c₁ .after .ensures .0), search needs)
 
 walk-two-same-length : (t : ℕ) → walk-two-lts.Need-same-length (walk-two-calls t) (walk-two-at t) walk-two.Post
 walk-two-same-length t c = search needs
 
 walk-two-returns : (t : ℕ) → walk-two-lts.Need-returns (walk-two-calls t) (walk-two-at t) walk-two.Post
-walk-two-returns t c = search (two-walks-found, needs)
+walk-two-returns t c = search two-walks-found
 
 walk-two-after-requires-2 : (t : ℕ) → walk-two-lts.Need-after-requires-2 (walk-two-calls t) (walk-two-at t) walk-two.Post
 walk-two-after-requires-2 t c κs = search needs
@@ -506,14 +501,13 @@ walk-two-walk-requires-2 t c κs =
     let c₃ = c₂ .before .before .before in
     let c₄ = c₃ .before .before in
     let c₅ = c₄ .before .before .before .before .before .before .before .before in
-    let later = le-trans (c₄ .after .ensures .0) (le-trans (c₃ .walk .ensures .forward (c₂ .if1 .left)) (c₁ .after2 .ensures .0)) in
-    (rest-falls _ _ _ _ _ (c₅ .pre .0) later, ready-next (c₅ .pre .1) (c₅ .pre .1 .locks) (c₃ .walk .ensures .buffer .room))
+    (rest-falls _ _ _ _ _ (c₅ .pre .0) (le-trans (c₄ .after .ensures .0) (le-trans (c₃ .walk .ensures .forward (c₂ .if1 .left)) (c₁ .after2 .ensures .0))), search needs)
 
 walk-two-same-length-2 : (t : ℕ) → walk-two-lts.Need-same-length-2 (walk-two-calls t) (walk-two-at t) walk-two.Post
 walk-two-same-length-2 t c = search needs
 
 walk-two-returns-2 : (t : ℕ) → walk-two-lts.Need-returns-2 (walk-two-calls t) (walk-two-at t) walk-two.Post
-walk-two-returns-2 t c = search (two-walks-past, needs)
+walk-two-returns-2 t c = search two-walks-past
 
 pub +walk+walk-call+walk-either+walk-hold+walk-loop+walk-skip+walk-two-spec :
     {M : Type 1} → statement M
