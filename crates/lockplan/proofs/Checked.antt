@@ -12,18 +12,15 @@ use Rattle.laws.specs.Choice.{if, orElse}
 use Rattle.text.specs.declared.Form.{Form}
 use Rattle.text.specs.Lines.{formsOf}
 use Rattle.text.proofs.Splits.{few-forms}
-use Rattle.semantics.specs.Pairs.{pairList}
 use Rattle.plan.specs.declared.Reading.{Reading}
 use Rattle.plan.specs.declared.Reading.the-variants.{Accepted, Refused}
-use Rattle.plan.specs.Grammar.{planIn}
 use Rattle.plan.specs.Table.{formAt, tableForms}
-use Rattle.plan.specs.Settled.{PlanTable, tablePlan}
+use Rattle.plan.specs.Settled.{PlanTable}
 use Rattle.plan.specs.Rules.{Refusal, refusedIf, readerRefusal, planRefusal, tooLarge, tooManyPairs, tooLong, readingOf, Tabled}
 use Rattle.plan.proofs.Laws.{first-refuses, first-passes}
 use Rattle.plan.proofs.Filling.{accepted-none, accepted-count}
 use Rattle.plan.proofs.Kept.{first-none}
 use Rattle.plan.proofs.Sound.{accepted-table}
-use Rattle.procs.proofs.WithinSize.{proc-refusal-none}
 
 -- rules 9 and 10, of forms
 abbrev pub laterRefusal : List Form → Option Refusal
@@ -102,8 +99,3 @@ module _ (text table : List ℕ) (q : Reading) (n : ℕ) (t : Tabled (planRefusa
   pub plan-few : tooManyPairs (tableForms (take (n - 0) table)) ≡ none
   unfolding planRefusal
   plan-few = rw plan-forms (first-none (tooLarge (formsOf text)) (tooManyPairs (formsOf text)) (first-none (readerRefusal text) (laterRefusal (formsOf text)) plan-kept .1) .1)
-
--- rule 10: each procedure has at most 128 pairs
-pub few-pairs : (fs : List Form) (p : ℕ) → tooManyPairs fs ≡ none → p < length (planIn fs .procs) → length (pairList (planIn fs .procs) p) ≤ 128
-unfolding tooManyPairs
-few-pairs fs p e h = ltb-false 128 _ (proc-refusal-none 10 fs (λ q. ltb 128 (length (pairList (planIn fs .procs) q))) e p h)

@@ -23,6 +23,7 @@ use Rattle.plan.specs.Rules.{Refusal, refusedIf, planOf, readerRefusal, planRef
 use Rattle.buffers.specs.LittleEndian.{listBytes}
 use Rattle.buffers.proofs.Filled.{list-length}
 use Rattle.pairs.specs.Promises.{PairWords}
+use Rattle.pairs.proofs.Lists.{few-pairs}
 use Rattle.lockplan.specs.declared.Listing.{Listing}
 use Rattle.lockplan.specs.declared.Listing.the-variants.{Pairs, Refused}
 use Rattle.lockplan.specs.Answers.{listingOf, listingNumber, handedOn, Below, Carried}
@@ -31,7 +32,7 @@ use Rattle.lockplan.specs.Steps.{WordsFound, TablePairs, PairsFound}
 use Rattle.plan.proofs.Kept.{first-none}
 use Rattle.plan.proofs.Sound.{accepted-settled}
 use Rattle.lockplan.proofs.LineBounds.{Numbers, pairs-bounded}
-use Rattle.lockplan.proofs.Checked.{few-pairs, plan-kept, plan-forms}
+use Rattle.lockplan.proofs.Checked.{plan-kept, plan-forms}
 
 refused-some : {w : Refusal} → some w ≡ none → ⊥
 refused-some h = Option·none-ne-some _ (sym h)
@@ -48,7 +49,7 @@ module _ (ws : List ℕ) (p procs : ℕ) (list : List ℕ) (c : procs ≡ length
       → TablePairs ws p (Pairs n) list
   unfolding listingOf
   table-listed n before h e w =
-      let few : length (pairList (tablePlan ws .procs) p) ≤ 128 = few-pairs (tableForms ws) p e (omega arith) in
+      let few : length (pairList (tablePlan ws .procs) p) ≤ 128 = few-pairs ws p e (omega arith) in
       let m : n ≡ length (pairList (tablePlan ws .procs) p) = omega (arith, w .count) in
       rw (lt-leb (length (tablePlan ws .procs)) p (omega arith)) (record {
         answer = ap Pairs m;

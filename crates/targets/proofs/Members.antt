@@ -1,23 +1,3 @@
-<<<<<<< HEAD
--- The members of the circle one after the other: the row, the length and the wish of a thread are written once, since the circle's threads are distinct, and what
--- is written later is of other threads. When all are done the tables are right for the circle.
-use Prim.Native.Nat.{ℕ, zero, suc, _+_, _-_, _*_, _%_, _/_, _^_, _<_, _≤_}
-use native.Mathlib.Omega.{arith}
-use mathlib.Core.List.{List, [], _∷_, map, List·Memᴰ}
-use mathlib.Core.Logic.{_⊎_, ⊎-elim, _≢_}
-use mathlib.Core.Path.{_≡_, refl, sym, ap, _∙_, subst}
-use lib.Dec.{T, eqb, eqb→eq}
-use lib.ListN.{length, getD, set, take, drop, length-map}
-use lib.Seq.{getD-set-same, getD-set-other}
-use Rattle.laws.proofs.Tests.{eq-or-ne, eq→eqb, search-below}
-use Rattle.laws.proofs.Ascending.{mem-ascending}
-use Rattle.semantics.specs.Plan.{bodyIn}
-use Rattle.semantics.specs.Run.{initial}
-use Rattle.semantics.specs.Sizes.{sizeOf}
-use Rattle.semantics.specs.Pairs.{wantOf, pairs, pairList}
-use Rattle.semantics.proofs.Circle.{Circle, word-in}
-use Rattle.semantics.proofs.Closing.{wishOf}
-=======
 -- The members of the circle one after the other: the row, the length and the wish of a thread are written once, since the circle's threads are
 -- distinct, and what is written later is of other threads. When all are done the tables are right for the circle.
 use Prim.Native.Nat.{ℕ, zero, suc, _+_, _*_, _%_, _/_, _^_, _<_, _≤_}
@@ -36,18 +16,12 @@ use Rattle.semantics.specs.Sizes.{sizeOf}
 use Rattle.semantics.specs.Stuck.{Schedule}
 use Rattle.semantics.specs.Pairs.{wantOf, pairs, pairList}
 use Rattle.semantics.proofs.Circle.{word-in}
->>>>>>> b95938776fd933abc325184698c3ceadbb9881c5
 use Rattle.semantics.proofs.Paths.{Finds}
 use Rattle.plan.specs.Settled.{tablePlan}
 use Rattle.conflict.specs.Entries.{threadAt, wordAt}
 use Rattle.retreat.specs.Paths.{pathOf, Within}
-<<<<<<< HEAD
-use Rattle.retreat.specs.Answer.{Right}
-use Rattle.targets.specs.Tables.{pairLists, procOf, beginOf, Threads, Asked, Room, Prepared, Begins, NoSteps, Target, RowWritten, MemberPut, Done}
-=======
 use Rattle.retreat.specs.Answer.{Right, Scheduled}
 use Rattle.targets.specs.Tables.{pairLists, procOf, beginOf, Asked, Room, Prepared, Begins, NoSteps, Target, MemberPut, Done}
->>>>>>> b95938776fd933abc325184698c3ceadbb9881c5
 use Rattle.targets.proofs.Threads.{few-threads, size-within}
 
 getD-map-in : (f : ℕ → List ℕ) (l : List ℕ) (i : ℕ) → i < length l → getD (map f l) i [] ≡ f (getD l i 0)
@@ -80,24 +54,15 @@ module _ (ws starts threads chosen : List ℕ) (procs n k : ℕ) (a : Asked ws s
 
   -- ---- one member more
 
-<<<<<<< HEAD
-  module _ (steps lens wishes steps′ lens′ wishes′ : List ℕ) (i : ℕ) (here : i < k)
-      (path begins : List ℕ) (room : Room path steps lens begins wishes) (d : Done ws chosen i n steps lens wishes) (m : MemberPut ws (threadAt chosen i) (wordAt chosen i) steps lens wishes steps′ lens′ wishes′) where
-=======
   module _ (steps lens wishes steps′ lens′ wishes′ : List ℕ) (i : ℕ) (here : i < k) (path begins : List ℕ)
       (room : Room path steps lens begins wishes) (d : Done ws chosen i n steps lens wishes)
       (m : MemberPut ws (threadAt chosen i) (wordAt chosen i) steps lens wishes steps′ lens′ wishes′) where
->>>>>>> b95938776fd933abc325184698c3ceadbb9881c5
     few : threadAt chosen i < 6
     few = let z = few-threads ws starts threads procs n (a .threads-in) in let y = member-present i here in omega arith
 
     own-length : getD lens′ (threadAt chosen i) 0 ≡ m .count
-<<<<<<< HEAD
-    own-length = ap (λ l. getD l (threadAt chosen i) 0) (m .lengths) ∙ getD-set-same lens (threadAt chosen i) (m .count) 0 (omega (arith, few, room .lengths, room .wanted))
-=======
     own-length = ap (λ l. getD l (threadAt chosen i) 0) (m .lengths)
         ∙ getD-set-same lens (threadAt chosen i) (m .count) 0 (omega (arith, few, room .lengths, room .wanted))
->>>>>>> b95938776fd933abc325184698c3ceadbb9881c5
 
     own-wish : getD wishes′ (threadAt chosen i) 0 ≡ 2 ^ wantOf (wordAt chosen i)
     own-wish = ap (λ l. getD l (threadAt chosen i) 0) (m .wanted)
@@ -127,12 +92,8 @@ module _ (ws starts threads chosen : List ℕ) (procs n k : ℕ) (a : Asked ws s
     pub done-more : Done ws chosen (i + 1) n steps′ lens′ wishes′
     done-more = record {
       path = each
-<<<<<<< HEAD
-          (λ j. Finds (tablePlan ws .procs) (initial (tablePlan ws .procs) (procOf ws (threadAt chosen j))) (wordAt chosen j) (pathOf steps′ lens′ (threadAt chosen j)))
-=======
           (λ j. Finds (tablePlan ws .procs) (initial (tablePlan ws .procs) (procOf ws (threadAt chosen j))) (wordAt chosen j)
           (pathOf steps′ lens′ (threadAt chosen j)))
->>>>>>> b95938776fd933abc325184698c3ceadbb9881c5
           (λ j h. rw (other-path (threadAt chosen j) (apart j h) (member-within lens j (omega arith) (d .short j h))) (d .path j h))
           (rw own-path (m .row .finds));
       short = each (λ j. getD lens′ (threadAt chosen j) 0 ≤ sizeOf (tablePlan ws .procs) (procOf ws (threadAt chosen j)))
@@ -198,12 +159,9 @@ done-none ws chosen steps lens wishes n e b = record {
   wish = λ j h. absurd (omega arith);
   others = λ t h none. (e t h, b t h);
 }
-<<<<<<< HEAD
-=======
 
 -- what `retreat::schedule` makes of these tables is a schedule of the plan
 pub prepared-schedule : (ws chosen steps lens begins wishes entries entries′ : List ℕ) (k n count stuck : ℕ) → Prepared ws chosen k n steps lens begins wishes
     → Scheduled steps lens begins wishes n entries count stuck entries′ → Schedule (tablePlan ws) (take count entries′) (inMask stuck)
 prepared-schedule ws chosen steps lens begins wishes entries entries′ k n count stuck p s =
     s .schedule (tablePlan ws) (pairLists ws) k (threadAt chosen) (wordAt chosen) (p .right)
->>>>>>> b95938776fd933abc325184698c3ceadbb9881c5

@@ -1,13 +1,4 @@
 -- One row of a table of rows of 1,024 is written, the others stay: those below lie before the written part, those above behind it.
-<<<<<<< HEAD
-use Prim.Native.Nat.{ℕ, zero, suc, _+_, _-_, _*_, _<_, _≤_}
-use native.Mathlib.Omega.{arith}
-use mathlib.Core.List.{List, [], _++_, append-nil}
-use mathlib.Core.Logic.{⊎-elim, _≢_}
-use mathlib.Core.Path.{_≡_, refl, sym, ap, _∙_}
-use borrow.Rule.Slice.PartMut.{putMid}
-use lib.ListN.{length, take, drop, length-take, length-drop, length-append, take-append-drop, drop-of-length-le}
-=======
 use Prim.Native.Nat.{ℕ, _+_, _-_, _*_, _<_, _≤_}
 use native.Mathlib.Omega.{arith}
 use mathlib.Core.List.{List, [], _++_, append-nil}
@@ -15,7 +6,6 @@ use mathlib.Core.Logic.{⊎-elim, _≢_}
 use mathlib.Core.Path.{_≡_, sym, ap, _∙_}
 use borrow.Rule.Slice.PartMut.{putMid}
 use lib.ListN.{length, take, drop, length-drop, take-append-drop, drop-of-length-le}
->>>>>>> b95938776fd933abc325184698c3ceadbb9881c5
 use lib.Seq.{length-take-le, take-all, take-append-seam, take-append-le, drop-append-le, drop-append-add, drop-at, drop-drop}
 use Rattle.laws.proofs.Tests.{lt-or-le}
 

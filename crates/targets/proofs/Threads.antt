@@ -1,9 +1,5 @@
 -- One thread: the procedure that it runs and what it begins with, and its path, which is copied into its row.
-<<<<<<< HEAD
-use Prim.Native.Nat.{ℕ, zero, suc, _+_, _-_, _*_, _^_, _<_, _≤_}
-=======
 use Prim.Native.Nat.{ℕ, _+_, _-_, _*_, _^_, _<_, _≤_}
->>>>>>> b95938776fd933abc325184698c3ceadbb9881c5
 use native.Mathlib.Nat.{sub-zero}
 use native.Mathlib.Omega.{arith}
 use mathlib.Core.List.{List, _++_}

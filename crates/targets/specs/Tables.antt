@@ -1,9 +1,5 @@
 -- The tables of a circle's paths: what is asked for them, and what they are when the first members of the circle are done.
-<<<<<<< HEAD
-use Prim.Native.Nat.{ℕ, _*_, _^_, _<_, _≤_}
-=======
 use Prim.Native.Nat.{ℕ, _^_, _<_, _≤_}
->>>>>>> b95938776fd933abc325184698c3ceadbb9881c5
 use mathlib.Core.List.{List, map, List·Memᴰ}
 use mathlib.Core.Logic.{_≢_}
 use mathlib.Core.Option.{none}

@@ -138,14 +138,9 @@ fn put_members(
     }
 }
 
-<<<<<<< HEAD
-// The tables for `retreat::schedule`, from a circle of k words as entries thread + 8 × word: the path of each of its threads to its word, as a row of 1,024 steps of
-// `steps`, with its length and the lock that is wanted there; the other threads stay at their start. `path` is lent for one path at a time.
-=======
 // The tables for `retreat::schedule`, from a circle of k words as entries thread + 8 × word: the path of each of its threads to its word, in a row of
 // 1,024 words of `steps`, with its length and the lock that is wanted there; the other threads stay at their start. `path` is lent for one path at a
 // time.
->>>>>>> b95938776fd933abc325184698c3ceadbb9881c5
 pub fn thread_paths(
     table: &[u64],
     starts: &[u64],

@@ -7,68 +7,16 @@ use Rattle.targets.specs.Tables.{Threads, Begins, NoSteps}
 use Rattle.targets.proofs.Threads.{begins-none, begins-more, begins-done, no-steps-none, no-steps-more, no-steps-done}
 use Rattle.targets.proofs.fill_begins.Statement.{statement}
 use Rattle.targets.proofs.fill_begins.Tie as tie
-<<<<<<< HEAD
-use Rattle.targets.proofs.fill_begins.Reads as reads
-use Rattle.targets.proofs.fill_begins.Lts as lts
-use Rattle.targets.proofs.begin_of.Reads as begin-of-reads
-
-abbrev Inv-loop : tie.InvT-loop
-Inv-loop table starts procs threads n lens₀ begins₀ wishes₀ t₀ lens begins wishes t = (t ≤ n) × (n ≤ 6) × Threads table starts procs threads n × (6 ≤ length lens₀) × (6 ≤ length begins₀) × (6 ≤ length wishes₀) × (length lens ≡ length lens₀) × (length begins ≡ length begins₀) × (length wishes ≡ length wishes₀) × NoSteps lens t × Begins table begins t × Begins table wishes t
-=======
 
 abbrev Inv-loop : tie.InvT-loop
 Inv-loop table starts procs threads n lens₀ begins₀ wishes₀ t₀ lens begins wishes t =
     (t ≤ n) × (n ≤ 6) × Threads table starts procs threads n × (6 ≤ length lens₀) × (6 ≤ length begins₀) × (6 ≤ length wishes₀)
     × (length lens ≡ length lens₀) × (length begins ≡ length begins₀) × (length wishes ≡ length wishes₀)
     × NoSteps lens t × Begins table begins t × Begins table wishes t
->>>>>>> b95938776fd933abc325184698c3ceadbb9881c5
 
 abbrev μ-loop : tie.MeasureT-loop
 μ-loop table starts procs threads n lens₀ begins₀ wishes₀ t₀ lens begins wishes t = n - t
 
-<<<<<<< HEAD
--- src/lib.rt:41:5
-loop-holds : tie.Need-loop-holds Inv-loop μ-loop
-loop-holds c = search (begins-none, no-steps-none, needs)
-
--- src/lib.rt:42:13
-begin-of-requires : tie.Need-begin-of-requires Inv-loop μ-loop
-begin-of-requires c κs = search needs
-
--- src/lib.rt:43:9
-mul-begins : tie.Need-mul-begins Inv-loop μ-loop
-mul-begins c = search needs
-
--- src/lib.rt:43:9
-slice-write-begins : tie.Need-slice-write-begins Inv-loop μ-loop
-slice-write-begins c = search needs
-
--- src/lib.rt:44:9
-mul-wishes : tie.Need-mul-wishes Inv-loop μ-loop
-mul-wishes c = search needs
-
--- src/lib.rt:44:9
-slice-write-wishes : tie.Need-slice-write-wishes Inv-loop μ-loop
-slice-write-wishes c = search needs
-
--- src/lib.rt:45:9
-mul-lens : tie.Need-mul-lens Inv-loop μ-loop
-mul-lens c = search needs
-
--- src/lib.rt:45:9
-slice-write-lens : tie.Need-slice-write-lens Inv-loop μ-loop
-slice-write-lens c = search needs
-
--- src/lib.rt:46:9
-add-t : tie.Need-add-t Inv-loop μ-loop
-add-t c = search needs
-
--- src/lib.rt:41:5
-loop-less : tie.Need-loop-less Inv-loop μ-loop
-loop-less c = search needs
-
--- src/lib.rt:41:5
-=======
 loop-holds : tie.Need-loop-holds Inv-loop μ-loop
 loop-holds c = search (begins-none, no-steps-none, needs)
 
@@ -99,7 +47,6 @@ add-t c = search needs
 loop-less : tie.Need-loop-less Inv-loop μ-loop
 loop-less c = search needs
 
->>>>>>> b95938776fd933abc325184698c3ceadbb9881c5
 loop-again : tie.Need-loop-again Inv-loop μ-loop
 loop-again c = (
   search needs,
@@ -116,21 +63,6 @@ loop-again c = (
   search (begins-more, needs),
 )
 
-<<<<<<< HEAD
--- src/lib.rt:26:1
-same-length : tie.Need-same-length Inv-loop μ-loop
-same-length c = search needs
-
--- src/lib.rt:26:1
-same-length-2 : tie.Need-same-length-2 Inv-loop μ-loop
-same-length-2 c = search needs
-
--- src/lib.rt:26:1
-same-length-3 : tie.Need-same-length-3 Inv-loop μ-loop
-same-length-3 c = search needs
-
--- src/lib.rt:26:1
-=======
 same-length : tie.Need-same-length Inv-loop μ-loop
 same-length c = search needs
 
@@ -140,7 +72,6 @@ same-length-2 c = search needs
 same-length-3 : tie.Need-same-length-3 Inv-loop μ-loop
 same-length-3 c = search needs
 
->>>>>>> b95938776fd933abc325184698c3ceadbb9881c5
 returns : tie.Need-returns Inv-loop μ-loop
 returns c = search (begins-done, no-steps-done, needs)
 

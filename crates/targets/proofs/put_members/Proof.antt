@@ -8,12 +8,6 @@ use Rattle.targets.proofs.Threads.{few-threads}
 use Rattle.targets.proofs.Members.{asked-target, done-none, done-more, prepared}
 use Rattle.targets.proofs.put_members.Statement.{statement}
 use Rattle.targets.proofs.put_members.Tie as tie
-<<<<<<< HEAD
-use Rattle.targets.proofs.put_members.Reads as reads
-use Rattle.targets.proofs.put_members.Lts as lts
-use Rattle.targets.proofs.put_member.Reads as put-member-reads
-=======
->>>>>>> b95938776fd933abc325184698c3ceadbb9881c5
 
 abbrev Inv-loop : tie.InvT-loop
 Inv-loop table starts procs threads n chosen k path₀ steps₀ lens₀ begins wishes₀ i₀ path steps lens wishes i =
@@ -24,33 +18,6 @@ Inv-loop table starts procs threads n chosen k path₀ steps₀ lens₀ begins w
 abbrev μ-loop : tie.MeasureT-loop
 μ-loop table starts procs threads n chosen k path₀ steps₀ lens₀ begins wishes₀ i₀ path steps lens wishes i = k - i
 
-<<<<<<< HEAD
--- src/lib.rt:124:5
-loop-holds : tie.Need-loop-holds Inv-loop μ-loop
-loop-holds c = search (done-none, needs)
-
--- src/lib.rt:131:13
-mul-put-member : tie.Need-mul-put-member Inv-loop μ-loop
-mul-put-member c = search needs
-
--- src/lib.rt:131:13
-shared-slice-read-put-member : tie.Need-shared-slice-read-put-member Inv-loop μ-loop
-shared-slice-read-put-member c = search needs
-
--- src/lib.rt:125:9
-put-member-requires : tie.Need-put-member-requires Inv-loop μ-loop
-put-member-requires c κs = search (few-threads, asked-target, needs)
-
--- src/lib.rt:137:9
-add-i : tie.Need-add-i Inv-loop μ-loop
-add-i c = search needs
-
--- src/lib.rt:124:5
-loop-less : tie.Need-loop-less Inv-loop μ-loop
-loop-less c = search needs
-
--- src/lib.rt:124:5
-=======
 loop-holds : tie.Need-loop-holds Inv-loop μ-loop
 loop-holds c = search (done-none, needs)
 
@@ -69,7 +36,6 @@ add-i c = search needs
 loop-less : tie.Need-loop-less Inv-loop μ-loop
 loop-less c = search needs
 
->>>>>>> b95938776fd933abc325184698c3ceadbb9881c5
 loop-again : tie.Need-loop-again Inv-loop μ-loop
 loop-again c = (
   search needs,
@@ -83,25 +49,6 @@ loop-again c = (
   search (done-more, needs),
 )
 
-<<<<<<< HEAD
--- src/lib.rt:104:1
-same-length : tie.Need-same-length Inv-loop μ-loop
-same-length c = search needs
-
--- src/lib.rt:104:1
-same-length-2 : tie.Need-same-length-2 Inv-loop μ-loop
-same-length-2 c = search needs
-
--- src/lib.rt:104:1
-same-length-3 : tie.Need-same-length-3 Inv-loop μ-loop
-same-length-3 c = search needs
-
--- src/lib.rt:104:1
-same-length-4 : tie.Need-same-length-4 Inv-loop μ-loop
-same-length-4 c = search needs
-
--- src/lib.rt:104:1
-=======
 same-length : tie.Need-same-length Inv-loop μ-loop
 same-length c = search needs
 
@@ -114,7 +61,6 @@ same-length-3 c = search needs
 same-length-4 : tie.Need-same-length-4 Inv-loop μ-loop
 same-length-4 c = search needs
 
->>>>>>> b95938776fd933abc325184698c3ceadbb9881c5
 returns : tie.Need-returns Inv-loop μ-loop
 returns c = search (prepared, needs)
 

@@ -3,62 +3,6 @@ use Rattle.targets.proofs.Threads.{path-within, path-room, row-written}
 use borrow.Author.Needs.{needs}
 use Rattle.targets.proofs.put_path.Statement.{statement}
 use Rattle.targets.proofs.put_path.Tie as tie
-<<<<<<< HEAD
-use Rattle.targets.proofs.put_path.Reads as reads
-use Rattle.targets.proofs.put_path.Lts as lts
-use Rattle.buffers.proofs.copy_words.Reads as copy-words-reads
-use Rattle.paths.proofs.path_to.Reads as path-to-reads
-
--- src/lib.rt:64:9
-path-to-requires : tie.Need-path-to-requires
-path-to-requires c κs = search needs
-
--- src/lib.rt:65:14
-mul-at : tie.Need-mul-at
-mul-at c = search needs
-
--- src/lib.rt:66:25
-sub-copy-words : tie.Need-sub-copy-words
-sub-copy-words c = search needs
-
--- src/lib.rt:66:25
-part-copy-words-start : tie.Need-part-copy-words-start
-part-copy-words-start c = search needs
-
--- src/lib.rt:66:25
-part-copy-words-end : tie.Need-part-copy-words-end
-part-copy-words-end c = search (path-within, needs)
-
--- src/lib.rt:66:38
-mul-copy-words : tie.Need-mul-copy-words
-mul-copy-words c = search needs
-
--- src/lib.rt:66:38
-sub-copy-words-2 : tie.Need-sub-copy-words-2
-sub-copy-words-2 c = search needs
-
--- src/lib.rt:66:38
-part-copy-words-start-2 : tie.Need-part-copy-words-start-2
-part-copy-words-start-2 c = search needs
-
--- src/lib.rt:66:38
-part-copy-words-end-2 : tie.Need-part-copy-words-end-2
-part-copy-words-end-2 c = search needs
-
--- src/lib.rt:66:5
-copy-words-requires : tie.Need-copy-words-requires
-copy-words-requires c κs = search (path-room, needs)
-
--- src/lib.rt:51:1
-same-length : tie.Need-same-length
-same-length c = search needs
-
--- src/lib.rt:51:1
-same-length-2 : tie.Need-same-length-2
-same-length-2 c = search needs
-
--- src/lib.rt:51:1
-=======
 
 path-to-requires : tie.Need-path-to-requires
 path-to-requires c κs = search needs
@@ -96,7 +40,6 @@ same-length c = search needs
 same-length-2 : tie.Need-same-length-2
 same-length-2 c = search needs
 
->>>>>>> b95938776fd933abc325184698c3ceadbb9881c5
 returns : tie.Need-returns
 returns c = search (row-written, needs)
 

@@ -2,23 +2,10 @@
 use borrow.Author.Needs.{needs}
 use Rattle.targets.proofs.thread_paths.Statement.{statement}
 use Rattle.targets.proofs.thread_paths.Tie as tie
-<<<<<<< HEAD
-use Rattle.targets.proofs.thread_paths.Reads as reads
-use Rattle.targets.proofs.thread_paths.Lts as lts
-use Rattle.targets.proofs.fill_begins.Reads as fill-begins-reads
-use Rattle.targets.proofs.put_members.Reads as put-members-reads
-
--- src/lib.rt:162:5
-fill-begins-requires : tie.Need-fill-begins-requires
-fill-begins-requires c κs = search needs
-
--- src/lib.rt:163:5
-=======
 
 fill-begins-requires : tie.Need-fill-begins-requires
 fill-begins-requires c κs = search needs
 
->>>>>>> b95938776fd933abc325184698c3ceadbb9881c5
 put-members-requires : tie.Need-put-members-requires
 put-members-requires c κs = (
   search needs,
@@ -28,29 +15,6 @@ put-members-requires c κs = (
   search needs,
 )
 
-<<<<<<< HEAD
--- src/lib.rt:143:1
-same-length : tie.Need-same-length
-same-length c = search needs
-
--- src/lib.rt:143:1
-same-length-2 : tie.Need-same-length-2
-same-length-2 c = search needs
-
--- src/lib.rt:143:1
-same-length-3 : tie.Need-same-length-3
-same-length-3 c = search needs
-
--- src/lib.rt:143:1
-same-length-4 : tie.Need-same-length-4
-same-length-4 c = search needs
-
--- src/lib.rt:143:1
-same-length-5 : tie.Need-same-length-5
-same-length-5 c = search needs
-
--- src/lib.rt:143:1
-=======
 same-length : tie.Need-same-length
 same-length c = search needs
 
@@ -66,7 +30,6 @@ same-length-4 c = search needs
 same-length-5 : tie.Need-same-length-5
 same-length-5 c = search needs
 
->>>>>>> b95938776fd933abc325184698c3ceadbb9881c5
 returns : tie.Need-returns
 returns c = search needs
 
