@@ -238,6 +238,11 @@ impl Bench {
     }
 }
 
+/// The outcome by the reference.
+pub fn outcome(text: &[u8]) -> Outcome {
+    said(text).2
+}
+
 /// What the reference says of a text.
 fn said(text: &[u8]) -> (Vec<u8>, Result<Plan, Refusal>, Outcome) {
     let plan = read(text);

@@ -26,7 +26,7 @@ mod differential {
     use std::path::{Path, PathBuf};
     use std::time::Instant;
 
-    use lockplan_tests::compare::{shorten, Bench};
+    use lockplan_tests::compare::{outcome, shorten, Bench};
     use lockplan_tests::generate::{beginnings, generate, Case};
     use lockplan_tests::random::Random;
     use lockplan_tests::{families, guard, library, shelf};
@@ -126,8 +126,11 @@ mod differential {
                         "differential: --seed {} --only {index} ({}): {message}",
                         options.seed, case.kind
                     );
-                    let mut fails =
-                        |text: &[u8]| (0..4).any(|k| bench.check(calls, text, &mut Random::new(k)).is_err());
+                    let found = outcome(&case.text);
+                    let mut fails = |text: &[u8]| {
+                        outcome(text) == found
+                            && (0..4).any(|k| bench.check(calls, text, &mut Random::new(k)).is_err())
+                    };
                     let shorter =
                         if fails(&case.text) { shorten(&case.text, &mut fails) } else { case.text.clone() };
                     keep(&case.text, &format!("{}-{index}.plan", options.seed));

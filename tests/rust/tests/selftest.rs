@@ -107,6 +107,18 @@ fn report_of_case_b() {
 }
 
 #[test]
+fn report_of_the_highest_locks() {
+    let draft = Draft::each(vec![vec![families::nest(&[31, 0, 30, 9], vec![])], families::skips(1)]);
+    let expected = "(report\n(proc 0\n(pair 31)\n(pair 0 31)\n(pair 30 0 31)\n(pair 9 0 30 31)\n)\n\
+        (proc 1\n)\n(free)\n)\n";
+    assert_eq!(String::from_utf8(report(&draft.text())).unwrap(), expected);
+    let plan = read(&draft.text()).unwrap();
+    let words: Vec<u64> = plan.pairs[0].iter().map(|pair| pair.word()).collect();
+    let (top, next) = (1 << 36, 1 << 35);
+    assert_eq!(words, [31, top, top + 32 + 30, top + next + 32 + 9]);
+}
+
+#[test]
 fn text_of_a_procedure() {
     let text = b"(plan\n(proc\n(skip)\n)\n(proc\n(hold 3\n(call 0)\n)\n)\n(thread 1)\n)\n";
     assert_eq!(proc_text(text, 0), b"(proc\n(skip)\n)\n");
