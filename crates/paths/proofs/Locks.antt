@@ -1,5 +1,5 @@
 -- The mask of one lock, and what it tests.
-use Prim.Native.Nat.{ℕ, zero, suc, _+_, _*_, _%_, _^_, _<_}
+use Prim.Native.Nat.{ℕ, zero, suc, _+_, _*_, _^_, _<_}
 use native.Mathlib.Nat.{zero-mul, suc-mul}
 use native.Mathlib.Omega.{arith}
 use mathlib.Core.Bool.{false}
@@ -9,11 +9,11 @@ use lib.Dec.{eqb}
 use lib.Pow.{pow-pos, pow-lt}
 use borrow.Author.Tests.{ne-eqb, eq-eqb}
 use Rattle.laws.specs.Mask.{bit}
-use Rattle.laws.proofs.Masks.{shl-one, and-power}
+use Rattle.laws.proofs.Masks.{and-power}
 use Rattle.semantics.proofs.Paths.{gives, holding}
 
-pub bit-shifted : (l : ℕ) → l < 32 → (1 * 2 ^ l % 2 ^ 64 < 2 ^ 32) × (l < 32 → 1 * 2 ^ l % 2 ^ 64 ≡ 2 ^ l)
-bit-shifted l h = let e = shl-one 64 l (omega arith) in (rw e (pow-lt h), λ k. e)
+pub bit-small : (l b : ℕ) → l < 32 → b ≡ 2 ^ l → (b < 2 ^ 32) × (l < 32 → b ≡ 2 ^ l)
+bit-small l b h e = (rw e (pow-lt h), λ k. e)
 
 module _ (m l b w : ℕ) (is : l < 32 → b ≡ 2 ^ l) where
   pub bit-joined : m < 2 ^ 32 → b < 2 ^ 32 → (bitOr m b < 2 ^ 32) × (l < 32 → bitOr m b ≡ holding m l)

@@ -18,11 +18,11 @@ pub struct Stop {
 }
 
 // The mask of one lock: none for a number that no lock has.
-fn lock_bit(l: u16) -> u64
+fn mask_of(l: u16) -> u64
     ensures { λ r. ⌜ (r < 2 ^ 32) × (l < 32 → r ≡ 2 ^ l) ⌝ }
 {
     if l < 32 {
-        return 1u64 << (l as u64);
+        return locks::lock_bit(l as u64);
     }
     0
 }
@@ -32,7 +32,7 @@ fn with_lock(mask: u64, l: u16) -> u64
     requires { ⌜ mask < 2 ^ 32 ⌝ }
     ensures { λ r. ⌜ (r < 2 ^ 32) × (l < 32 → r ≡ holding mask l) ⌝ }
 {
-    mask | lock_bit(l)
+    mask | mask_of(l)
 }
 
 // Whether a hold of l that is begun with the locks of a mask gives the word.
@@ -40,7 +40,7 @@ fn gives_word(mask: u64, l: u16, word: u64) -> bool
     requires { ⌜ mask < 2 ^ 32 ⌝ }
     ensures { λ r. ⌜ (l < 32 → r ≡ gives word mask l) ⌝ }
 {
-    if mask & lock_bit(l) != 0 {
+    if mask & mask_of(l) != 0 {
         return false;
     }
     mask * 32 + (l as u64) == word
@@ -315,5 +315,5 @@ pub fn first_hold(table: &[u64], start: usize) -> u64
     let Form::Hold(l) = form else {
         return 0;
     };
-    lock_bit(l)
+    mask_of(l)
 }

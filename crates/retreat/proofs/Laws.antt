@@ -9,16 +9,17 @@ use mathlib.Core.Logic.{inl, inr, ⊎-elim, _≢_}
 use mathlib.Core.Bool.{Bool, true, false, cond, not, _&&_}
 use mathlib.Core.List.{List, [], _++_, append-nil}
 use borrow.Author.Tests.{eq-eqb, ne-eqb, lt-ltb, le-ltb, eqb-true, eqb-false}
-use lib.Bits.{bitOr, bitAnd}
+use lib.Bits.{bitOr, bitAnd, and-le-l}
+use lib.Count.{trailingZeros}
 use lib.Dec.{eqb, ltb}
 use lib.ListN.{length, getD, set, take, drop, length-drop, drop-of-length-le, List·getD-map}
 use lib.Seq.{lt-length-set, drop-length, drop-set-lt, drop-cons, getD-drop, getD-set-same, getD-set-other}
 use Rattle.laws.specs.Choice.{pick}
 use Rattle.laws.specs.Mask.{bit, inMask, maskOf}
-use Rattle.laws.proofs.Tests.{eq-or-ne}
+use Rattle.laws.proofs.Tests.{eq-or-ne, lt-or-le}
 use Rattle.laws.proofs.Bits.{bit-none}
 use Rattle.laws.proofs.Writes.{emit-more, emit-keep}
-use Rattle.laws.proofs.Masks.{shl-one, mask-more}
+use Rattle.laws.proofs.Masks.{shl-one, mask-more, digit-out, trailing-lowest}
 use Rattle.semantics.proofs.Joins.{joinBelow}
 use Rattle.semantics.proofs.Joins.{otherThan}
 use Rattle.semantics.proofs.Closing.{heldByMembers, waitsIn, wanting, stuckRound, stuckRounds}
@@ -39,12 +40,17 @@ mask-next steps t (suc j) n =
     let e : suc j - 1 ≡ j = omega arith in
     rw e (sym (List·getD-map (λ e. e / 4) (drop (1024 * t) steps) j 0 ∙ ap (λ x. x / 4) (getD-drop (1024 * t) steps j 0)))
 
-pub within-at : (js : List ℕ) (n t : ℕ) → Within js n → t < n → getD js t 0 ≤ 1024
-unfolding Within
-within-at js n t w h = w t h
+module _ (steps js : List ℕ) (n t : ℕ) (w : Within steps js n) (h : t < n) where
+  pub within-at : getD js t 0 ≤ 1024
+  unfolding Within
+  within-at = w t h .0
 
-pub within-before : (js : List ℕ) (n t : ℕ) → Within js n → t < n → getD js t 0 - 1 ≤ 1024
-within-before js n t w h = omega (arith, within-at js n t w h)
+  pub within-before : getD js t 0 - 1 ≤ 1024
+  within-before = omega (arith, within-at)
+
+  pub mask-before : getD (masksOf steps t) (getD js t 0 - 1) 0 < 2 ^ 32
+  unfolding Within
+  mask-before = w t h .1 (getD js t 0 - 1) (omega arith)
 
 -- ---- the table of what the threads hold
 
@@ -248,6 +254,12 @@ module _ (steps : List ℕ) (t l a r : ℕ) (s : scanBack (masksOf steps t) l a 
 
 -- ---- the jump
 
+-- `u64::trailing_zeros(m)`
+pub lowest-lock : (m : ℕ) → 0 < m → m < 2 ^ 32 → (trailingZeros 64 m < 32) × (bit m (trailingZeros 64 m) ≡ 1)
+lowest-lock m o h =
+    let e : bit m (trailingZeros 64 m) ≡ 1 = trailing-lowest 64 m o (omega arith) .member in
+    (⊎-elim (λ b. b) (λ (b : 32 ≤ trailingZeros 64 m). absurd (omega (arith, digit-out m 32 (trailingZeros 64 m) h b))) (lt-or-le (trailingZeros 64 m) 32), e)
+
 module _ (row : List ℕ) (others begin j : ℕ) where
   pub land-still : (h : ℕ) → j ≡ 0 → h ≡ 0 → JumpTo row others begin j h begin
   land-still h e z = record {
@@ -259,15 +271,21 @@ module _ (row : List ℕ) (others begin j : ℕ) where
   }
 
   module _ (a b : ℕ) (n : j ≡ 0 → ⊥) (e : a ≡ getD row (j - 1) 0) (f : b ≡ others) where
-    pub land-some : (0 < j → 0 < bitAnd (getD row (j - 1) 0) others) → 0 < bitAnd a b
-    land-some g = rw (e, f) (g (⊎-elim (λ (z : j ≡ 0). absurd (n z)) (λ (o : 0 < j). o) (eq-zero-or-pos j)))
+    stepped : 0 < j
+    stepped = ⊎-elim (λ (z : j ≡ 0). absurd (n z)) (λ (o : 0 < j). o) (eq-zero-or-pos j)
 
-    pub land-back : (l h : ℕ) → l < 64 → bit (bitAnd a b) l ≡ 1 → h ≡ scanBack row l (j - 1) → JumpTo row others begin j h (1 * 2 ^ l % 2 ^ 64)
-    land-back l h k g p = record {
+    pub land-some : (0 < j → 0 < bitAnd (getD row (j - 1) 0) others) → 0 < bitAnd a b
+    land-some g = rw (e, f) (g stepped)
+
+    pub land-small : (0 < j → getD row (j - 1) 0 < 2 ^ 32) → bitAnd a b < 2 ^ 32
+    land-small g = let o = g stepped in omega (arith, and-le-l a b)
+
+    pub land-back : (l h w : ℕ) → bit (bitAnd a b) l ≡ 1 → h ≡ scanBack row l (j - 1) → w ≡ 2 ^ l → JumpTo row others begin j h w
+    land-back l h w g p v = record {
       lock = l;
       given-up = λ _. rw (← e, ← f) g;
       place = λ _. p;
-      wanted = λ _. shl-one 64 l k;
+      wanted = λ _. v;
       still = λ z. absurd (n z);
     }
 
@@ -291,8 +309,11 @@ module _ (steps begins masks js js₀ wishes wishes₀ : List ℕ) (n k : ℕ) (
   pub jump-some : NoneMayGoBack steps js₀ n → 0 < getD js k 0 → 0 < bitAnd (getD (masksOf steps k) (getD js k 0 - 1) 0) (heldByOthers masks n k)
   jump-some f = rw (same-from js js₀ k same) (meets steps js₀ masks n k b h f)
 
-  pub jump-within : Within js₀ n → getD js k 0 ≤ 1024
-  jump-within w = rw (same-from js js₀ k same) (within-at js₀ n k w b)
+  pub jump-within : Within steps js₀ n → getD js k 0 ≤ 1024
+  jump-within w = rw (same-from js js₀ k same) (within-at steps js₀ n k w b)
+
+  pub jump-locks : Within steps js₀ n → 0 < getD js k 0 → getD (masksOf steps k) (getD js k 0 - 1) 0 < 2 ^ 32
+  jump-locks w o = rw (same-from js js₀ k same) (mask-before steps js₀ n k w b)
 
   module _ (small : n ≤ 6) (long : 6 ≤ length js₀) (kept : length js ≡ length js₀) where
     pub jump-keep : (v : ℕ) → drop (k + 1) (set js k v) ≡ drop (k + 1) js₀

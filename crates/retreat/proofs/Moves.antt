@@ -110,9 +110,9 @@ falls-less : {js js′ : List ℕ} {n : ℕ} → Falls js js′ n → stepsLeft 
 unfolding stepsLeft
 falls-less {js} {js′} {n} f = total-lt n (λ t. getD js′ t 0) (λ t. getD js t 0) (f .none-higher) (f .thread) (f .present) (f .lower)
 
-falls-within : {js js′ : List ℕ} {n : ℕ} → Falls js js′ n → Within js n → Within js′ n
+falls-within : (steps : List ℕ) {js js′ : List ℕ} {n : ℕ} → Falls js js′ n → Within steps js n → Within steps js′ n
 unfolding Within
-falls-within f w i b = omega (arith, f .none-higher i b, w i b)
+falls-within steps f w i b = let le = f .none-higher i b in (omega (arith, w i b .0), λ j l. w i b .1 j (omega arith))
 
 -- ---- the loop
 
@@ -134,7 +134,7 @@ pub record Lengths (steps begins js₀ wishes₀ masks₀ present₀ entries₀ 
 pub record Going (steps begins : List ℕ) (n : ℕ) (js₀ wishes₀ masks₀ js es wishes masks : List ℕ) : Type 0 where
   pub size : 6 ≤ length js
   pub few : n ≤ 6
-  pub within : Within js n
+  pub within : Within steps js n
   pub room : length es + stepsLeft js n ≤ 6144
   pub retreats : Retreats steps begins n js₀ wishes₀ masks₀ js es wishes masks
 
@@ -194,7 +194,7 @@ module _ (steps begins js wishes masks es : List ℕ) (n : ℕ) (js′ wishes′
         record {
           size = omega (arith, g .size);
           few = g .few;
-          within = falls-within k (g .within);
+          within = falls-within steps k (g .within);
           room = shorter k u (g .room);
           retreats = retreats-on (omega (arith, g .size, g .few));
         }
@@ -227,14 +227,14 @@ unfolding total
 total-few zero j h = omega arith
 total-few (suc n) j h = omega (arith, h 0 (omega arith), total-few n (λ t. j (suc t)) (λ t b. h (suc t) (omega arith)))
 
-pub going-first : (steps begins : List ℕ) (n : ℕ) (js wishes masks entries : List ℕ) → 6 ≤ length js → n ≤ 6 → Within js n
+pub going-first : (steps begins : List ℕ) (n : ℕ) (js wishes masks entries : List ℕ) → 6 ≤ length js → n ≤ 6 → Within steps js n
     → Going steps begins n js wishes masks js (drop (length entries) entries) wishes masks
 unfolding stepsLeft Within
 going-first steps begins n js wishes masks entries long few w = rw (drop-length entries) (record {
   size = long;
   few = few;
   within = w;
-  room = omega (arith, total-few n (λ t. getD js t 0) w);
+  room = omega (arith, total-few n (λ t. getD js t 0) (λ t b. w t b .0));
   retreats = record { leads = λ ps ns P s bound e chosen x g. g };
 })
 

@@ -1,7 +1,7 @@
 -- Tables that are right for a plan and a circle are paths of its threads (`Paths`), at whose ends each member stands before the hold of its word
 -- (`AtCircle`). So the way back starts at the theory's first target, and where it has come to the start the entries are a schedule, with the set that
 -- the rounds give.
-use Prim.Native.Nat.{ℕ, zero, suc, _+_, _-_, _/_, _<_, _≤_}
+use Prim.Native.Nat.{ℕ, zero, suc, _+_, _-_, _/_, _^_, _<_, _≤_}
 use native.Mathlib.Omega.{arith}
 use mathlib.Core.Path.{_≡_, refl, sym, ap, _∙_, subst}
 use mathlib.Core.Logic.{_⊎_, inl, inr, ⊎-elim, _≢_}
@@ -17,11 +17,13 @@ use Rattle.semantics.specs.Sizes.{sizeOf, threadSizes}
 use Rattle.semantics.specs.Stuck.{Schedule}
 use Rattle.semantics.specs.Pairs.{held, locksOf, wantOf}
 use Rattle.semantics.proofs.Tables.{total}
-use Rattle.semantics.proofs.Remainders.{plain-body}
-use Rattle.semantics.proofs.Execution.{stateAfter}
+use Rattle.semantics.proofs.LockSets.{held-lt}
+use Rattle.semantics.proofs.Remainders.{Plain, plain-body}
+use Rattle.semantics.proofs.Balance.{balanced-plain}
+use Rattle.semantics.proofs.Execution.{stateAfter, balanced-at}
 use Rattle.semantics.proofs.RetreatByMasks.{heldMask}
 use Rattle.semantics.proofs.Closing.{stuckRounds}
-use Rattle.semantics.proofs.Paths.{choices, choiceOf, maskAt, Stands, stands-first, stands-last, stands-masks, Finds, PathFound}
+use Rattle.semantics.proofs.Paths.{choices, choiceOf, maskAt, Stands, stands-first, stands-last, stands-masks, stands-execution, Finds, PathFound}
 use Rattle.semantics.proofs.RetreatMoves.{Paths, paths-of, GoingBack, AtCircle, circle-target, finished, finished-schedule, paths-short}
 use Rattle.retreat.specs.Paths.{rowStart, pathOf, masksOf, choiceAt, Within, Holding, Lent}
 use Rattle.retreat.specs.Moves.{AtStart, Retreats, FromEnds, Filled}
@@ -51,6 +53,15 @@ module _ (steps lens : List ℕ) (t : ℕ) (long : 6144 ≤ length steps) (low :
   path-mask (suc j) h =
       List·getD-map (λ e. e / 4) (drop (rowStart t) steps) j 0 ∙ ap (λ e. e / 4) (getD-drop (rowStart t) steps j 0 ∙ sym (step-at j (omega arith)))
 
+  -- the masks along the path of a procedure are of the 32 locks
+  pub path-locks : (ps : List Block) (p w : ℕ) → ((q : ℕ) → Plain (bodyIn ps q)) → Finds ps (initial ps p) w (pathOf steps lens t)
+      → (j : ℕ) → j ≤ getD lens t 0 → getD (masksOf steps t) j 0 < 2 ^ 32
+  path-locks ps p w bodies f j h =
+      let le : j ≤ length (pathOf steps lens t) = omega (arith, path-length) in
+      let b = balanced-at bodies (bodies p) (balanced-plain (bodyIn ps p) (bodies p)) (stands-execution (f .stands)) j
+      (omega (arith, le, length-map (pathOf steps lens t) choiceOf)) in
+      rw (path-mask j h ∙ stands-masks ps p (f .stands) j le) (held-lt 32 _ (omega (arith, b .size)))
+
 path-none : (steps lens : List ℕ) (t : ℕ) → getD lens t 0 ≡ 0 → pathOf steps lens t ≡ []
 unfolding pathOf
 path-none steps lens t e = rw e
@@ -71,7 +82,7 @@ leads-nowhere ps p path e =
 module _ (plan : LockPlan) (vss : List (List ℕ)) (k : ℕ) (threadOf word : ℕ → ℕ) (steps lens begins wishes masks : List ℕ)
     (r : Right plan vss k threadOf word steps lens begins wishes (length (plan .threads))) (long : 6144 ≤ length steps)
     (few : length (plan .threads) ≤ 6)
-    (room : 6 ≤ length lens) (w : Within lens (length (plan .threads))) (h : Holding steps lens masks (length (plan .threads))) where
+    (room : 6 ≤ length lens) (w : Within steps lens (length (plan .threads))) (h : Holding steps lens masks (length (plan .threads))) where
   abbrev ps : List Block
   ps = plan .procs
 
@@ -98,7 +109,7 @@ module _ (plan : LockPlan) (vss : List (List ℕ)) (k : ℕ) (threadOf word : �
   at t b = getD-take n lens t 0 b
 
   sized : (t : ℕ) → t < n → length (path t) ≡ getD lens t 0
-  sized t b = path-length steps lens t long (omega arith) (within-at lens n t w b)
+  sized t b = path-length steps lens t long (omega arith) (within-at steps lens n t w b)
 
   -- a thread is a member of the circle or not
   member-or : (t : ℕ) → ((i : ℕ) × (i < k) × (threadOf i ≡ t)) ⊎ ((i : ℕ) → i < k → threadOf i ≢ t)
@@ -120,7 +131,7 @@ module _ (plan : LockPlan) (vss : List (List ℕ)) (k : ℕ) (threadOf word : �
   table-masks : (t j : ℕ) → t < n → j ≤ length (P t) → getD (masksOf steps t) j 0 ≡ heldMask (s t j)
   table-masks t j b l =
       let le : j ≤ length (path t) = omega (arith, l, length-map (path t) choiceOf) in
-      path-mask steps lens t long (omega arith) (within-at lens n t w b) j (omega (arith, le, sized t b))
+      path-mask steps lens t long (omega arith) (within-at steps lens n t w b) j (omega (arith, le, sized t b))
       ∙ stands-masks ps (procAt t) ((leads t b) .stands) j le
 
   paths : Paths ps (plan .threads) P s (masksOf steps) begins
@@ -174,7 +185,7 @@ module _ (plan : LockPlan) (vss : List (List ℕ)) (k : ℕ) (threadOf word : �
   unfolding AtStart
   ended js′ es wishes′ masks′ b z =
       let g = b .leads ps (plan .threads) P s (threadSizes plan) refl
-      (λ t j c l. path-choice steps lens t long (omega arith) (within-at lens n t w c) j l) paths first in
+      (λ t j c l. path-choice steps lens t long (omega arith) (within-at steps lens n t w c) j l) paths first in
       finished-schedule plan (λ p. p) (r .sound) (finished paths g (λ t c. getD-take n js′ t 0 c ∙ z t c))
 
 -- the answer, in the shape of the function's need
@@ -189,11 +200,11 @@ scheduled steps lens begins wishes masks present n es wishes′ masks′ entries
 }
   where
     of-plan : (plan : LockPlan) (vss : List (List ℕ)) (k : ℕ) (threadOf word : ℕ → ℕ) (n : ℕ) → n ≡ length (plan .threads)
-        → Right plan vss k threadOf word steps lens begins wishes n → n ≤ 6 → Within lens n → Holding steps lens (b .first) n
+        → Right plan vss k threadOf word steps lens begins wishes n → n ≤ 6 → Within steps lens n → Holding steps lens (b .first) n
         → Retreats steps begins n lens wishes (b .first) (b .last) es wishes′ masks′ → AtStart (b .last) n
         → Schedule plan es (inMask (stuckRounds n n wishes′ masks′))
     of-plan plan vss k threadOf word n q =
-        subst (λ n. Right plan vss k threadOf word steps lens begins wishes n → n ≤ 6 → Within lens n → Holding steps lens (b .first) n
+        subst (λ n. Right plan vss k threadOf word steps lens begins wishes n → n ≤ 6 → Within steps lens n → Holding steps lens (b .first) n
         → Retreats steps begins n lens wishes (b .first) (b .last) es wishes′ masks′ → AtStart (b .last) n
         → Schedule plan es (inMask (stuckRounds n n wishes′ masks′))) (sym q)
         (λ r few w h g z.

@@ -1,5 +1,5 @@
 -- The lent tables: the path of each thread, the masks of the locks that it holds along it, and what the threads hold at their positions.
-use Prim.Native.Nat.{ℕ, _+_, _-_, _*_, _/_, _%_, _<_, _≤_}
+use Prim.Native.Nat.{ℕ, _+_, _-_, _*_, _/_, _%_, _^_, _<_, _≤_}
 use mathlib.Core.Bool.{Bool, false}
 use mathlib.Core.List.{List, _∷_, map}
 use mathlib.Core.Path.{_≡_}
@@ -27,9 +27,9 @@ masksOf steps t = 0 ∷ map (λ e. e / 4) (drop (rowStart t) steps)
 unfoldable pub choiceAt : List ℕ → ℕ → ℕ → ℕ
 choiceAt steps t j = getD steps (rowStart t + j) 0 % 4
 
--- the positions of n threads are within the rows
-unfoldable pub Within : List ℕ → ℕ → Type 0
-Within js n = (t : ℕ) → t < n → getD js t 0 ≤ 1024
+-- the positions of n threads are within the rows, and up to them the masks are of the 32 locks
+unfoldable pub Within : List ℕ → List ℕ → ℕ → Type 0
+Within steps js n = (t : ℕ) → t < n → (getD js t 0 ≤ 1024) × ((j : ℕ) → j ≤ getD js t 0 → getD (masksOf steps t) j 0 < 2 ^ 32)
 
 -- n threads at positions js hold the masks
 unfoldable pub Holding : List ℕ → List ℕ → List ℕ → ℕ → Type 0
@@ -57,10 +57,10 @@ pub record Standing (steps js masks : List ℕ) (n : ℕ) : Type 0 where
   pub positions : 6 ≤ length js
   pub table : 6 ≤ length masks
   pub few : n ≤ 6
-  pub within : Within js n
+  pub within : Within steps js n
   pub holding : Holding steps js masks n
 
--- the tables that the way back is lent are long enough, and the positions are within the rows
+-- the tables that the way back is lent are long enough, and the paths are within the rows
 pub record Lent (steps begins js wishes masks present : List ℕ) (n : ℕ) : Type 0 where
   pub paths : 6144 ≤ length steps
   pub beginnings : 6 ≤ length begins
@@ -69,4 +69,4 @@ pub record Lent (steps begins js wishes masks present : List ℕ) (n : ℕ) : Ty
   pub held : 6 ≤ length masks
   pub held-now : 6 ≤ length present
   pub few : n ≤ 6
-  pub within : Within js n
+  pub within : Within steps js n

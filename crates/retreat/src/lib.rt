@@ -41,7 +41,7 @@ fn mask_at(steps: &[u64], t: usize, j: u64) -> u64
 
 // The locks that each thread holds at its position.
 fn fill_masks(steps: &[u64], js: &[u64], masks: &mut [u64], n: usize)
-    requires { ⌜ (6144 ≤ length (now steps)) × (n ≤ 6) × (6 ≤ length (now js)) × (6 ≤ length (now masks)) × Within (now js) n ⌝ }
+    requires { ⌜ (6144 ≤ length (now steps)) × (n ≤ 6) × (6 ≤ length (now js)) × (6 ≤ length (now masks)) × Within (now steps) (now js) n ⌝ }
     ensures { λ r. ⌜ Holding (now (steps .entry)) (now (js .entry)) (now (masks .exit)) n ⌝ }
 {
     let mut t: usize = 0;
@@ -107,7 +107,7 @@ fn find_back(steps: &[u64], js: &[u64], masks: &[u64], n: usize) -> usize
 
 // The same, with the table of what the threads hold made first.
 fn choose_back(steps: &[u64], js: &[u64], masks: &mut [u64], n: usize) -> usize
-    requires { ⌜ (6144 ≤ length (now steps)) × (n ≤ 6) × (6 ≤ length (now js)) × (6 ≤ length (now masks)) × Within (now js) n ⌝ }
+    requires { ⌜ (6144 ≤ length (now steps)) × (n ≤ 6) × (6 ≤ length (now js)) × (6 ≤ length (now masks)) × Within (now steps) (now js) n ⌝ }
     ensures { λ r. ⌜ FirstBelow (mayGoBack (now (steps .entry)) (now (js .entry)) n) n r ⌝ }
 {
     fill_masks(steps, js, masks, n);
@@ -146,15 +146,15 @@ fn put_entry(steps: &[u64], js: &mut [u64], entries: &mut [u16], k: usize, d: us
 
 // Whether lock l is in m.
 fn has(m: u64, l: u32) -> bool
-    requires { ⌜ l < 64 ⌝ }
+    requires { ⌜ l < 32 ⌝ }
     ensures { λ r. ⌜ r ≡ inMask m l ⌝ }
 {
-    m & (1u64 << l) != 0
+    m & locks::lock_bit(l as u64) != 0
 }
 
 // The last place of thread t, from j downward, at which it does not hold lock l.
 fn scan_back(steps: &[u64], t: usize, l: u32, j: u64) -> u64
-    requires { ⌜ (6144 ≤ length (now steps)) × (t < 6) × (l < 64) × (j ≤ 1024) ⌝ }
+    requires { ⌜ (6144 ≤ length (now steps)) × (t < 6) × (l < 32) × (j ≤ 1024) ⌝ }
     ensures { λ r. ⌜ r ≡ scanBack (masksOf (now (steps .entry)) t) l j ⌝ }
 {
     let mut a = j;
@@ -170,8 +170,8 @@ fn scan_back(steps: &[u64], t: usize, l: u32, j: u64) -> u64
 
 // The lowest lock of m.
 fn lowest(m: u64) -> u32
-    requires { ⌜ 0 < m ⌝ }
-    ensures { λ r. ⌜ (r < 64) × (bit m r ≡ 1) ⌝ }
+    requires { ⌜ (0 < m) × (m < 2 ^ 32) ⌝ }
+    ensures { λ r. ⌜ (r < 32) × (bit m r ≡ 1) ⌝ }
 {
     u64::trailing_zeros(m)
 }
@@ -179,7 +179,8 @@ fn lowest(m: u64) -> u32
 // Where thread k, at position j, jumps to, and what it wants there: the lowest lock that its last step gave up and another thread holds.
 fn land(steps: &[u64], begins: &[u64], masks: &[u64], n: usize, k: usize, j: u64) -> Landing
     requires { ⌜ (6144 ≤ length (now steps)) × (6 ≤ length (now begins)) × (n ≤ 6) × (6 ≤ length (now masks)) × (k < 6) × (j ≤ 1024)
-        × (0 < j → 0 < bitAnd (getD (masksOf (now steps) k) (j - 1) 0) (heldByOthers (now masks) n k)) ⌝ }
+        × (0 < j → 0 < bitAnd (getD (masksOf (now steps) k) (j - 1) 0) (heldByOthers (now masks) n k))
+        × (0 < j → getD (masksOf (now steps) k) (j - 1) 0 < 2 ^ 32) ⌝ }
     ensures { λ r. ⌜ JumpTo (masksOf (now (steps .entry)) k) (heldByOthers (now (masks .entry)) n k) (getD (now (begins .entry)) k 0) j
         (r .place) (r .wish) ⌝ }
 {
@@ -194,7 +195,7 @@ fn land(steps: &[u64], begins: &[u64], masks: &[u64], n: usize, k: usize, j: u64
     let place = scan_back(steps, k, l, j - 1);
     Landing {
         place,
-        wish: 1u64 << l,
+        wish: locks::lock_bit(l as u64),
     }
 }
 
@@ -223,7 +224,7 @@ fn jump_all(
     n: usize,
 )
     requires { ⌜ (6144 ≤ length (now steps)) × (6 ≤ length (now begins)) × (6 ≤ length (now js)) × (6 ≤ length (now wishes)) × (6 ≤ length (now masks))
-        × (n ≤ 6) × Within (now js) n × NoneMayGoBack (now steps) (now js) n ⌝ }
+        × (n ≤ 6) × Within (now steps) (now js) n × NoneMayGoBack (now steps) (now js) n ⌝ }
     ensures { λ r. ⌜ Holding (now (steps .entry)) (now (js .entry)) (now (masks .exit)) n
         × Landed (now (steps .entry)) (now (begins .entry)) n (now (js .entry)) (now (js .exit)) (now (wishes .exit)) n ⌝ }
 {
@@ -478,7 +479,7 @@ pub fn schedule(
     entries: &mut [u16],
 ) -> Outcome
     requires { ⌜ (6144 ≤ length (now steps)) × (6 ≤ length (now lens)) × (6 ≤ length (now begins)) × (6 ≤ length (now wishes)) × (n ≤ 6)
-        × (6144 ≤ length (now entries)) × Within (now lens) n ⌝ }
+        × (6144 ≤ length (now entries)) × Within (now steps) (now lens) n ⌝ }
     ensures { λ r. ⌜ Scheduled (now (steps .entry)) (now (lens .entry)) (now (begins .entry)) (now (wishes .entry)) n (now (entries .entry))
         (r .entries) (r .stuck) (now (entries .exit)) ⌝ }
 {

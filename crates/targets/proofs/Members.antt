@@ -15,12 +15,15 @@ use Rattle.semantics.specs.Run.{initial}
 use Rattle.semantics.specs.Sizes.{sizeOf}
 use Rattle.semantics.specs.Stuck.{Schedule}
 use Rattle.semantics.specs.Pairs.{wantOf, pairs, pairList}
+use Rattle.semantics.proofs.Remainders.{plain-body}
 use Rattle.semantics.proofs.Circle.{word-in}
 use Rattle.semantics.proofs.Paths.{Finds}
 use Rattle.plan.specs.Settled.{tablePlan}
 use Rattle.conflict.specs.Entries.{threadAt, wordAt}
-use Rattle.retreat.specs.Paths.{pathOf, Within}
+use Rattle.retreat.specs.Paths.{pathOf, masksOf, Within}
 use Rattle.retreat.specs.Answer.{Right, Scheduled}
+use Rattle.retreat.proofs.Laws.{mask-first}
+use Rattle.retreat.proofs.Schedules.{path-locks}
 use Rattle.targets.specs.Tables.{pairLists, procOf, beginOf, Asked, Room, Prepared, Begins, NoSteps, Target, MemberPut, Done}
 use Rattle.targets.proofs.Threads.{few-threads, size-within}
 
@@ -35,6 +38,9 @@ module _ (ws starts threads chosen : List ℕ) (procs n k : ℕ) (a : Asked ws s
       let b : threadAt chosen i < length (pairLists ws) = word-in (pairLists ws) (threadAt chosen i) (wordAt chosen i) (a .circle .from i h) in
       let e : length (pairLists ws) ≡ length (tablePlan ws .threads) = length-map (tablePlan ws .threads) (pairList (tablePlan ws .procs)) in
       rw (a .threads-in .all, ← e) b
+
+  member-low : (i : ℕ) → i < k → threadAt chosen i < 6
+  member-low i h = omega (arith, member-present i h, few-threads ws starts threads procs n (a .threads-in))
 
   pub asked-target : (i : ℕ) → i < k → Target ws n (getD chosen i 0 % 8) (getD chosen i 0 / 8)
   unfolding pairList procOf
@@ -58,7 +64,7 @@ module _ (ws starts threads chosen : List ℕ) (procs n k : ℕ) (a : Asked ws s
       (room : Room path steps lens begins wishes) (d : Done ws chosen i n steps lens wishes)
       (m : MemberPut ws (threadAt chosen i) (wordAt chosen i) steps lens wishes steps′ lens′ wishes′) where
     few : threadAt chosen i < 6
-    few = let z = few-threads ws starts threads procs n (a .threads-in) in let y = member-present i here in omega arith
+    few = member-low i here
 
     own-length : getD lens′ (threadAt chosen i) 0 ≡ m .count
     own-length = ap (λ l. getD l (threadAt chosen i) 0) (m .lengths)
@@ -111,15 +117,22 @@ module _ (ws starts threads chosen : List ℕ) (procs n k : ℕ) (a : Asked ws s
   -- ---- all members
 
   module _ (steps lens begins wishes : List ℕ) (d : Done ws chosen k n steps lens wishes) where
-    paths-within : Within lens n
+    paths-within : 6144 ≤ length steps → Within steps lens n
     unfolding Within
-    paths-within t h =
+    paths-within rows t h =
         ⊎-elim
         (λ (q : (j : ℕ) × (j < k) × T (eqb (threadAt chosen j) t)).
-        let e : threadAt chosen (q .0) ≡ t = eqb→eq (threadAt chosen (q .0)) t (q .2) in
-        subst (λ u. getD lens u 0 ≤ 1024) e (member-within lens (q .0) (q .1) (d .short (q .0) (q .1))))
+        let i = threadAt chosen (q .0) in
+        let e : i ≡ t = eqb→eq i t (q .2) in
+        let le = member-within lens (q .0) (q .1) (d .short (q .0) (q .1)) in
+        subst (λ u. (getD lens u 0 ≤ 1024) × ((j : ℕ) → j ≤ getD lens u 0 → getD (masksOf steps u) j 0 < 2 ^ 32)) e (
+          le,
+          path-locks steps lens i rows (member-low (q .0) (q .1)) le (tablePlan ws .procs) (procOf ws i) (wordAt chosen (q .0)) (plain-body (a .threads-in .plan .settled .sound))
+              (d .path (q .0) (q .1)),
+        ))
         (λ (none : (j : ℕ) → j < k → T (eqb (threadAt chosen j) t) → ⊥).
-        let o = d .others t h (λ j l e. none j l (eq→eqb (threadAt chosen j) t e)) in omega (arith, o .0))
+        let o = d .others t h (λ j l e. none j l (eq→eqb (threadAt chosen j) t e)) in
+        (omega (arith, o .0), λ j l. omega (arith, mask-first steps t j (omega (arith, o .0)))))
         (search-below k (λ j. eqb (threadAt chosen j) t))
 
     tables-right : Begins ws begins n → Right (tablePlan ws) (pairLists ws) k (threadAt chosen) (wordAt chosen) steps lens begins wishes n
@@ -143,7 +156,7 @@ module _ (ws starts threads chosen : List ℕ) (procs n k : ℕ) (a : Asked ws s
       let all : Done ws chosen k n steps lens wishes = subst (λ j. Done ws chosen j n steps lens wishes) e d in
       record {
         right = tables-right steps lens begins wishes all b;
-        within = paths-within steps lens begins wishes all;
+        within = paths-within steps lens begins wishes all (room .rows);
         few = few-threads ws starts threads procs n (a .threads-in);
         rows = room .rows;
         lengths = room .lengths;

@@ -59,7 +59,7 @@ pub record Room (path steps lens begins wishes : List ℕ) : Type 0 where
 -- What the tables have: they are right for the circle, and the paths are within their rows.
 pub record Prepared (ws chosen : List ℕ) (k n : ℕ) (steps lens begins wishes : List ℕ) : Type 0 where
   pub right : Right (tablePlan ws) (pairLists ws) k (threadAt chosen) (wordAt chosen) steps lens begins wishes n
-  pub within : Within lens n
+  pub within : Within steps lens n
   pub few : n ≤ 6
   pub rows : 6144 ≤ length steps
   pub lengths : 6 ≤ length lens

@@ -97,7 +97,7 @@ fn put_member(
     let p = proc_of(table, starts, procs, threads, n, t);
     let count = put_path(table, starts, procs, p, word, path, t, steps);
     lens[t] = count as u64;
-    wishes[t] = pairs::lock_bit(word % 32);
+    wishes[t] = locks::lock_bit(word % 32);
 }
 
 // The same for each member of the circle.

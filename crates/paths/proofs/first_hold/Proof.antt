@@ -23,8 +23,8 @@ enum-known-form c = search needs
 returns-2 : tie.Need-returns-2
 returns-2 c = wish-other _ _ _ (omega arith) (c .before .form-at .ensures) (λ l e. other-tags (rw e at (c .match .keys2)))
 
-lock-bit-requires : tie.Need-lock-bit-requires
-lock-bit-requires c κs = search needs
+mask-of-requires : tie.Need-mask-of-requires
+mask-of-requires c κs = search needs
 
 returns-3 : tie.Need-returns-3
 returns-3 c = search (wish-hold, needs)
@@ -39,5 +39,5 @@ first-hold-spec =
     form-at-requires
     enum-known-form
     returns-2
-    lock-bit-requires
+    mask-of-requires
     returns-3)

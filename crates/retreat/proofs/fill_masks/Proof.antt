@@ -11,7 +11,7 @@ use Rattle.retreat.proofs.fill_masks.Tie as tie
 abbrev Inv-loop : tie.InvT-loop
 Inv-loop steps js masks₀ n t₀ masks t =
     (t ≤ n) × (n ≤ 6) × (6144 ≤ length steps) × (6 ≤ length js) × (6 ≤ length masks₀) × (length masks ≡ length masks₀)
-    × Within js n × Holding steps js masks t
+    × Within steps js n × Holding steps js masks t
 
 abbrev μ-loop : tie.MeasureT-loop
 μ-loop steps js masks₀ n t₀ masks t = n - t

@@ -5,7 +5,7 @@ use mathlib.Core.Path.{_≡_}
 use lib.ListN.{length, drop}
 use Rattle.retreat.specs.Paths.{NoneMayGoBack, Standing}
 use Rattle.retreat.specs.Moves.{Landed}
-use Rattle.retreat.proofs.Laws.{jump-some, jump-within, jump-keep, landed-none, landed-more, landed-done}
+use Rattle.retreat.proofs.Laws.{jump-some, jump-within, jump-locks, jump-keep, landed-none, landed-more, landed-done}
 use Rattle.retreat.proofs.jump.Statement.{statement}
 use Rattle.retreat.proofs.jump.Tie as tie
 
@@ -27,7 +27,7 @@ slice-read-land : tie.Need-slice-read-land Inv-loop μ-loop
 slice-read-land c = search needs
 
 land-requires : tie.Need-land-requires Inv-loop μ-loop
-land-requires c κs = search (jump-some, jump-within, needs)
+land-requires c κs = search (jump-some, jump-within, jump-locks, needs)
 
 mul-js : tie.Need-mul-js Inv-loop μ-loop
 mul-js c = search needs

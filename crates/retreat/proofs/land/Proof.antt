@@ -1,5 +1,5 @@
 -- At its start the thread stays; else it goes before the hold of the lowest lock that it gave up and another holds.
-use Rattle.retreat.proofs.Laws.{land-still, land-some, land-back}
+use Rattle.retreat.proofs.Laws.{land-still, land-some, land-small, land-back}
 use borrow.Author.Needs.{needs}
 use Rattle.retreat.proofs.land.Statement.{statement}
 use Rattle.retreat.proofs.land.Tie as tie
@@ -23,7 +23,7 @@ others-hold-requires : tie.Need-others-hold-requires
 others-hold-requires c κs = search needs
 
 lowest-requires : tie.Need-lowest-requires
-lowest-requires c κs = search (land-some, needs)
+lowest-requires c κs = search (land-some, land-small, needs)
 
 sub-scan-back : tie.Need-sub-scan-back
 sub-scan-back c = search needs
@@ -31,11 +31,11 @@ sub-scan-back c = search needs
 scan-back-requires : tie.Need-scan-back-requires
 scan-back-requires c κs = search needs
 
-cast-t16 : tie.Need-cast-t16
-cast-t16 c = search needs
+cast-lock-bit : tie.Need-cast-lock-bit
+cast-lock-bit c = search needs
 
-shl-t14 : tie.Need-shl-t14
-shl-t14 c = search needs
+lock-bit-requires : tie.Need-lock-bit-requires
+lock-bit-requires c κs = search needs
 
 returns-2 : tie.Need-returns-2
 returns-2 c = search (land-back, needs)
@@ -53,6 +53,6 @@ land-spec =
     lowest-requires
     sub-scan-back
     scan-back-requires
-    cast-t16
-    shl-t14
+    cast-lock-bit
+    lock-bit-requires
     returns-2)

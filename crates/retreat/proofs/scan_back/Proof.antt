@@ -10,7 +10,7 @@ use Rattle.retreat.proofs.scan_back.Statement.{statement}
 use Rattle.retreat.proofs.scan_back.Tie as tie
 
 abbrev Inv-loop : tie.InvT-loop
-Inv-loop steps t l j a₀ a = (6144 ≤ length steps) × (t < 6) × (l < 64) × (a ≤ 1024) × (scanBack (masksOf steps t) l a ≡ scanBack (masksOf steps t) l j)
+Inv-loop steps t l j a₀ a = (6144 ≤ length steps) × (t < 6) × (l < 32) × (a ≤ 1024) × (scanBack (masksOf steps t) l a ≡ scanBack (masksOf steps t) l j)
 
 abbrev μ-loop : tie.MeasureT-loop
 μ-loop steps t l j a₀ a = a

@@ -1,0 +1,2 @@
+-- The test of a lock's bit in a mask.
+pub mod Tested
