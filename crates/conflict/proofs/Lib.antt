@@ -8,8 +8,11 @@ pub mod Flattening
 -- Entries that are in no circle.
 pub mod Dropping
 -- The search for a circle.
+pub mod Noting
 pub mod Paths
 pub mod Extending
+pub mod Reasons
 pub mod Circles
+pub mod LockByLock
 -- The whole.
 pub mod Finding
