@@ -32,7 +32,7 @@ use Rattle.lockplan.specs.Steps.{WordsFound, TablePairs, PairsFound}
 use Rattle.plan.proofs.Kept.{first-none}
 use Rattle.plan.proofs.Sound.{accepted-settled}
 use Rattle.lockplan.proofs.LineBounds.{Numbers, pairs-bounded}
-use Rattle.lockplan.proofs.Checked.{plan-kept, plan-forms}
+use Rattle.checked.proofs.Checked.{plan-kept, plan-forms}
 
 refused-some : {w : Refusal} → some w ≡ none → ⊥
 refused-some h = Option·none-ne-some _ (sym h)

@@ -29,7 +29,7 @@ use Rattle.lockplan.specs.declared.Verdict.the-variants.{Free, Deadlock,
 use Rattle.lockplan.specs.Answers.{verdictNumber, highPart, scheduleLength}
 use Rattle.lockplan.specs.Steps.{refusedVerdict, verdictOf}
 use Rattle.lockplan.specs.Judgement.{JudgedIn, JudgedBytesAs, JudgedBytes}
-use Rattle.lockplan.proofs.Checked.{plan-kept, plan-forms, plan-table, plan-few, plan-sizes}
+use Rattle.checked.proofs.Checked.{plan-kept, plan-forms, plan-table, plan-few, plan-sizes}
 use Rattle.lockplan.proofs.LineBounds.{Numbers, verdict-bounded}
 
 -- ---- entries

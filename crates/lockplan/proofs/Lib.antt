@@ -1,5 +1,4 @@
--- The plan's rules in checking order; the numbers of a refusal; the pairs found and handed to the caller; the text of a procedure.
-pub mod Checked
+-- The numbers of a refusal; the pairs found and handed to the caller; the text of a procedure; the verdict.
 pub mod LineBounds
 pub mod Found
 pub mod ProcText

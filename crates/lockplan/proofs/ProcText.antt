@@ -26,7 +26,7 @@ use Rattle.parts.specs.Parts.{linesPart, formsBefore}
 use Rattle.parts.proofs.Lines.{proc-part-forms}
 use Rattle.lockplan.specs.Promises.{partOf, procText}
 use Rattle.lockplan.specs.Steps.{tableText}
-use Rattle.lockplan.proofs.Checked.{plan-kept, plan-forms, plan-table, laterRefusal}
+use Rattle.checked.proofs.Checked.{plan-kept, plan-forms, plan-table, laterRefusal}
 
 module _ (ws : List ℕ) (p procs : ℕ) (c : procs ≡ length (tablePlan ws .procs)) where
   pub table-absent : (text l : List ℕ) → l ≡ [] → procs ≤ p → l ≡ tableText text ws p

@@ -3,10 +3,9 @@ ghost use mathlib.Core.Path.{_≡_};
 ghost use mathlib.Core.Option.{none};
 ghost use Prim.Native.Nat.{_/_, _<_, _≤_};
 ghost use lib.ListN.{length};
-ghost use Rattle.laws.specs.Choice.{orElse};
 ghost use Rattle.plan.specs.Table.{tableForms};
 ghost use Rattle.plan.specs.Settled.{PlanTable};
-ghost use Rattle.plan.specs.Rules.{planRefusal, tooLarge, tooManyPairs, readingOf, Tabled};
+ghost use Rattle.plan.specs.Rules.{tooManyPairs};
 ghost use Prim.Native.Nat.{min, _^_};
 ghost use Rattle.lockplan.specs.Answers.{listingNumber, handedOn, Carried, verdictNumber, highPart, scheduleLength};
 ghost use Rattle.lockplan.specs.Judgement.{JudgedIn, Judged, JudgedBytes};
@@ -26,45 +25,6 @@ pub enum Verdict {
     Free,
     Deadlock { entries: usize, stuck: u8 },
     Refused { rule: u8, line: usize },
-}
-
-// Rules 9 and 10 over a table of forms.
-fn check_table(
-    table: &[u64],
-    starts: &mut [u64],
-    sizes: &mut [u64],
-    scratch: &mut [u64],
-    list: &mut [u64],
-) -> Reading
-    requires { ⌜ PlanTable (now table) × (64 ≤ length (now starts)) × (64 ≤ length (now sizes)) × (64 ≤ length (now scratch)) × (129 ≤ length (now list)) ⌝ }
-    ensures { λ r. ⌜ r ≡ readingOf (orElse (tooLarge (tableForms (now (table .entry)))) (tooManyPairs (tableForms (now (table .entry))))) (length (now (table .entry))) ⌝ }
-{
-    let procs = procs::find_procs(table, starts);
-    let sized = procs::check_sizes(table, starts, procs, sizes, scratch);
-    let Reading::Accepted(_) = sized else {
-        return sized;
-    };
-    pairs::check_pairs(table, starts, procs, list)
-}
-
-// The plan's rules, 2 to 10, in checking order; the forms of an accepted text stay in the table.
-fn check_text(
-    text: &[u8],
-    table: &mut [u64],
-    stack: &mut [u8],
-    starts: &mut [u64],
-    sizes: &mut [u64],
-    scratch: &mut [u64],
-    list: &mut [u64],
-) -> Reading
-    requires { ⌜ (16384 ≤ length (now table)) × (16384 ≤ length (now stack)) × (64 ≤ length (now starts)) × (64 ≤ length (now sizes)) × (64 ≤ length (now scratch)) × (129 ≤ length (now list)) ⌝ }
-    ensures { λ r. ⌜ Tabled (planRefusal (now (text .entry))) (now (text .entry)) r (now (table .exit)) ⌝ }
-{
-    let read = plan::read_plan(text, table, stack);
-    let Reading::Accepted(n) = read else {
-        return read;
-    };
-    check_table(&table[0..n], starts, sizes, scratch, list)
 }
 
 // The pairs of a procedure of a table (rule 11 where it is not there).
@@ -108,7 +68,7 @@ fn find_pairs(
     if lent < 128 {
         return Listing::Refused { rule: 1, line: 0 };
     }
-    let checked = check_text(text, table, stack, starts, sizes, scratch, list);
+    let checked = checked::check_text(text, table, stack, starts, sizes, scratch, list);
     let Reading::Accepted(n) = checked else {
         return handed_on(checked);
     };
@@ -215,7 +175,7 @@ fn find_text<'a>(
     requires { ⌜ (16384 ≤ length (now table)) × (16384 ≤ length (now stack)) × (64 ≤ length (now starts)) × (64 ≤ length (now sizes)) × (64 ≤ length (now scratch)) × (129 ≤ length (now list)) ⌝ }
     ensures { λ r. ⌜ now r ≡ procText (now (text .entry)) proc ⌝ }
 {
-    let checked = check_text(text, table, stack, starts, sizes, scratch, list);
+    let checked = checked::check_text(text, table, stack, starts, sizes, scratch, list);
     let Reading::Accepted(n) = checked else {
         return &text[0..0];
     };
@@ -282,7 +242,7 @@ fn find_verdict(
     if lent < 6144 {
         return Verdict::Refused { rule: 1, line: 0 };
     }
-    let checked = check_text(text, table, stack, starts, sizes, scratch, list);
+    let checked = checked::check_text(text, table, stack, starts, sizes, scratch, list);
     let Reading::Accepted(n) = checked else {
         return refused_verdict(checked);
     };

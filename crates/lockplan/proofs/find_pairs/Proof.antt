@@ -1,4 +1,4 @@
-use Rattle.lockplan.proofs.Checked.{plan-room, plan-table, plan-few}
+use Rattle.checked.proofs.Checked.{plan-room, plan-table, plan-few}
 use Rattle.lockplan.proofs.Found.{text-short, text-refused, text-listed}
 use borrow.Author.Needs.{needs}
 use Rattle.lockplan.proofs.find_pairs.Statement.{statement}

@@ -1,4 +1,4 @@
-use Rattle.lockplan.proofs.Checked.{plan-room, plan-table}
+use Rattle.checked.proofs.Checked.{plan-room, plan-table}
 use Rattle.lockplan.proofs.ProcText.{text-empty, text-part}
 use borrow.Author.Needs.{needs}
 use Rattle.lockplan.proofs.find_text.Statement.{statement}

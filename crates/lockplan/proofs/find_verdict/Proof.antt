@@ -1,4 +1,4 @@
-use Rattle.lockplan.proofs.Checked.{plan-room}
+use Rattle.checked.proofs.Checked.{plan-room}
 use Rattle.lockplan.proofs.Judging.{judged-short, judged-refused, judged-found, table-within}
 use borrow.Author.Needs.{needs}
 use Rattle.lockplan.proofs.find_verdict.Statement.{statement}

@@ -1,7 +1,7 @@
 use Rattle.plan.proofs.Laws.{first-refuses, first-passes}
 use borrow.Author.Needs.{needs}
-use Rattle.lockplan.proofs.check_table.Statement.{statement}
-use Rattle.lockplan.proofs.check_table.Tie as tie
+use Rattle.checked.proofs.check_table.Statement.{statement}
+use Rattle.checked.proofs.check_table.Tie as tie
 
 find-procs-requires : tie.Need-find-procs-requires
 find-procs-requires c κs = search needs

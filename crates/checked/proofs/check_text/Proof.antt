@@ -1,7 +1,7 @@
-use Rattle.lockplan.proofs.Checked.{text-refused, text-room, text-table, text-checked}
+use Rattle.checked.proofs.Checked.{text-refused, text-room, text-table, text-checked}
 use borrow.Author.Needs.{needs}
-use Rattle.lockplan.proofs.check_text.Statement.{statement}
-use Rattle.lockplan.proofs.check_text.Tie as tie
+use Rattle.checked.proofs.check_text.Statement.{statement}
+use Rattle.checked.proofs.check_text.Tie as tie
 
 read-plan-requires : tie.Need-read-plan-requires
 read-plan-requires c κs = search needs

@@ -1,0 +1,2 @@
+-- The plan's rules in checking order.
+pub mod Checked
