@@ -8,7 +8,7 @@ use lib.Dec.{T}
 use Rattle.laws.specs.Bytes.{bytes, equal}
 use Rattle.laws.specs.Mask.{bit}
 use Rattle.report_lines.specs.Lines.{digitsIn, digits, members, listed, reportOpen, freeLine, deadlockOpen, closing}
-use Rattle.report_lines.specs.Lines.{procOpen, refusedLine, pairLine, stuckLine, stepLine}
+use Rattle.report_lines.specs.Lines.{procOpen, refusedLine, pairLine, stuckLine, stepLine, linesOf, procLines, deadlockLines}
 
 pub record Example : Type 0 where
   pub lines : List ℕ
@@ -18,13 +18,11 @@ pub record Example : Type 0 where
 unfoldable pub examples : List Example
 examples =
     record {
-      lines = reportOpen ++ procOpen 0 ++ pairLine 2 ++ pairLine 128 ++ pairLine 161 ++ closing ++ procOpen 1 ++ pairLine 2 ++ pairLine 129 ++ pairLine 192 ++ closing
-          ++ freeLine ++ closing;
+      lines = reportOpen ++ procLines 0 (2 ∷ 128 ∷ 161 ∷ []) ++ procLines 1 (2 ∷ 129 ∷ 192 ∷ []) ++ freeLine ++ closing;
       text = "(report\n(proc 0\n(pair 2)\n(pair 0 2)\n(pair 1 0 2)\n)\n(proc 1\n(pair 2)\n(pair 1 2)\n(pair 0 1 2)\n)\n(free)\n)\n";
     }
     ∷ record {
-      lines = reportOpen ++ procOpen 0 ++ pairLine 0 ++ pairLine 33 ++ closing ++ procOpen 1 ++ pairLine 1 ++ pairLine 64 ++ closing ++ deadlockOpen ++ stuckLine 3
-          ++ stepLine 0 ++ stepLine 1 ++ closing ++ closing;
+      lines = reportOpen ++ procLines 0 (0 ∷ 33 ∷ []) ++ procLines 1 (1 ∷ 64 ∷ []) ++ deadlockLines 3 (0 ∷ 1 ∷ []) ++ closing;
       text = "(report\n(proc 0\n(pair 0)\n(pair 1 0)\n)\n(proc 1\n(pair 1)\n(pair 0 1)\n)\n(deadlock\n(stuck 0 1)\n(step 0 0)\n(step 1 0)\n)\n)\n";
     }
     ∷ record { lines = reportOpen ++ refusedLine 9 37 ++ closing; text = "(report\n(refused 9 37)\n)\n" }
@@ -39,5 +37,5 @@ right [] = true
 right (e ∷ es) = equal (e .lines) (bytes (e .text)) && right es
 
 pub examples-right : T (right examples)
-unfolding examples right equal bit digitsIn digits members listed reportOpen freeLine deadlockOpen closing procOpen refusedLine pairLine stuckLine stepLine
+unfolding examples right equal bit digitsIn digits members listed reportOpen freeLine deadlockOpen closing procOpen refusedLine pairLine stuckLine stepLine linesOf procLines deadlockLines
 examples-right = tt

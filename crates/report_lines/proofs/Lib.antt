@@ -3,4 +3,5 @@ pub mod Writing
 pub mod Digits
 pub mod Members
 pub mod WholeLines
+pub mod Joined
 pub mod Examples

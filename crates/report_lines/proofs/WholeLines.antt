@@ -2,7 +2,8 @@
 use Prim.Native.Nat.{ℕ, _/_, _%_}
 use mathlib.Core.List.{List, _++_}
 use Rattle.laws.specs.Bytes.{bytes}
-use Rattle.report_lines.specs.Lines.{digits, members, listed, procOpen, refusedLine, pairLine, stuckLine, stepLine, Wrote}
+use Rattle.report_lines.specs.Lines.{digits, members, listed, deadlockOpen, closing, procOpen, refusedLine, pairLine, stuckLine, stepLine}
+use Rattle.report_lines.specs.Lines.{linesOf, procLines, deadlockLines, Wrote}
 use Rattle.report_lines.proofs.Writing.{wrote-more, wrote-three}
 
 module _ (l l₁ l₂ : List ℕ) (at i r : ℕ) where
@@ -30,3 +31,19 @@ module _ (l l₁ l₂ l₃ : List ℕ) (at i j r : ℕ) where
       → Wrote l₂ l₃ j r (bytes ")\n") → Wrote l l₃ at r (stepLine x)
   unfolding stepLine
   step-whole x u v w = wrote-three l l₁ l₂ l₃ at i j r (bytes "(step " ++ digits (x % 8)) (bytes " " ++ digits (x / 8)) (bytes ")\n") u v w
+
+-- ---- a procedure, a deadlock
+
+module _ (l l₁ l₂ l₃ : List ℕ) (at i j r : ℕ) (ws : List ℕ) where
+  pub proc-lines-whole : (p : ℕ) → Wrote l l₁ at i (procOpen p) → Wrote l₁ l₂ i j (linesOf pairLine ws) → Wrote l₂ l₃ j r (bytes ")\n")
+      → Wrote l l₃ at r (procLines p ws)
+  unfolding procLines closing
+  proc-lines-whole p u v w = wrote-three l l₁ l₂ l₃ at i j r (procOpen p) (linesOf pairLine ws) (bytes ")\n") u v w
+
+module _ (l l₁ l₂ l₃ l₄ : List ℕ) (at i j k r : ℕ) (es : List ℕ) where
+  pub deadlock-whole : (m : ℕ) → Wrote l l₁ at i (bytes "(deadlock\n") → Wrote l₁ l₂ i j (stuckLine m) → Wrote l₂ l₃ j k (linesOf stepLine es)
+      → Wrote l₃ l₄ k r (bytes ")\n") → Wrote l l₄ at r (deadlockLines m es)
+  unfolding deadlockLines deadlockOpen closing
+  deadlock-whole m t u v w =
+      wrote-more l l₃ l₄ at k r (bytes "(deadlock\n" ++ stuckLine m ++ linesOf stepLine es) (bytes ")\n")
+      (wrote-three l l₁ l₂ l₃ at i j k (bytes "(deadlock\n") (stuckLine m) (linesOf stepLine es) t u v) w

@@ -62,6 +62,19 @@ stuckLine m = bytes "(stuck" ++ listed (members 64 m) ++ bytes ")\n"
 unfoldable pub stepLine : ℕ → List ℕ
 stepLine e = bytes "(step " ++ digits (e % 8) ++ (bytes " " ++ digits (e / 8)) ++ bytes ")\n"
 
+-- one line for each number of a list, in order
+unfoldable pub linesOf : (ℕ → List ℕ) → List ℕ → List ℕ
+linesOf line [] = []
+linesOf line (x ∷ xs) = line x ++ linesOf line xs
+
+-- "for each procedure `(proc P` with its pairs and `)`"
+unfoldable pub procLines : ℕ → List ℕ → List ℕ
+procLines p words = procOpen p ++ linesOf pairLine words ++ closing
+
+-- "A deadlock is `(deadlock`, `(stuck T ..)` .., one `(step T C)` per entry (thread, choice), `)`."
+unfoldable pub deadlockLines : ℕ → List ℕ → List ℕ
+deadlockLines threads entries = deadlockOpen ++ stuckLine threads ++ linesOf stepLine entries ++ closing
+
 -- bytes that suffice for each line, whatever the numbers: a machine number has at most 20 digits, one of 8 bits 3, a member of a mask of 64 digits 2
 abbrev pub procRoom : ℕ
 procRoom = 6 + 20 + 1
@@ -77,6 +90,13 @@ stuckRoom = 6 + 64 * 3 + 2
 
 abbrev pub stepRoom : ℕ
 stepRoom = 6 + 1 + 1 + 4 + 2
+
+-- and for several: n pairs of a procedure, n entries of a schedule
+abbrev pub procLinesRoom : ℕ → ℕ
+procLinesRoom n = procRoom + n * pairRoom + 2
+
+abbrev pub deadlockRoom : ℕ → ℕ
+deadlockRoom n = 10 + stuckRoom + n * stepRoom + 2
 
 -- l′ is l with the text written over it at a place, and `next` the place behind the text, within the buffer
 pub record Wrote (l l′ : List ℕ) (at next : ℕ) (text : List ℕ) : Type 0 where

@@ -2,10 +2,11 @@
 // is kept.
 ghost use mathlib.Core.Path.{_≡_};
 ghost use mathlib.Core.List.{_++_};
-ghost use Prim.Native.Nat.{_+_, _≤_};
+ghost use Prim.Native.Nat.{_+_, _*_, _≤_};
 ghost use lib.ListN.{length};
 ghost use Rattle.report_lines.specs.Lines.{digits, members, listed, procOpen, refusedLine, pairLine, stuckLine, stepLine};
-ghost use Rattle.report_lines.specs.Lines.{procRoom, refusedRoom, pairRoom, stuckRoom, stepRoom, Wrote};
+ghost use Rattle.report_lines.specs.Lines.{linesOf, procLines, deadlockLines};
+ghost use Rattle.report_lines.specs.Lines.{procRoom, refusedRoom, pairRoom, stuckRoom, stepRoom, procLinesRoom, deadlockRoom, Wrote};
 
 // A text as it is.
 pub fn put_text(out: &mut [u8], at: usize, text: &[u8]) -> usize
@@ -105,4 +106,55 @@ pub fn put_step(out: &mut [u8], at: usize, entry: u16) -> usize
     let i = put_numbered(out, at, b"(step ", (entry % 8) as u64);
     let j = put_numbered(out, i, b" ", (entry / 8) as u64);
     put_text(out, j, b")\n")
+}
+
+// The lines of pairs, in the order of their words.
+pub fn put_pairs(out: &mut [u8], at: usize, words: &[u64]) -> usize
+    requires { ⌜ at + length (now words) * pairRoom ≤ length (now out) ⌝ }
+    ensures { λ r. ⌜ Wrote (now (out .entry)) (now (out .exit)) at r (linesOf pairLine (now (words .entry))) ⌝ }
+    ensures { λ r. ⌜ r ≤ at + length (now (words .entry)) * pairRoom ⌝ }
+{
+    let mut i = at;
+    let mut k: usize = 0;
+    while k < words.len() {
+        i = put_pair(out, i, words[k]);
+        k += 1;
+    }
+    i
+}
+
+// The lines of a schedule, entry by entry.
+pub fn put_steps(out: &mut [u8], at: usize, entries: &[u16]) -> usize
+    requires { ⌜ at + length (now entries) * stepRoom ≤ length (now out) ⌝ }
+    ensures { λ r. ⌜ Wrote (now (out .entry)) (now (out .exit)) at r (linesOf stepLine (now (entries .entry))) ⌝ }
+    ensures { λ r. ⌜ r ≤ at + length (now (entries .entry)) * stepRoom ⌝ }
+{
+    let mut i = at;
+    let mut k: usize = 0;
+    while k < entries.len() {
+        i = put_step(out, i, entries[k]);
+        k += 1;
+    }
+    i
+}
+
+// A procedure: `(proc P`, its pairs, `)`
+pub fn put_proc_lines(out: &mut [u8], at: usize, p: usize, words: &[u64]) -> usize
+    requires { ⌜ at + procLinesRoom (length (now words)) ≤ length (now out) ⌝ }
+    ensures { λ r. ⌜ Wrote (now (out .entry)) (now (out .exit)) at r (procLines p (now (words .entry))) ⌝ }
+{
+    let i = put_proc(out, at, p);
+    let j = put_pairs(out, i, words);
+    put_text(out, j, b")\n")
+}
+
+// A deadlock: `(deadlock`, the stuck threads, the steps of the schedule, `)`
+pub fn put_deadlock(out: &mut [u8], at: usize, threads: u8, entries: &[u16]) -> usize
+    requires { ⌜ at + deadlockRoom (length (now entries)) ≤ length (now out) ⌝ }
+    ensures { λ r. ⌜ Wrote (now (out .entry)) (now (out .exit)) at r (deadlockLines threads (now (entries .entry))) ⌝ }
+{
+    let i = put_text(out, at, b"(deadlock\n");
+    let j = put_stuck(out, i, threads);
+    let k = put_steps(out, j, entries);
+    put_text(out, k, b")\n")
 }

@@ -1,0 +1,77 @@
+-- Lines one behind another, each within the same room: after k turns the first k lines are written, within k rooms.
+use Prim.Native.Nat.{ℕ, _+_, _*_, _/_, _%_, _^_, _<_, _≤_}
+use native.Mathlib.Numerals.{add-one}
+use native.Mathlib.Nat.{add-zero, zero-mul, suc-mul, mul-le-mul-right}
+use native.Mathlib.Omega.{arith}
+use mathlib.Core.Path.{_≡_, refl, sym, ap, _∙_}
+use mathlib.Core.List.{List, [], _∷_, _++_, append-nil, append-assoc}
+use lib.ListN.{length, take, getD, length-append}
+use lib.Seq.{take-suc, take-length}
+use Rattle.report_lines.specs.Lines.{digits, members, listed, pairLine, stuckLine, stepLine, procOpen, linesOf, Wrote}
+use Rattle.report_lines.proofs.Writing.{wrote-none, wrote-more, wrote-length}
+use Rattle.report_lines.proofs.Digits.{digits-short}
+use Rattle.report_lines.proofs.Members.{members-short}
+
+-- ---- how long a line is
+
+pub proc-short : (p : ℕ) → p < 2 ^ 64 → length (procOpen p) ≤ 27
+unfolding procOpen
+proc-short p h = rw (length-append, length-append) (omega (arith, digits-short 19 p (omega arith)))
+
+pub pair-short : (w : ℕ) → length (pairLine w) ≤ 202
+unfolding pairLine
+pair-short w = rw (length-append, length-append, length-append) (omega (arith, digits-short 1 (w % 32) (omega arith), members-short (w / 32)))
+
+pub stuck-short : (m : ℕ) → length (stuckLine m) ≤ 200
+unfolding stuckLine
+stuck-short m = rw (length-append, length-append) (omega (arith, members-short m))
+
+pub step-short : (e : ℕ) → e < 65536 → length (stepLine e) ≤ 14
+unfolding stepLine
+step-short e h =
+    rw (length-append, length-append, length-append, length-append) (omega (arith, digits-short 0 (e % 8) (omega arith), digits-short 3 (e / 8) (omega arith)))
+
+-- ---- the loop that writes a line for each number
+
+lines-snoc : (line : ℕ → List ℕ) (xs : List ℕ) (x : ℕ) → linesOf line (xs ++ (x ∷ [])) ≡ linesOf line xs ++ line x
+unfolding linesOf
+lines-snoc line [] x = append-nil (line x)
+lines-snoc line (y ∷ xs) x = rw (lines-snoc line xs x) (sym (append-assoc (line y) (linesOf line xs) (line x)))
+
+pub record Joined (line : ℕ → List ℕ) (room : ℕ) (out₀ out : List ℕ) (at i k : ℕ) (xs : List ℕ) : Type 0 where
+  pub wrote : Wrote out₀ out at i (linesOf line (take k xs))
+  pub within : i ≤ at + k * room
+
+module _ (line : ℕ → List ℕ) (room : ℕ) where
+  pub joined-none : (out xs : List ℕ) (at : ℕ) → at + length xs * room ≤ length out → Joined line room out out at at 0 xs
+  unfolding linesOf
+  joined-none out xs at h = record { wrote = wrote-none out at (omega arith); within = omega arith }
+
+  module _ (out₀ out xs : List ℕ) (at i k : ℕ) (h : k < length xs) (j : Joined line room out₀ out at i k xs) where
+    turn : (k + 1) * room ≡ k * room + room
+    turn = rw (add-one k) (suc-mul k room)
+
+    turns : at + length xs * room ≤ length out₀ → at + k * room + room ≤ length out₀
+    turns r = let n : k + 1 ≤ length xs = omega arith in omega (arith, turn, mul-le-mul-right room n)
+
+    pub joined-room : at + length xs * room ≤ length out₀ → i + room ≤ length out
+    joined-room r = omega (arith, turns r, j .within, wrote-length out₀ out at i _ (j .wrote))
+
+    pub joined-more : (out′ : List ℕ) (i′ : ℕ) → length (line (getD xs k 0)) ≤ room → Wrote out out′ i i′ (line (getD xs k 0))
+        → Joined line room out₀ out′ at i′ (k + 1) xs
+    joined-more out′ i′ short w =
+        let t : take (k + 1) xs ≡ take k xs ++ (getD xs k 0 ∷ []) = rw add-one (take-suc xs k 0 h) in
+        record {
+          wrote = rw (t, lines-snoc line (take k xs) (getD xs k 0)) (wrote-more out₀ out out′ at i i′ (linesOf line (take k xs)) (line (getD xs k 0)) (j .wrote) w);
+          within = omega (arith, turn, j .within, w .place);
+        }
+
+  module _ (out₀ out xs : List ℕ) (at i k : ℕ) (h : length xs ≤ k) (b : k ≤ length xs) (j : Joined line room out₀ out at i k xs) where
+    whole : k ≡ length xs
+    whole = omega arith
+
+    pub joined-done : Wrote out₀ out at i (linesOf line xs)
+    joined-done = let t : take k xs ≡ xs = ap (λ n. take n xs) whole ∙ take-length xs in rw t at (j .wrote)
+
+    pub joined-within : i ≤ at + length xs * room
+    joined-within = rw (← whole) (j .within)
