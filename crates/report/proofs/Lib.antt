@@ -1,0 +1,2 @@
+-- The lines of the report's parts.
+pub mod Parts
