@@ -1,5 +1,12 @@
-// The reference plans of document 01, from the files c00, c01, .. beside the program: for each the number of critical pairs of its procedures with their words and
-// the verdict with its schedule, or the refusal.
+// The reference plans of document 01 and some more, from the files that `index` names beside the program: for each the critical pairs of its procedures and the verdict, or the
+// refusal. A schedule is replayed by a second gateway, of the modules below, which read the plan's text by themselves.
+mod gateway;
+mod lines;
+mod sizes;
+mod stuck;
+
+ghost use Prim.Native.Nat.{_≤_};
+ghost use lib.ListN.{length};
 use lockplan::Listing;
 use lockplan::Verdict;
 
@@ -76,12 +83,52 @@ fn print_entries(entries: &[u16]) {
     io::write_all(1, b"\n");
 }
 
-fn print_schedule(n: usize, stuck: u8, out: &[u16]) {
-    print_number(b"  deadlock, stuck set ", stuck as u64);
+fn print_length(n: usize, bound: usize) {
+    print_number(b"  replayed ", n as u64);
+    print_number(b" steps, sizes ", bound as u64);
+    if bound < n {
+        io::write_all(1, b", too many");
+    }
+}
+
+fn print_stuck(found: u64, named: u64) {
+    print_number(b", stuck set ", found);
+    if found == named {
+        io::write_all(1, b", as named\n");
+    } else {
+        io::write_all(1, b", not the set named\n");
+    }
+}
+
+// A schedule in the second gateway, from its start: the first entry that is no permitted step, or what is seen at the end.
+fn print_replay(text: &[u8], schedule: &[u16], named: u64, state: &mut [usize], bound: usize)
+    requires { ⌜ 6912 ≤ length (now state) ⌝ }
+{
+    gateway::start(text, state);
+    let n = gateway::run(text, schedule, state);
+    if n < schedule.len() {
+        print_number(b"  not replayed: no step at entry ", n as u64);
+        io::write_all(1, b"\n");
+        return;
+    }
+    print_length(n, bound);
+    print_stuck(stuck::largest(text, state), named);
+}
+
+fn replay(text: &[u8], schedule: &[u16], named: u64) {
+    let mut state = [0usize; 6912];
+    let mut sizes = [0usize; 66];
+    let bound = sizes::sum(text, &mut sizes);
+    print_replay(text, schedule, named, &mut state, bound);
+}
+
+fn print_schedule(text: &[u8], n: usize, named: u64, out: &[u16]) {
+    print_number(b"  deadlock, stuck set ", named);
     print_number(b", entries ", n as u64);
     io::write_all(1, b":");
     if n <= out.len() {
         print_entries(&out[0..n]);
+        replay(text, &out[0..n], named);
     } else {
         io::write_all(1, b" ?\n");
     }
@@ -93,7 +140,7 @@ fn show_verdict(text: &[u8], out: &mut [u16]) {
             io::write_all(1, b"  free\n");
         }
         Verdict::Deadlock { entries, stuck } => {
-            print_schedule(entries, stuck, out);
+            print_schedule(text, entries, stuck as u64, out);
         }
         Verdict::Refused { rule, line } => {
             print_number(b"  refused ", rule as u64);
@@ -103,36 +150,53 @@ fn show_verdict(text: &[u8], out: &mut [u16]) {
     }
 }
 
-fn show_file(path: &[u8], buffer: &mut [u8], list: &mut [u64], out: &mut [u16]) -> bool {
+fn show_file(path: &[u8], buffer: &mut [u8], list: &mut [u64], out: &mut [u16]) {
     let fd = os::open_read(path);
     if fd < 0 {
-        return false;
+        io::write_all(1, b"  no such file\n");
+        return;
     }
     let n = io::read_full(fd, buffer);
     libc::close(fd);
-    io::write_all(1, path);
-    print_number(b" bytes ", n as u64);
+    print_number(b"  bytes ", n as u64);
     io::write_all(1, b"\n");
     show_plan(&buffer[..n], list);
     show_verdict(&buffer[..n], out);
-    true
 }
 
-fn show_all(buffer: &mut [u8], list: &mut [u64], out: &mut [u16]) {
-    let mut k: usize = 0;
-    while k < 100 {
-        let name = [b'c', 48 + (k / 10 % 10) as u8, 48 + (k % 10) as u8];
-        if show_file(&name, buffer, list, out) {
-            k += 1;
-        } else {
-            return;
-        }
+// A line of the index: the file's name of three letters, and what the plan is.
+fn show_case(line: &[u8], buffer: &mut [u8], list: &mut [u64], out: &mut [u16]) {
+    io::write_all(1, line);
+    if line.len() < 3 {
+        return;
+    }
+    show_file(&line[0..3], buffer, list, out);
+}
+
+fn show_all(index: &[u8], buffer: &mut [u8], list: &mut [u64], out: &mut [u16]) {
+    let mut at: usize = 0;
+    while at < index.len() {
+        let next = lines::next_line(index, at);
+        show_case(&index[at..next], buffer, list, out);
+        at = next;
     }
 }
 
+fn show_index(index: &mut [u8], buffer: &mut [u8], list: &mut [u64], out: &mut [u16]) {
+    let fd = os::open_read(b"index");
+    if fd < 0 {
+        io::write_all(1, b"no index\n");
+        return;
+    }
+    let n = io::read_full(fd, index);
+    libc::close(fd);
+    show_all(&index[..n], buffer, list, out);
+}
+
 fn main() {
+    let mut index = [0u8; 8192];
     let mut buffer = [0u8; 32769];
     let mut list = [0u64; 128];
     let mut out = [0u16; 6144];
-    show_all(&mut buffer, &mut list, &mut out);
+    show_index(&mut index, &mut buffer, &mut list, &mut out);
 }

@@ -1,3 +1,4 @@
+-- Each turn passes an entry.
 use borrow.Author.Needs.{needs}
 use Prim.Native.Nat.{_-_, _≤_}
 use lib.ListN.{length}

@@ -1,3 +1,4 @@
+-- Each turn passes a word.
 use borrow.Author.Needs.{needs}
 use Prim.Native.Nat.{_-_, _≤_}
 use lib.ListN.{length}

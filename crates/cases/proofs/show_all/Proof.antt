@@ -1,39 +1,34 @@
+-- The buffers keep their lengths, and each turn passes a line.
 use borrow.Author.Needs.{needs}
 use Prim.Native.Nat.{_-_, _≤_}
-use mathlib.Core.Path.{_≡_}
 use lib.ListN.{length}
+use mathlib.Core.Path.{_≡_}
 use Rattle.cases.proofs.show_all.Statement.{statement}
 use Rattle.cases.proofs.show_all.Tie as tie
 
 abbrev Inv-loop : tie.InvT-loop
-Inv-loop buffer₀ list₀ out₀ k₀ buffer list out k = (k ≤ 100) × (length buffer ≡ length buffer₀) × (length list ≡ length list₀) × (length out ≡ length out₀)
+Inv-loop index buffer₀ list₀ out₀ at₀ buffer list out at = (at ≤ length index) × (length buffer ≡ length buffer₀) × (length list ≡ length list₀) × (length out ≡ length out₀)
 
 abbrev μ-loop : tie.MeasureT-loop
-μ-loop buffer₀ list₀ out₀ k₀ buffer list out k = 100 - k
+μ-loop index buffer₀ list₀ out₀ at₀ buffer list out at = length index - at
 
 loop-holds : tie.Need-loop-holds Inv-loop μ-loop
 loop-holds c = search needs
 
-cast-t9 : tie.Need-cast-t9 Inv-loop μ-loop
-cast-t9 c = search needs
+next-line-requires : tie.Need-next-line-requires Inv-loop μ-loop
+next-line-requires c κs = search needs
 
-add-t10 : tie.Need-add-t10 Inv-loop μ-loop
-add-t10 c = search needs
+sub-show-case : tie.Need-sub-show-case Inv-loop μ-loop
+sub-show-case c = search needs
 
-cast-t12 : tie.Need-cast-t12 Inv-loop μ-loop
-cast-t12 c = search needs
+part-show-case-start : tie.Need-part-show-case-start Inv-loop μ-loop
+part-show-case-start c = search needs
 
-add-t13 : tie.Need-add-t13 Inv-loop μ-loop
-add-t13 c = search needs
+part-show-case-end : tie.Need-part-show-case-end Inv-loop μ-loop
+part-show-case-end c = search needs
 
-slice-aggregate-show-file : tie.Need-slice-aggregate-show-file Inv-loop μ-loop
-slice-aggregate-show-file c = search needs
-
-show-file-requires : tie.Need-show-file-requires Inv-loop μ-loop
-show-file-requires c κs = search needs
-
-add-k : tie.Need-add-k Inv-loop μ-loop
-add-k c = search needs
+show-case-requires : tie.Need-show-case-requires Inv-loop μ-loop
+show-case-requires c κs = search needs
 
 loop-less : tie.Need-loop-less Inv-loop μ-loop
 loop-less c = search needs
@@ -53,18 +48,6 @@ same-length-3 c = search needs
 returns : tie.Need-returns Inv-loop μ-loop
 returns c = search needs
 
-same-length-4 : tie.Need-same-length-4 Inv-loop μ-loop
-same-length-4 c = search needs
-
-same-length-5 : tie.Need-same-length-5 Inv-loop μ-loop
-same-length-5 c = search needs
-
-same-length-6 : tie.Need-same-length-6 Inv-loop μ-loop
-same-length-6 c = search needs
-
-returns-2 : tie.Need-returns-2 Inv-loop μ-loop
-returns-2 c = search needs
-
 pub show-all-spec : {M : Type 1} → statement M
 show-all-spec =
     tie.close
@@ -72,20 +55,14 @@ show-all-spec =
     Inv-loop
     μ-loop
     loop-holds
-    cast-t9
-    add-t10
-    cast-t12
-    add-t13
-    slice-aggregate-show-file
-    show-file-requires
-    add-k
+    next-line-requires
+    sub-show-case
+    part-show-case-start
+    part-show-case-end
+    show-case-requires
     loop-less
     loop-again
     same-length
     same-length-2
     same-length-3
-    returns
-    same-length-4
-    same-length-5
-    same-length-6
-    returns-2)
+    returns)

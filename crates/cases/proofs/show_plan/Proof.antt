@@ -1,3 +1,4 @@
+-- The list keeps its length, and each turn passes a procedure.
 use borrow.Author.Needs.{needs}
 use Prim.Native.Nat.{_-_, _≤_}
 use mathlib.Core.Path.{_≡_}

@@ -1,0 +1,117 @@
+// The lines of an accepted plan text, told by their letters. A place is the byte at which a line starts; the text's length is the place behind the last line.
+ghost use Prim.Native.Nat.{_≤_, _<_, _+_};
+ghost use lib.ListN.{length};
+
+// The letter of a line's form: its second byte, with `w` for two, `.` for the plan, `)` for a bracket that closes and `?` where no line is.
+pub fn letter(text: &[u8], at: usize) -> u8 {
+    if text.len() <= at {
+        return b'?';
+    }
+    let line = &text[at..];
+    if line.len() < 3 {
+        return b')';
+    }
+    let first = line[1];
+    let second = line[2];
+    match first {
+        10 => b')',
+        b'p' => if second == b'r' { b'p' } else { b'.' },
+        b't' => if second == b'h' { b't' } else { b'w' },
+        _ => first,
+    }
+}
+
+// The place behind a line.
+pub fn next_line(text: &[u8], at: usize) -> usize
+    requires { ⌜ at < length (now text) ⌝ }
+    ensures { λ r. ⌜ (at < r) × (r ≤ length (now (text .entry))) ⌝ }
+{
+    let mut i = at;
+    while i < text.len() {
+        if text[i] == 10 {
+            return i + 1;
+        }
+        i += 1;
+    }
+    i
+}
+
+// The same of any place.
+pub fn behind(text: &[u8], at: usize) -> usize {
+    if at < text.len() {
+        next_line(text, at)
+    } else {
+        at
+    }
+}
+
+// One digit more behind a number of three at most; another byte changes nothing.
+fn append(n: usize, b: u8) -> usize {
+    match b {
+        b'0'..=b'9' => n % 100 * 10 + (b - b'0') as usize,
+        _ => n,
+    }
+}
+
+// The number in a line.
+pub fn number(text: &[u8], at: usize) -> usize {
+    let mut n: usize = 0;
+    let mut i = at;
+    while i < text.len() {
+        if text[i] == 10 {
+            return n;
+        }
+        n = append(n, text[i]);
+        i += 1;
+    }
+    n
+}
+
+// The place of the line with this letter before which k others have it; the text's length where there is none.
+pub fn find(text: &[u8], wanted: u8, k: usize) -> usize {
+    let mut left = k;
+    let mut at: usize = 0;
+    while at < text.len() {
+        if letter(text, at) == wanted {
+            if left == 0 {
+                return at;
+            }
+            left -= 1;
+        }
+        at = next_line(text, at);
+    }
+    at
+}
+
+// The place at which the block of a procedure starts.
+pub fn body(text: &[u8], proc: usize) -> usize {
+    behind(text, find(text, b'p', proc))
+}
+
+// How many brackets are open behind a line.
+fn nested(depth: usize, form: u8) -> usize
+    requires { ⌜ depth < 18446744073709551615 ⌝ }
+    ensures { λ r. ⌜ r ≤ depth + 1 ⌝ }
+{
+    match form {
+        b')' => if depth == 0 { 0 } else { depth - 1 },
+        b's' => depth,
+        b'c' => depth,
+        b't' => depth,
+        _ => depth + 1,
+    }
+}
+
+// The place of the line that closes the bracket opened at `at`.
+pub fn closing(text: &[u8], at: usize) -> usize {
+    let mut depth: usize = 0;
+    let mut i = at;
+    while i < text.len() {
+        depth = nested(depth, letter(text, i));
+        if depth == 0 {
+            return i;
+        }
+        i = next_line(text, i);
+    }
+    i
+}
