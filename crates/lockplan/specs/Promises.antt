@@ -1,19 +1,17 @@
 -- What each public call promises, of its answer and of the buffers that it was lent. 01, "Pairs, verdict, schedule" and "What a reader may rely on".
-use Prim.Native.Nat.{ℕ, _*_, _/_}
-use mathlib.Core.Bool.{Bool, true, false, _&&_}
-use mathlib.Core.List.{List, [], _∷_, _++_, List·Memᴰ}
+use Prim.Native.Nat.{ℕ, _+_, _-_, _/_}
+use mathlib.Core.Bool.{Bool, true, false}
+use mathlib.Core.List.{List, _++_, List·Memᴰ}
 use mathlib.Core.Logic.{_↔_}
 use mathlib.Core.Option.{Option, none, some}
 use mathlib.Core.Path.{_≡_}
 use lib.Dec.{ltb}
 use lib.ListN.{length, drop}
-use Rattle.laws.specs.Choice.{if}
 use Rattle.laws.specs.Ascending.{Ascends}
-use Rattle.text.specs.Lines.{textOf}
-use Rattle.semantics.specs.Plan.{bodyIn}
+use Rattle.text.specs.Lines.{formsOf}
 use Rattle.semantics.specs.Pairs.{Critical, pairList}
-use Rattle.plan.specs.Grammar.{procForms}
-use Rattle.plan.specs.Rules.{Refusal, planOf, planRefusal, pairsRefusal}
+use Rattle.plan.specs.Rules.{Refusal, planOf, planRefusal, pairsRefusal, procLineFrom}
+use Rattle.parts.specs.Parts.{Span, span, linesSpan, formsToClosing}
 use Rattle.buffers.specs.LittleEndian.{listBytes}
 use Rattle.lockplan.specs.declared.Listing.{Listing}
 use Rattle.lockplan.specs.Answers.{listingOf, listingNumber}
@@ -45,13 +43,19 @@ pub record ListedBytes (text : List ℕ) (p : ℕ) (before : List ℕ) (r : ℕ)
   pub buffer : after ≡ written (pairsRefusal text p (length before / 8)) (listBytes 8 (pairsOf text p)) before
   pub exact : pairsRefusal text p (length before / 8) ≡ none → Exact text p
 
--- where no rule about the plan refuses it, and the procedure is there
-abbrev pub partOf : Option Refusal → Bool → List ℕ → List ℕ
-partOf none true part = part
-partOf none false part = []
-partOf (some r) there part = []
+-- "from the `(proc` line to its closing line, line end included": the lines of procedure p, where the text has it. They are the lines of the procedure's forms (theorem
+-- `proc-written`)
+unfoldable pub procLines : List ℕ → ℕ → Span
+procLines text p =
+    let line = procLineFrom 1 p (formsOf text) in
+    linesSpan text (line - 1) (line + formsToClosing 0 (drop line (formsOf text)))
 
--- "The text call answers with the part of the caller's text from the `(proc` line to its closing line, line end included; with an empty part and no number if a rule
--- about the plan (here 2 to 10) refuses it or the procedure is absent."
-unfoldable pub procText : List ℕ → ℕ → List ℕ
-procText text p = partOf (planRefusal text) (ltb p (length (planOf text .procs))) (textOf (procForms (bodyIn (planOf text .procs) p ∷ []) []))
+-- "with an empty part and no number if a rule about the plan (here 2 to 10) refuses it or the procedure is absent"
+abbrev pub orEmpty : Option Refusal → Bool → Span → Span
+orEmpty none true part = part
+orEmpty none false part = span 0 0
+orEmpty (some r) there part = span 0 0
+
+-- "The text call answers with the part of the caller's text from the `(proc` line to its closing line, line end included": which part of the text
+unfoldable pub procText : List ℕ → ℕ → Span
+procText text p = orEmpty (planRefusal text) (ltb p (length (planOf text .procs))) (procLines text p)

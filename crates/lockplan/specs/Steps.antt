@@ -1,6 +1,6 @@
 -- What the steps of a call leave for the next one: the pairs of a procedure in a table of words.
 use Prim.Native.Nat.{ℕ, _-_, _+_, _<_}
-use mathlib.Core.List.{List, []}
+use mathlib.Core.List.{List}
 use mathlib.Core.Option.{Option, none}
 use mathlib.Core.Path.{_≡_}
 use lib.Dec.{ltb, leb}
@@ -10,7 +10,7 @@ use Rattle.semantics.specs.Pairs.{pairList}
 use Rattle.plan.specs.Table.{tableForms}
 use Rattle.plan.specs.Settled.{tablePlan}
 use Rattle.plan.specs.Rules.{Refusal, refusedIf, pairsRefusal, procLineFrom}
-use Rattle.parts.specs.Parts.{linesPart, formsBefore}
+use Rattle.parts.specs.Parts.{Span, span, linesSpan, formsBefore}
 use Rattle.plan.specs.declared.Reading.{Reading}
 use Rattle.plan.specs.declared.Reading.the-variants.{Accepted}
 use Rattle.plan.specs.declared.Reading.the-variants as plan
@@ -36,11 +36,11 @@ TablePairs ws p r list = WordsFound (refusedIf 11 (leb (length (tablePlan ws .pr
 abbrev pub PairsFound : List ℕ → ℕ → ℕ → Listing → List ℕ → Type 0
 PairsFound text p lent r list = WordsFound (pairsRefusal text p lent) (pairsOf text p) r list
 
--- the lines of a procedure of a table
-unfoldable pub tableText : List ℕ → List ℕ → ℕ → List ℕ
-tableText text ws p =
+-- the lines of a procedure of a table, in its text
+unfoldable pub tableLines : List ℕ → List ℕ → ℕ → Span
+tableLines text ws p =
     let line = procLineFrom 1 p (tableForms ws) in
-    if (ltb p (length (tablePlan ws .procs))) (linesPart text (line - 1) (line + formsBefore (tableForms (drop line ws)))) []
+    if (ltb p (length (tablePlan ws .procs))) (linesSpan text (line - 1) (line + formsBefore (tableForms (drop line ws)))) (span 0 0)
 
 -- a refusal of the plan, and a finding over its table, in the verdict's answer
 abbrev pub refusedVerdict : Reading → Verdict

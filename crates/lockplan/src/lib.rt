@@ -7,10 +7,11 @@ ghost use Rattle.plan.specs.Table.{tableForms};
 ghost use Rattle.plan.specs.Settled.{PlanTable};
 ghost use Rattle.plan.specs.Rules.{tooManyPairs};
 ghost use Prim.Native.Nat.{min, _^_};
+ghost use Rattle.parts.specs.Parts.{PartAt};
 ghost use Rattle.lockplan.specs.Answers.{listingNumber, handedOn, Carried, verdictNumber, highPart, scheduleLength};
 ghost use Rattle.lockplan.specs.Judgement.{JudgedIn, Judged, JudgedBytes};
 ghost use Rattle.lockplan.specs.Promises.{Listed, ListedBytes, procText};
-ghost use Rattle.lockplan.specs.Steps.{PairsFound, TablePairs, tableText, refusedVerdict, verdictOf};
+ghost use Rattle.lockplan.specs.Steps.{PairsFound, TablePairs, tableLines, refusedVerdict, verdictOf};
 use deadlock::Finding;
 use plan::Reading;
 
@@ -153,7 +154,7 @@ pub extern "C" fn lockplan_pairs(text: &[u8], proc: u64, out: &mut [u8]) -> u64
 // The lines of a procedure of a table, empty where it is not there.
 fn table_text<'a>(text: &'a [u8], table: &[u64], starts: &mut [u64], proc: usize) -> &'a [u8]
     requires { ⌜ PlanTable (now table) × (64 ≤ length (now starts)) ⌝ }
-    ensures { λ r. ⌜ now r ≡ tableText (now (text .entry)) (now (table .entry)) proc ⌝ }
+    ensures { λ r. ⌜ PartAt (text .entry) (tableLines (now (text .entry)) (now (table .entry)) proc) r ⌝ }
 {
     let procs = procs::find_procs(table, starts);
     if procs <= proc {
@@ -173,7 +174,7 @@ fn find_text<'a>(
     list: &mut [u64],
 ) -> &'a [u8]
     requires { ⌜ (16384 ≤ length (now table)) × (16384 ≤ length (now stack)) × (64 ≤ length (now starts)) × (64 ≤ length (now sizes)) × (64 ≤ length (now scratch)) × (129 ≤ length (now list)) ⌝ }
-    ensures { λ r. ⌜ now r ≡ procText (now (text .entry)) proc ⌝ }
+    ensures { λ r. ⌜ PartAt (text .entry) (procText (now (text .entry)) proc) r ⌝ }
 {
     let checked = checked::check_text(text, table, stack, starts, sizes, scratch, list);
     let Reading::Accepted(n) = checked else {
@@ -184,7 +185,7 @@ fn find_text<'a>(
 
 // The part of the text that a procedure is: empty where the plan is refused or the procedure is absent.
 pub fn proc_text(text: &[u8], proc: usize) -> &[u8]
-    ensures { λ r. ⌜ now r ≡ procText (now (text .entry)) proc ⌝ }
+    ensures { λ r. ⌜ PartAt (text .entry) (procText (now (text .entry)) proc) r ⌝ }
 {
     let mut table = [0u64; 16384];
     let mut stack = [0u8; 16384];

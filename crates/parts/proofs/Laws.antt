@@ -1,18 +1,19 @@
 -- The definitions of the crate in the shape of its functions' needs.
-use Prim.Native.Nat.{ℕ, suc, _+_, _-_, _<_, _≤_}
+use Prim.Native.Nat.{ℕ, zero, suc, _+_, _-_, _<_, _≤_}
 use native.Mathlib.Numerals.{add-one}
 use native.Mathlib.Omega.{arith}
-use mathlib.Core.Path.{_≡_, refl, sym, ap, _∙_}
+use mathlib.Core.Path.{_≡_, sym, ap, _∙_}
 use mathlib.Core.Bool.{Bool, true, false}
 use mathlib.Core.List.{List, [], _∷_, map}
 use lib.ListN.{length, take, drop, getD, drop-of-length-le}
 use lib.Seq.{drop-cons}
-use lib.Dec.{eqb}
+use lib.Dec.{eqb, eqb·suc-zero}
 use borrow.Author.Tests.{eq-eqb, ne-eqb}
+use denote.Ref.{RefT}
 use Rattle.laws.specs.Choice.{if}
 use Rattle.text.specs.declared.Form.{Form}
 use Rattle.plan.specs.Table.{formAt}
-use Rattle.parts.specs.Parts.{leftAfter, skipLines, beginsOther, formsBefore, linesPart}
+use Rattle.parts.specs.Parts.{leftAfter, skipLines, beginsOther, formsBefore, span, PartAt, linesSpan}
 
 pub other-case : (f k : Form) (r : Bool) → f ≡ k → r ≡ beginsOther k → r ≡ beginsOther f
 other-case f k r e h = h ∙ ap beginsOther (sym e)
@@ -59,15 +60,39 @@ pub end-none : (table : List ℕ) (i r : ℕ) → length table ≤ i → i + for
 unfolding formsBefore
 end-none table i r h p = let t = rw (drop-of-length-le table h) at p in omega arith
 
+-- more lines, no fewer bytes
+left-grows : (byte a b : ℕ) → a ≤ b → leftAfter byte a ≤ leftAfter byte b
+unfolding leftAfter
+left-grows byte a b h = go (eqb byte 10)
+  where
+    go : (t : Bool) → if t (a - 1) a ≤ if t (b - 1) b
+    go true = omega arith
+    go false = h
+
+pub skip-grows : (text : List ℕ) (a b : ℕ) → a ≤ b → skipLines a text ≤ skipLines b text
+unfolding skipLines
+skip-grows [] a b h = omega arith
+skip-grows (byte ∷ bytes) a zero h = let z : a ≡ 0 = omega arith in rw z (omega arith)
+skip-grows (byte ∷ bytes) a (suc b) h = rw (eqb·suc-zero b) (go (eqb a 0) (skip-grows bytes (leftAfter byte a) (leftAfter byte (suc b)) (left-grows byte a (suc b) h)))
+  where
+    go : (t : Bool) → skipLines (leftAfter byte a) bytes ≤ skipLines (leftAfter byte (suc b)) bytes
+        → if t 0 (suc (skipLines (leftAfter byte a) bytes)) ≤ suc (skipLines (leftAfter byte (suc b)) bytes)
+    go true k = omega arith
+    go false k = omega arith
+
 -- the part, by the two places that the code finds
-module _ (text : List ℕ) (a b e start end : ℕ) (p : start ≡ skipLines a text) (q : end ≡ skipLines e text) (g : e ≡ b) where
-  pub part-empty : (l : List ℕ) → l ≡ [] → end < start → l ≡ linesPart text a b
-  unfolding linesPart
-  part-empty l k h = let z : skipLines b text - skipLines a text ≡ 0 = omega (arith, ap (λ n. skipLines n text) g) in k ∙ rw z
+module _ (text : List ℕ) (line n e start end : ℕ) (p : start ≡ skipLines (line - 1) text) (q : end ≡ skipLines e text) (g : e ≡ line + n) where
+  pub part-ordered : start ≤ end
+  part-ordered = omega (arith, skip-grows text (line - 1) e (omega arith))
 
-  pub part-is : take (end - start) (drop start text) ≡ linesPart text a b
-  unfolding linesPart
-  part-is = rw (p, q, g)
+  pub part-within : end ≤ length text
+  part-within = omega (arith, skip-within text e)
 
-pub part-within : (text : List ℕ) (e end : ℕ) → end ≡ skipLines e text → end ≤ length text
-part-within text e end q = omega (arith, skip-within text e)
+  pub part-lines : span start (end - start) ≡ linesSpan text (line - 1) (line + n)
+  unfolding linesSpan
+  part-lines = rw (p, q, g)
+
+-- the part that is returned
+pub part-returned : (s r : RefT (List ℕ)) (line n e start end : ℕ) → start ≡ skipLines (line - 1) (s .now) → end ≡ skipLines e (s .now) → e ≡ line + n
+    → r .ptr ≡ (s .ptr .0, start + s .ptr .1) → r .now ≡ take (end - start) (drop start (s .now)) → PartAt s (linesSpan (s .now) (line - 1) (line + n)) r
+part-returned s r line n e start end p q g l b = rw (← part-lines (s .now) line n e start end p q g) (record { lies = l; bytes = b })

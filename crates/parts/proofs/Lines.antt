@@ -1,26 +1,23 @@
--- The part of a text that `proc_part` finds is the procedure's lines (`proc-part-text`). A text is its forms' lines, none of which has a byte 10 within, so lines can be
+-- The part of a text that `proc_part` finds is the procedure's lines (`proc-lines`). A text is its forms' lines, none of which has a byte 10 within, so lines can be
 -- counted in forms; and within a procedure stands no form that begins another thing.
 use Prim.Native.Nat.{ℕ, zero, suc, _+_, _-_, _<_, _≤_}
 use native.Mathlib.Numerals.{add-one}
 use native.Mathlib.Omega.{arith}
-use mathlib.Core.Path.{_≡_, refl, sym, ap, subst, _∙_}
-use mathlib.Core.Bool.{Bool, true, false}
+use mathlib.Core.Path.{_≡_, refl, sym, ap, _∙_}
 use mathlib.Core.List.{List, [], _∷_, _++_, append-assoc, List·Memᴰ, List·Memᴰ·head, List·Memᴰ·tail}
-use mathlib.Core.Option.{none}
 use lib.ListN.{length, take, drop, length-append, take-append-drop}
 use lib.Seq.{take-at, drop-at, take-add, drop-drop}
-use lib.Dec.{eqb, eqb·suc-zero}
+use lib.Dec.{eqb·suc-zero}
 use borrow.Author.Tests.{ne-eqb}
-use Rattle.laws.specs.Choice.{if}
 use Rattle.text.specs.declared.Form.{Form}
-use Rattle.text.specs.declared.Form.the-variants.{Plan, Proc, Thread, Close, Skip, Call, Hold, Loop, Either, One, Two}
+use Rattle.text.specs.declared.Form.the-variants.{Plan, Proc, Close, Skip, Call, Hold, Loop, Either, One, Two}
 use Rattle.text.specs.Forms.{write}
-use Rattle.text.specs.Lines.{textOf, formsOf, unreadableLine}
+use Rattle.text.specs.Lines.{textOf}
 use Rattle.text.proofs.Written.{write-unbroken}
 use Rattle.semantics.specs.Plan.{Block, done, skip, call, hold, loop, either, end, LockPlan, bodyIn}
 use Rattle.plan.specs.Grammar.{blockForms, procForms, threadForms, forms}
 use Rattle.plan.specs.Rules.{procLineFrom}
-use Rattle.parts.specs.Parts.{leftAfter, skipLines, linesPart, beginsOther, formsBefore}
+use Rattle.parts.specs.Parts.{leftAfter, skipLines, bytesIn, linesSpan, beginsOther, formsBefore, formsToClosing}
 
 -- ---- lines counted in forms
 
@@ -52,8 +49,8 @@ unfolding textOf
 text-append [] ys = refl
 text-append (x ∷ xs) ys = ap (λ l. write x ++ 10 ∷ l) (text-append xs ys) ∙ sym (append-assoc (write x) (10 ∷ textOf xs) (textOf ys))
 
-lines-forms : (fs : List Form) (a n : ℕ) → linesPart (textOf fs) a (a + n) ≡ textOf (take n (drop a fs))
-unfolding linesPart
+lines-forms : (fs : List Form) (a n : ℕ) → bytesIn (textOf fs) (linesSpan (textOf fs) a (a + n)) ≡ textOf (take n (drop a fs))
+unfolding linesSpan
 lines-forms fs a n =
     let x = textOf (take a fs) in
     let y = textOf (take n (drop a fs)) in
@@ -176,12 +173,42 @@ closing : (later : List Form) → formsBefore later ≡ 0 → take (formsBefore 
 unfolding formsBefore beginsOther
 closing later z = rw z
 
--- the lines from a procedure's first line to its last
-pub proc-part-forms : (plan : LockPlan) (p : ℕ) → p < length (plan .procs) → 0 < length (plan .threads)
-    → (line : ℕ) → line ≡ procLineFrom 1 p (forms plan)
-    → (1 ≤ line) × (linesPart (textOf (forms plan)) (line - 1) (line + formsBefore (drop line (forms plan))) ≡ textOf (procForms (bodyIn (plan .procs) p ∷ []) []))
+-- a procedure's closing line, with no bracket open
+closed : (later : List Form) → formsBefore later ≡ 0 → formsBefore (Close ∷ later) ≡ formsToClosing 0 (Close ∷ later)
+unfolding formsBefore beginsOther formsToClosing
+closed later z = rw z
+
+-- the end of a bracket within the procedure
+closes : (depth : ℕ) (fs : List Form) → formsBefore fs ≡ formsToClosing depth fs → formsBefore (Close ∷ fs) ≡ formsToClosing (suc depth) (Close ∷ fs)
+unfolding formsBefore beginsOther formsToClosing
+closes depth fs h = let e : suc depth - 1 ≡ depth = omega arith in rw (eqb·suc-zero depth, e) (ap suc h)
+
+-- the closing line is the last before the next form that begins another thing
+closing-block : (b : Block) (depth : ℕ) (fs : List Form) → formsBefore fs ≡ formsToClosing depth fs → formsBefore (blockForms b fs) ≡ formsToClosing depth (blockForms b fs)
+unfolding blockForms formsBefore beginsOther formsToClosing
+closing-block done depth fs h = h
+closing-block (skip r) depth fs h = ap suc (closing-block r depth fs h)
+closing-block (call n r) depth fs h = ap suc (closing-block r depth fs h)
+closing-block (hold l b r) depth fs h = ap suc (closing-block b (suc depth) (Close ∷ blockForms r fs) (closes depth (blockForms r fs) (closing-block r depth fs h)))
+closing-block (loop b r) depth fs h = ap suc (closing-block b (suc depth) (Close ∷ blockForms r fs) (closes depth (blockForms r fs) (closing-block r depth fs h)))
+closing-block (either a b r) depth fs h =
+    let gs = blockForms r fs in
+    let after-b = closes (suc depth) (Close ∷ gs) (closes depth gs (closing-block r depth fs h)) in
+    let from-b = closing-block b (suc (suc depth)) (Close ∷ Close ∷ gs) after-b in
+    let after-a = closes (suc depth) (Two ∷ blockForms b (Close ∷ Close ∷ gs)) (ap suc from-b) in
+    ap (λ n. suc (suc n)) (closing-block a (suc (suc depth)) (Close ∷ Two ∷ blockForms b (Close ∷ Close ∷ gs)) after-a)
+closing-block (end l r) depth fs h = closing-block r depth fs h
+
+-- the lines from a procedure's first line, whose number is `line`, to its last
+pub record ProcLines (plan : LockPlan) (p line : ℕ) : Type 0 where
+  pub first : 1 ≤ line
+  pub closing : formsBefore (drop line (forms plan)) ≡ formsToClosing 0 (drop line (forms plan))
+  pub written : bytesIn (textOf (forms plan)) (linesSpan (textOf (forms plan)) (line - 1) (line + formsToClosing 0 (drop line (forms plan))))
+      ≡ textOf (procForms (bodyIn (plan .procs) p ∷ []) [])
+
+pub proc-lines : (plan : LockPlan) (p : ℕ) → p < length (plan .procs) → 0 < length (plan .threads) → (line : ℕ) → line ≡ procLineFrom 1 p (forms plan) → ProcLines plan p line
 unfolding forms procLineFrom procForms
-proc-part-forms plan p h t line e =
+proc-lines plan p h t line e =
     let gs = threadForms (plan .threads) (Close ∷ []) in
     let fs = procForms (plan .procs) gs in
     let r = proc-at (plan .procs) gs p 2 h (begins-threads (plan .threads) (Close ∷ []) t) in
@@ -190,9 +217,11 @@ proc-part-forms plan p h t line e =
     let inside : drop line (Plan ∷ fs) ≡ blockForms b (Close ∷ r .later) =
     rw at (ap (λ n. drop n fs) (sym (add-one (r .place))) ∙ sym (drop-drop 1 (r .place) fs) ∙ ap (drop 1) (r .there)) in
     let n = formsBefore (blockForms b (Close ∷ r .later)) in
+    let same : n ≡ formsToClosing 0 (blockForms b (Close ∷ r .later)) = closing-block b 0 (Close ∷ r .later) (closed (r .later) (r .ends)) in
     let back : line - 1 ≡ suc (r .place) = omega arith in
-    let to : line + n ≡ suc (r .place) + suc n = omega arith in (
-      omega arith,
-      rw (inside, back, to) (lines-forms (Plan ∷ fs) (suc (r .place)) (suc n)
-          ∙ ap (λ l. textOf (take (suc n) l)) (r .there) ∙ ap (λ l. textOf (Proc ∷ l)) (before-block b (Close ∷ r .later) ∙ ap (blockForms b) (closing (r .later) (r .ends)))),
-    )
+    let to : line + n ≡ suc (r .place) + suc n = omega arith in record {
+      first = omega arith;
+      closing = rw inside same;
+      written = rw (inside, ← same, back, to) (lines-forms (Plan ∷ fs) (suc (r .place)) (suc n)
+          ∙ ap (λ l. textOf (take (suc n) l)) (r .there) ∙ ap (λ l. textOf (Proc ∷ l)) (before-block b (Close ∷ r .later) ∙ ap (blockForms b) (closing (r .later) (r .ends))));
+    }

@@ -1,9 +1,11 @@
 -- Parts of a text by the numbers of its lines.
-use Prim.Native.Nat.{ℕ, suc, _-_}
+use Prim.Native.Nat.{ℕ, suc, _+_, _-_}
 use mathlib.Core.Bool.{Bool, true, false}
 use mathlib.Core.List.{List, [], _∷_}
+use mathlib.Core.Path.{_≡_}
 use lib.Dec.{eqb}
 use lib.ListN.{take, drop}
+use denote.Ref.{RefT}
 use Rattle.laws.specs.Choice.{if}
 use Rattle.text.specs.declared.Form.{Form}
 use Rattle.text.specs.declared.Form.the-variants.{Plan, Proc, Thread, Close, Skip, Call, Hold, Loop, Either, One, Two}
@@ -17,9 +19,44 @@ unfoldable pub skipLines : ℕ → List ℕ → ℕ
 skipLines lines [] = 0
 skipLines lines (b ∷ bs) = if (eqb lines 0) 0 (suc (skipLines (leftAfter b lines) bs))
 
+-- a part of a text: the place at which it begins, and how many bytes it has
+pub record Span : Type 0 where
+  pub start : ℕ
+  pub count : ℕ
+
+abbrev pub span : ℕ → ℕ → Span
+span s n = record { start = s; count = n }
+
+-- its bytes
+abbrev pub bytesIn : List ℕ → Span → List ℕ
+bytesIn text part = take (part .count) (drop (part .start) text)
+
+-- "the part of the caller's text": r lies in s, from that place on, and has those bytes. Where a reference lies is a block of memory and an offset in it (`ptr`)
+pub record PartAt (s : RefT (List ℕ)) (part : Span) (r : RefT (List ℕ)) : Type 0 where
+  pub lies : r .ptr ≡ (s .ptr .0, part .start + s .ptr .1)
+  pub bytes : r .now ≡ bytesIn (s .now) part
+
 -- the lines from a (counted from 0) up to b
-unfoldable pub linesPart : List ℕ → ℕ → ℕ → List ℕ
-linesPart text a b = take (skipLines b text - skipLines a text) (drop (skipLines a text) text)
+unfoldable pub linesSpan : List ℕ → ℕ → ℕ → Span
+linesSpan text a b = span (skipLines a text) (skipLines b text - skipLines a text)
+
+-- how many of the forms within a procedure stand up to its closing line, that line too: up to the `)` that meets no open bracket of a hold, a loop, an either, a one or
+-- a two, of which `depth` are open before
+unfoldable pub formsToClosing : ℕ → List Form → ℕ
+formsToClosing depth [] = 0
+formsToClosing depth (f ∷ fs) = elim f [
+  | Plan ↦ suc (formsToClosing depth fs)
+  | Proc ↦ suc (formsToClosing depth fs)
+  | Thread n ↦ suc (formsToClosing depth fs)
+  | Close ↦ if (eqb depth 0) 1 (suc (formsToClosing (depth - 1) fs))
+  | Skip ↦ suc (formsToClosing depth fs)
+  | Call n ↦ suc (formsToClosing depth fs)
+  | Hold l ↦ suc (formsToClosing (suc depth) fs)
+  | Loop ↦ suc (formsToClosing (suc depth) fs)
+  | Either ↦ suc (formsToClosing (suc depth) fs)
+  | One ↦ suc (formsToClosing (suc depth) fs)
+  | Two ↦ suc (formsToClosing (suc depth) fs)
+]
 
 -- forms that do not stand within a procedure
 unfoldable pub beginsOther : Form → Bool

@@ -3,7 +3,7 @@ ghost use mathlib.Core.Path.{_≡_};
 ghost use Prim.Native.Nat.{_+_, _-_, _≤_};
 ghost use lib.ListN.{length, drop};
 ghost use Rattle.plan.specs.Table.{tableForms};
-ghost use Rattle.parts.specs.Parts.{leftAfter, skipLines, beginsOther, formsBefore, linesPart};
+ghost use Rattle.parts.specs.Parts.{leftAfter, skipLines, beginsOther, formsBefore, PartAt, linesSpan};
 use text::Form;
 
 // The lines still to be passed after a byte.
@@ -72,12 +72,9 @@ fn proc_end(table: &[u64], at: usize) -> usize
 // The lines of a text from a procedure's `(proc` line, whose number is `line`, to its last, by the table of the text's forms.
 pub fn proc_part<'a>(text: &'a [u8], table: &[u64], line: usize) -> &'a [u8]
     requires { ⌜ (1 ≤ line) × (line ≤ length (now table)) ⌝ }
-    ensures { λ r. ⌜ now r ≡ linesPart (now (text .entry)) (line - 1) (line + formsBefore (tableForms (drop line (now (table .entry))))) ⌝ }
+    ensures { λ r. ⌜ PartAt (text .entry) (linesSpan (now (text .entry)) (line - 1) (line + formsBefore (tableForms (drop line (now (table .entry)))))) r ⌝ }
 {
     let start = line_start(text, line - 1);
     let end = line_start(text, proc_end(table, line));
-    if end < start {
-        return &text[0..0];
-    }
     &text[start..end]
 }

@@ -1,5 +1,5 @@
 use Rattle.checked.proofs.Checked.{plan-room, plan-table}
-use Rattle.lockplan.proofs.ProcText.{text-empty, text-part}
+use Rattle.lockplan.proofs.ProcText.{part-empty, lines-refused, text-part}
 use borrow.Author.Needs.{needs}
 use Rattle.lockplan.proofs.find_text.Statement.{statement}
 use Rattle.lockplan.proofs.find_text.Tie as tie
@@ -41,7 +41,7 @@ same-length-6 : tie.Need-same-length-6
 same-length-6 c = search needs
 
 returns : tie.Need-returns
-returns c = search (text-empty, needs)
+returns c = search (part-empty, lines-refused, needs)
 
 sub-table-text : tie.Need-sub-table-text
 sub-table-text c = search needs

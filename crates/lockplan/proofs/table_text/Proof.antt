@@ -1,4 +1,4 @@
-use Rattle.lockplan.proofs.ProcText.{table-absent, start-first, start-within, start-room, table-there}
+use Rattle.lockplan.proofs.ProcText.{part-empty, table-absent, start-first, start-within, table-there}
 use borrow.Author.Needs.{needs}
 use Rattle.lockplan.proofs.table_text.Statement.{statement}
 use Rattle.lockplan.proofs.table_text.Tie as tie
@@ -19,7 +19,7 @@ same-length : tie.Need-same-length
 same-length c = search needs
 
 returns : tie.Need-returns
-returns c = search (table-absent, needs)
+returns c = search (part-empty, table-absent, needs)
 
 mul-proc-part : tie.Need-mul-proc-part
 mul-proc-part c = search needs

@@ -1,4 +1,4 @@
-use Rattle.parts.proofs.Laws.{part-empty, part-is, part-within}
+use Rattle.parts.proofs.Laws.{part-ordered, part-within, part-returned}
 use borrow.Author.Needs.{needs}
 use Rattle.parts.proofs.proc_part.Statement.{statement}
 use Rattle.parts.proofs.proc_part.Tie as tie
@@ -16,38 +16,17 @@ line-start-requires-2 : tie.Need-line-start-requires-2
 line-start-requires-2 c κs = search needs
 
 sub-result : tie.Need-sub-result
-sub-result c = search needs
+sub-result c = search (part-ordered, needs)
 
 part-result-start : tie.Need-part-result-start
-part-result-start c = search needs
+part-result-start c = search (part-ordered, needs)
 
 part-result-end : tie.Need-part-result-end
-part-result-end c = search needs
+part-result-end c = search (part-within, needs)
 
 returns : tie.Need-returns
-returns c = search (part-empty, needs)
-
-part-result-start-2 : tie.Need-part-result-start-2
-part-result-start-2 c = search needs
-
-part-result-end-2 : tie.Need-part-result-end-2
-part-result-end-2 c = search (part-within, needs)
-
-returns-2 : tie.Need-returns-2
-returns-2 c = search (part-is, needs)
+returns c = search (part-returned, needs)
 
 pub proc-part-spec : {M : Type 1} → statement M
 proc-part-spec =
-    tie.close
-    (tie.spec
-    sub-line-start
-    line-start-requires
-    proc-end-requires
-    line-start-requires-2
-    sub-result
-    part-result-start
-    part-result-end
-    returns
-    part-result-start-2
-    part-result-end-2
-    returns-2)
+    tie.close (tie.spec sub-line-start line-start-requires proc-end-requires line-start-requires-2 sub-result part-result-start part-result-end returns)
