@@ -1,24 +1,23 @@
 -- The pairs of a procedure, found in a table of words and handed to the caller's buffer.
-use Prim.Native.Nat.{ℕ, _+_, _-_, _*_, _/_, _^_, _<_, _≤_, min}
+use Prim.Native.Nat.{ℕ, _+_, _-_, _*_, _/_, _^_, _<_, _≤_}
 use native.Mathlib.Omega.{arith}
 use mathlib.Core.Bool.{Bool, true, false}
 use mathlib.Core.Path.{_≡_, refl, sym, ap, _∙_}
-use mathlib.Core.List.{List, [], _∷_, _++_}
+use mathlib.Core.List.{List, _++_}
 use mathlib.Core.Option.{Option, none, some, Option·none-ne-some}
-use lib.ListN.{length, take, drop, length-take}
-use lib.Seq.{take-at, length-take-le}
+use lib.ListN.{length, take, drop}
+use lib.Seq.{take-at}
 use lib.Dec.{ltb, leb}
 use borrow.Author.Tests.{lt-ltb, le-ltb, le-leb, lt-leb, leb-false, ltb-false}
-use Rattle.laws.specs.Choice.{if, orElse}
+use Rattle.laws.specs.Choice.{orElse}
 use Rattle.text.specs.Lines.{formsOf}
-use Rattle.semantics.specs.Plan.{LockPlan}
 use Rattle.semantics.specs.Pairs.{pairList}
 use Rattle.semantics.proofs.PairList.{pair-list-critical, pair-list-ascends}
 use Rattle.plan.specs.declared.Reading.{Reading}
 use Rattle.plan.specs.declared.Reading.the-variants.{Accepted}
 use Rattle.plan.specs.declared.Reading.the-variants as plan
 use Rattle.plan.specs.Table.{tableForms}
-use Rattle.plan.specs.Settled.{PlanTable, tablePlan}
+use Rattle.plan.specs.Settled.{tablePlan}
 use Rattle.plan.specs.Rules.{Refusal, refusedIf, planOf, readerRefusal, planRefusal, pairsRefusal, tooManyPairs, readingOf, Tabled}
 use Rattle.buffers.specs.LittleEndian.{listBytes}
 use Rattle.buffers.proofs.Filled.{list-length}
@@ -26,9 +25,9 @@ use Rattle.pairs.specs.Promises.{PairWords}
 use Rattle.pairs.proofs.Lists.{few-pairs}
 use Rattle.lockplan.specs.declared.Listing.{Listing}
 use Rattle.lockplan.specs.declared.Listing.the-variants.{Pairs, Refused}
-use Rattle.lockplan.specs.Answers.{listingOf, listingNumber, handedOn, Below, Carried}
+use Rattle.lockplan.specs.Answers.{listingOf, listingNumber}
 use Rattle.lockplan.specs.Promises.{pairsOf, written, Exact, Listed, ListedBytes}
-use Rattle.lockplan.specs.Steps.{WordsFound, TablePairs, PairsFound}
+use Rattle.lockplan.specs.Steps.{TablePairs, PairsFound, handedOn, Below, Carried}
 use Rattle.plan.proofs.Kept.{first-none}
 use Rattle.plan.proofs.Sound.{accepted-settled}
 use Rattle.lockplan.proofs.LineBounds.{Numbers, pairs-bounded}

@@ -8,7 +8,6 @@ use mathlib.Core.Option.{Option, none, some, Option·none-ne-some}
 use lib.ListN.{length, take, drop, length-take}
 use lib.Seq.{length-take-le}
 use borrow.Author.Tests.{lt-ltb, le-ltb}
-use Rattle.laws.specs.Choice.{orElse}
 use Rattle.laws.specs.Mask.{inMask}
 use Rattle.laws.proofs.Tests.{lt-or-le}
 use Rattle.text.specs.Lines.{formsOf}
@@ -18,19 +17,18 @@ use Rattle.plan.specs.declared.Reading.the-variants.{Accepted}
 use Rattle.plan.specs.declared.Reading.the-variants as plan
 use Rattle.plan.specs.Grammar.{planIn}
 use Rattle.plan.specs.Table.{tableForms}
-use Rattle.plan.specs.Settled.{tablePlan}
-use Rattle.plan.specs.Rules.{Refusal, refusal, refusedIf, planOf, planRefusal, verdictRefusal, readingOf, Tabled}
+use Rattle.plan.specs.Rules.{Refusal, refusal, planOf, planRefusal, verdictRefusal, readingOf, Tabled}
 use Rattle.buffers.specs.LittleEndian.{listBytes}
 use Rattle.deadlock.specs.declared.Finding.{Finding}
 use Rattle.deadlock.specs.declared.Finding.the-variants.{Never, Reached}
 use Rattle.deadlock.specs.Findings.{Within, Found}
 use Rattle.lockplan.specs.declared.Verdict.{Verdict}
 use Rattle.lockplan.specs.declared.Verdict.the-variants.{Free, Deadlock, Refused}
-use Rattle.lockplan.specs.Answers.{verdictNumber, highPart, scheduleLength}
-use Rattle.lockplan.specs.Steps.{refusedVerdict, verdictOf}
+use Rattle.lockplan.specs.Answers.{verdictNumber}
+use Rattle.lockplan.specs.Steps.{refusedVerdict, verdictOf, highPart, scheduleLength}
 use Rattle.lockplan.specs.Judgement.{JudgedIn, JudgedBytesAs, JudgedBytes}
 use Rattle.checked.proofs.Checked.{plan-kept, plan-forms, plan-table, plan-few, plan-sizes}
-use Rattle.lockplan.proofs.LineBounds.{Numbers, verdict-bounded}
+use Rattle.lockplan.proofs.LineBounds.{verdict-bounded}
 
 -- ---- entries
 

@@ -1,5 +1,8 @@
--- The numbers of a refusal; the pairs found and handed to the caller; the text of a procedure; the verdict.
+-- The numbers of a refusal, and that an answer can be read back from its number; the pairs found and handed to the caller; the text of a procedure; the verdict, and that
+-- it is exact.
 pub mod LineBounds
+pub mod ReadBack
 pub mod Found
 pub mod ProcText
 pub mod Judging
+pub mod Demands

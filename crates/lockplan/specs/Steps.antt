@@ -1,5 +1,6 @@
--- What the steps of a call leave for the next one: the pairs of a procedure in a table of words.
-use Prim.Native.Nat.{ℕ, _-_, _+_, _<_}
+-- What the steps of a call leave for the next one: the pairs of a procedure in a table of words, its lines, a refusal or a finding handed on, and the room that the
+-- 64-bit answer has.
+use Prim.Native.Nat.{ℕ, _-_, _+_, _^_, _<_}
 use mathlib.Core.List.{List}
 use mathlib.Core.Option.{Option, none}
 use mathlib.Core.Path.{_≡_}
@@ -19,6 +20,8 @@ use Rattle.deadlock.specs.declared.Finding.the-variants.{Never, Reached}
 use Rattle.lockplan.specs.declared.Verdict.{Verdict}
 use Rattle.lockplan.specs.declared.Verdict.the-variants.{Free, Deadlock, Refused}
 use Rattle.lockplan.specs.declared.Listing.{Listing}
+use Rattle.lockplan.specs.declared.Listing.the-variants.{Pairs}
+use Rattle.lockplan.specs.declared.Listing.the-variants as listing
 use Rattle.lockplan.specs.Answers.{listingOf}
 use Rattle.lockplan.specs.Promises.{pairsOf}
 
@@ -50,3 +53,29 @@ refusedVerdict (plan.Refused r l) = Refused r l
 abbrev pub verdictOf : Finding → Verdict
 verdictOf Never = Free
 verdictOf (Reached n S) = Deadlock n S
+
+-- numbers that the 64-bit answer has room for
+pub record Below (a b : ℕ) : Type 0 where
+  pub low : a < 256
+  pub high : b < 2 ^ 40
+
+unfoldable pub Carried : Listing → Type 0
+Carried (Pairs n) = Below 0 n
+Carried (listing.Refused r l) = Below r l
+
+-- a refusal of the plan, in the pair list's answer
+abbrev pub handedOn : Reading → Listing
+handedOn (Accepted n) = Pairs 0
+handedOn (plan.Refused r l) = listing.Refused r l
+
+-- the part b of the answer, which has to be below 2 to the power 40
+unfoldable pub highPart : Verdict → ℕ
+highPart Free = 0
+highPart (Deadlock n S) = n
+highPart (Refused r l) = l
+
+-- how many entries a verdict's schedule has
+unfoldable pub scheduleLength : Verdict → ℕ
+scheduleLength Free = 0
+scheduleLength (Deadlock n S) = n
+scheduleLength (Refused r l) = 0

@@ -1,17 +1,17 @@
-// The library's calls: the pair list of a procedure, a procedure's text, and the pair list for C.
+// The library's calls: the verdict on a plan, the pair list of a procedure, a procedure's text, and the verdict and the pair list for C.
 ghost use mathlib.Core.Path.{_≡_};
 ghost use mathlib.Core.Option.{none};
-ghost use Prim.Native.Nat.{_/_, _<_, _≤_};
+ghost use Prim.Native.Nat.{_/_, _^_, _<_, _≤_, min};
 ghost use lib.ListN.{length};
 ghost use Rattle.plan.specs.Table.{tableForms};
 ghost use Rattle.plan.specs.Settled.{PlanTable};
 ghost use Rattle.plan.specs.Rules.{tooManyPairs};
-ghost use Prim.Native.Nat.{min, _^_};
 ghost use Rattle.parts.specs.Parts.{PartAt};
-ghost use Rattle.lockplan.specs.Answers.{listingNumber, handedOn, Carried, verdictNumber, highPart, scheduleLength};
+ghost use Rattle.lockplan.specs.Answers.{listingNumber, verdictNumber};
 ghost use Rattle.lockplan.specs.Judgement.{JudgedIn, Judged, JudgedBytes};
 ghost use Rattle.lockplan.specs.Promises.{Listed, ListedBytes, procText};
-ghost use Rattle.lockplan.specs.Steps.{PairsFound, TablePairs, tableLines, refusedVerdict, verdictOf};
+ghost use Rattle.lockplan.specs.Steps.{PairsFound, TablePairs, tableLines, handedOn, Carried};
+ghost use Rattle.lockplan.specs.Steps.{refusedVerdict, verdictOf, highPart, scheduleLength};
 use deadlock::Finding;
 use plan::Reading;
 
@@ -21,7 +21,7 @@ pub enum Listing {
     Refused { rule: u8, line: usize },
 }
 
-// The verdict on a plan: no run of its gateway reaches a stuck set; a schedule of so many entries leads to one, the largest there; or the refusal.
+// The verdict on a plan: no run of its gateway reaches a stuck set; a schedule of so many entries leads to one, the largest there (bit t for thread t); or the refusal.
 pub enum Verdict {
     Free,
     Deadlock { entries: usize, stuck: u8 },

@@ -1,4 +1,4 @@
-use Rattle.lockplan.specs.Answers.{scheduleLength}
+use Rattle.lockplan.specs.Steps.{scheduleLength}
 use Rattle.lockplan.proofs.Judging.{length-case}
 use borrow.Author.Needs.{needs}
 use Rattle.lockplan.proofs.schedule_length.Statement.{statement}
