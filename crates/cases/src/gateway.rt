@@ -8,16 +8,19 @@ use super::lines::number;
 ghost use Prim.Native.Nat.{_≤_, _<_};
 ghost use lib.ListN.{length};
 
-// The state has a part for each of six threads: its depth, its count of each lock, and a place for each depth. The last place is where its remainder starts, those before it
-// are of the holds, loops, eithers and calls that it is in, fewer than its size; the first is the plan's.
+// The state is a table with a part for each of six threads. A part has the thread's depth,
 const DEPTH: usize = 0;
 
+// its count of each lock,
 const COUNTS: usize = 1;
 
+// and a place for each depth. The last is where its remainder starts, those before it are of the holds, loops, eithers and calls that it is in, and the first is the plan's.
 const LINES: usize = 33;
 
+// A thread is in at most as many of them as its size says, which is at most 1,024.
 const LEVELS: usize = 1100;
 
+// The length of a part.
 const WIDTH: usize = 1152;
 
 // The depth of a thread, which is always below the limit.
