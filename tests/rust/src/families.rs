@@ -1,6 +1,12 @@
 //! Plans as trees, and families of plans with a known verdict.
 
+use std::collections::{BTreeMap, BTreeSet};
+use std::ops::Range;
 use std::path::Path;
+
+use crate::generate::statements;
+use crate::random::Random;
+use crate::reference::{MAX_PAIRS, MAX_STATEMENTS};
 
 /// A statement to be printed; the numbers may break the rules.
 #[derive(Clone, Debug, PartialEq, Eq)]
@@ -165,62 +171,133 @@ pub fn many_pairs(deadlock: bool) -> Draft {
 /// thread t holds a lock of group t and wants one of group t + 1, each inside
 /// one of the extra locks, which is taken first. A guard lock around two of
 /// the threads, or too few extra locks for all, keeps the plan free.
-pub fn ring(threads: usize, group: usize, extra: usize, guarded: &[usize]) -> Draft {
-    let first_extra = threads * group;
-    let guard = first_extra + extra;
-    assert!(guard + usize::from(!guarded.is_empty()) <= 32);
-    let lock = |thread: usize, k: usize| thread % threads * group + k;
-    let mut procs = Vec::new();
-    for thread in 0..threads {
-        let inner: Vec<Tree> = (0..group)
-            .map(|k| {
-                let wants = (0..group).map(|w| hold(lock(thread + 1, w), vec![])).collect();
-                hold(lock(thread, k), wants)
-            })
-            .collect();
-        procs.push(inner);
-    }
-    for thread in 0..threads {
-        let mut body: Vec<Tree> = (0..extra).map(|e| hold(first_extra + e, vec![Call(thread)])).collect();
-        if extra == 0 {
-            body = vec![Call(thread)];
-        }
-        if guarded.contains(&thread) {
-            body = vec![hold(guard, body)];
-        }
-        procs.push(body);
-    }
-    Draft { procs, threads: (threads..2 * threads).collect() }
+#[derive(Clone, Copy)]
+pub struct Ring<'a> {
+    pub threads: usize,
+    /// Locks of each group.
+    pub group: usize,
+    pub extra: usize,
+    /// The threads inside the guard lock.
+    pub guarded: &'a [usize],
+    /// The guard has the lowest number of all locks, or the highest.
+    pub guard_lowest: bool,
 }
 
-/// Six threads, each of which takes any of the lists of extra locks before it
-/// wants its neighbour's lock. The lists have three of seventeen locks each, so
-/// no six are disjoint: free.
-pub fn crowded_ring() -> Draft {
-    let mut procs = Vec::new();
-    for thread in 0..6 {
-        procs.push(vec![nest(&[17 + thread, 17 + (thread + 1) % 6], vec![])]);
+impl Ring<'_> {
+    pub fn draft(self) -> Draft {
+        let mut procs: Vec<Vec<Tree>> = (0..self.threads).map(|thread| self.inner(thread)).collect();
+        procs.extend((0..self.threads).map(|thread| self.outer(thread)));
+        Draft { procs, threads: (self.threads..2 * self.threads).collect() }
     }
-    for thread in 0..6_usize {
-        let body = (0..24_usize)
-            .map(|k| {
-                let a = (5 * k + thread) % 17;
-                let b = (a + 1 + k % 7) % 17;
-                let c = (b + 1 + (k / 3 + thread) % 5) % 17;
-                let mut locks = vec![a, b, c];
-                locks.sort_unstable();
-                locks.dedup();
-                while locks.len() < 3 {
-                    locks.push((locks[locks.len() - 1] + 1) % 17);
-                    locks.sort_unstable();
-                    locks.dedup();
-                }
-                nest(&locks, vec![Call(thread)])
-            })
-            .collect();
-        procs.push(body);
+
+    fn lock(&self, thread: usize, k: usize) -> usize {
+        usize::from(self.guard_lowest) + thread % self.threads * self.group + k
     }
-    Draft { procs, threads: (6..12).collect() }
+
+    /// Each lock of a thread's group around each lock of the next group.
+    fn inner(&self, thread: usize) -> Vec<Tree> {
+        let wants = || (0..self.group).map(|w| hold(self.lock(thread + 1, w), vec![])).collect();
+        (0..self.group).map(|k| hold(self.lock(thread, k), wants())).collect()
+    }
+
+    /// Each extra lock around a call of that, and the guard around all.
+    fn outer(&self, thread: usize) -> Vec<Tree> {
+        let first = self.lock(0, self.threads * self.group);
+        let body = match self.extra {
+            0 => vec![Call(thread)],
+            extra => (0..extra).map(|e| hold(first + e, vec![Call(thread)])).collect(),
+        };
+        let guard = if self.guard_lowest { 0 } else { first + self.extra };
+        if self.guarded.contains(&thread) {
+            assert!(guard < 32);
+            return vec![hold(guard, body)];
+        }
+        body
+    }
+}
+
+/// Chains of locks, each taken one inside the other, as a block: chains with a
+/// common beginning share its holds.
+fn nested(chains: &BTreeSet<Vec<usize>>) -> Vec<Tree> {
+    let firsts: BTreeSet<usize> = chains.iter().filter_map(|chain| chain.first().copied()).collect();
+    let rests = |first: usize| chains.iter().filter_map(move |chain| chain.strip_prefix(&[first]));
+    firsts
+        .into_iter()
+        .map(|first| hold(first, nested(&rests(first).map(<[usize]>::to_vec).collect())))
+        .collect()
+}
+
+/// How many pairs a thread of these chains has.
+fn pairs_of(chains: &BTreeSet<Vec<usize>>) -> usize {
+    let mask = |locks: &[usize]| locks.iter().fold(0_u32, |mask, lock| mask | 1 << lock);
+    let pairs = chains.iter().flat_map(|chain| (0..chain.len()).map(|at| (mask(&chain[..at]), chain[at])));
+    pairs.collect::<BTreeSet<_>>().len()
+}
+
+/// A block of chains, as many as a sixth of a plan has room for.
+fn full_of(mut chain: impl FnMut() -> Vec<usize>) -> Vec<Tree> {
+    let (mut chains, mut block) = (BTreeSet::new(), Vec::new());
+    loop {
+        chains.insert(chain());
+        let next = nested(&chains);
+        if pairs_of(&chains) > MAX_PAIRS || statements(&next) > MAX_STATEMENTS / 6 {
+            return block;
+        }
+        block = next;
+    }
+}
+
+/// So many of the locks of a range, ascending.
+fn some_of(range: Range<usize>, count: usize, random: &mut Random) -> Vec<usize> {
+    let mut all: Vec<usize> = range.collect();
+    random.shuffle(&mut all);
+    all.truncate(count);
+    all.sort_unstable();
+    all
+}
+
+/// Six threads in a ring, each of which takes one of its lists of locks below
+/// 26, then its own ring lock and inside it its neighbour's. A circle needs all
+/// six with lists that share no lock: where there are none, the plan is free.
+/// Each thread has as many lists as it has room for.
+pub fn ring_of_lists(mut list: impl FnMut(usize) -> Vec<usize>) -> Draft {
+    let mut block =
+        |thread: usize| full_of(|| [list(thread), vec![26 + thread, 26 + (thread + 1) % 6]].concat());
+    Draft::each((0..6).map(&mut block).collect())
+}
+
+/// Lists of `length` of so many locks, the same in each thread or its own. With
+/// fewer than 6 × length locks no six are disjoint.
+pub fn crowded_ring(length: usize, locks: usize, same: bool) -> Draft {
+    assert!(locks < 6 * length);
+    let mut random = [0, 1, 2, 3, 4, 5].map(|thread| Random::new(if same { 0 } else { thread }));
+    ring_of_lists(|thread| some_of(0..locks, length, &mut random[thread]))
+}
+
+/// Lists with one of five hub locks and `more` others: no six are disjoint.
+/// The hubs have the lowest numbers or the highest.
+pub fn hub_ring(more: usize, hubs_lowest: bool) -> Draft {
+    let (hubs, others) = if hubs_lowest { (0..5, 5..26) } else { (21..26, 0..21) };
+    let mut random = Random::new(0);
+    ring_of_lists(|_| {
+        let mut list = some_of(others.clone(), more, &mut random);
+        list.extend(some_of(hubs.clone(), 1, &mut random));
+        list.sort_unstable();
+        list
+    })
+}
+
+/// Threads of the chains that a text lists, one a line: the thread, then the
+/// locks. Both texts were found by random changes of chains, each kept where the
+/// library's search had more to do: one without a deadlock, one with.
+pub fn listed_chains(text: &str) -> Draft {
+    let mut threads: BTreeMap<usize, BTreeSet<Vec<usize>>> = BTreeMap::new();
+    for line in text.lines() {
+        let mut numbers = line.split(' ').map(|word| word.parse().expect("a number"));
+        let thread = numbers.next().expect("a thread");
+        threads.entry(thread).or_default().insert(numbers.collect());
+    }
+    Draft::each(threads.values().map(nested).collect())
 }
 
 /// Thread 0 holds 0 around holds of 1 to `depth` in a row, thread 1 nests 1 to
@@ -256,16 +333,49 @@ pub fn all() -> Vec<(String, Draft, bool)> {
     all.push(("detours".into(), detours(14), true));
     all.push(("many-pairs".into(), many_pairs(false), false));
     all.push(("many-pairs-deadlock".into(), many_pairs(true), true));
+    all.extend(rings());
+    all.extend(rings_of_lists());
+    all
+}
+
+/// The rings that are measured.
+fn rings() -> Vec<(String, Draft, bool)> {
+    let mut all = Vec::new();
+    let ring = Ring { threads: 6, group: 2, extra: 18, guarded: &[], guard_lowest: false };
     // The guard meets itself between neighbours, or far apart.
-    for (a, b) in [(0, 5), (0, 3), (2, 4), (3, 5), (4, 5)] {
-        all.push((format!("ring-guard-{a}-{b}"), ring(6, 2, 18, &[a, b]), false));
+    for guarded in [[0, 5], [0, 3], [2, 4], [3, 5], [4, 5]] {
+        let name = format!("ring-guard-{}-{}", guarded[0], guarded[1]);
+        all.push((name, Ring { guarded: &guarded, ..ring }.draft(), false));
     }
-    all.push(("ring-five-extra".into(), ring(6, 4, 5, &[]), false));
-    all.push(("ring-five-extra-2".into(), ring(6, 2, 5, &[]), false));
-    all.push(("ring-crowded".into(), crowded_ring(), false));
-    all.push(("ring-open".into(), ring(6, 4, 6, &[]), true));
-    all.push(("ring-dense".into(), ring(6, 5, 1, &[]), false));
-    all.push(("ring-dense-guard".into(), ring(6, 5, 0, &[0, 5]), false));
+    for guarded in [[0, 5], [2, 4]] {
+        let name = format!("ring-low-guard-{}-{}", guarded[0], guarded[1]);
+        all.push((name, Ring { guarded: &guarded, guard_lowest: true, ..ring }.draft(), false));
+    }
+    let mut push = |name: &str, ring: Ring, deadlock| all.push((name.into(), ring.draft(), deadlock));
+    push("ring-five-extra", Ring { group: 4, extra: 5, ..ring }, false);
+    push("ring-five-extra-2", Ring { extra: 5, ..ring }, false);
+    push("ring-open", Ring { group: 4, extra: 6, ..ring }, true);
+    push("ring-dense", Ring { group: 5, extra: 1, ..ring }, false);
+    push("ring-dense-guard", Ring { group: 5, extra: 0, guarded: &[0, 5], ..ring }, false);
+    all
+}
+
+/// The rings of lists that are measured.
+fn rings_of_lists() -> Vec<(String, Draft, bool)> {
+    let mut all = Vec::new();
+    for (length, locks, same) in
+        [(2, 11, true), (2, 11, false), (3, 17, true), (3, 17, false), (4, 23, false)]
+    {
+        let name = format!("lists-{length}-of-{locks}-{}", if same { "same" } else { "own" });
+        all.push((name, crowded_ring(length, locks, same), false));
+    }
+    for (more, hubs_lowest) in [(1, false), (3, false), (3, true)] {
+        let name = format!("hubs-{more}-{}", if hubs_lowest { "low" } else { "high" });
+        all.push((name, hub_ring(more, hubs_lowest), false));
+    }
+    let (free, deadlock) = (include_str!("free.chains"), include_str!("deadlock.chains"));
+    all.push(("climbed-free".into(), listed_chains(free), false));
+    all.push(("climbed-deadlock".into(), listed_chains(deadlock), true));
     all
 }
 

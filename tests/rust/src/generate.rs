@@ -579,7 +579,9 @@ fn limit(random: &mut Random) -> Case {
         14 => ("ring", {
             let guarded = [vec![], vec![0, 5], vec![0, 3], vec![4, 5]];
             let extra = random.between(0, 7);
-            families::ring(6, random.between(1, 4), extra, &guarded[random.below(4)])
+            let group = random.between(1, 4);
+            let guarded = &guarded[random.below(4)];
+            families::Ring { threads: 6, group, extra, guarded, guard_lowest: false }.draft()
         }),
         15 => ("re-entrant tower", reentrant_tower(random.between(5, 30), random)),
         16 => ("hierarchy", families::hierarchy()),
