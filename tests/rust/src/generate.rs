@@ -26,71 +26,36 @@ pub struct Shape {
     pub again: usize,
 }
 
+/// A shape, its parts in the order of the struct.
+const fn shape(
+    procs: (usize, usize),
+    threads: (usize, usize),
+    locks: usize,
+    statements: usize,
+    depth: usize,
+    weights: [usize; 5],
+    again: usize,
+) -> Shape {
+    Shape { procs, threads, locks, statements, depth, weights, again }
+}
+
 /// Two or three threads over two or three locks.
-pub const TINY: Shape = Shape {
-    procs: (1, 3),
-    threads: (2, 3),
-    locks: 3,
-    statements: 4,
-    depth: 4,
-    weights: [1, 2, 9, 1, 1],
-    again: 8,
-};
+pub const TINY: Shape = shape((1, 3), (2, 3), 3, 4, 4, [1, 2, 9, 1, 1], 8);
 
 /// Small enough for all reachable states.
-pub const SMALL: Shape = Shape {
-    procs: (1, 4),
-    threads: (2, 4),
-    locks: 4,
-    statements: 6,
-    depth: 5,
-    weights: [1, 2, 8, 2, 2],
-    again: 12,
-};
+pub const SMALL: Shape = shape((1, 4), (2, 4), 4, 6, 5, [1, 2, 8, 2, 2], 12);
 
 /// Deep holds, many of them re-entrant.
-pub const NESTED: Shape = Shape {
-    procs: (2, 4),
-    threads: (2, 3),
-    locks: 5,
-    statements: 8,
-    depth: 9,
-    weights: [1, 3, 16, 1, 1],
-    again: 35,
-};
+pub const NESTED: Shape = shape((2, 4), (2, 3), 5, 8, 9, [1, 3, 16, 1, 1], 35);
 
 /// One to six threads, some procedures, few holds inside holds.
-pub const MEDIUM: Shape = Shape {
-    procs: (2, 10),
-    threads: (1, 6),
-    locks: 8,
-    statements: 14,
-    depth: 8,
-    weights: [3, 4, 8, 2, 2],
-    again: 10,
-};
+pub const MEDIUM: Shape = shape((2, 10), (1, 6), 8, 14, 8, [3, 4, 8, 2, 2], 10);
 
 /// All locks, many pairs.
-pub const WIDE: Shape = Shape {
-    procs: (3, 20),
-    threads: (2, 6),
-    locks: 32,
-    statements: 40,
-    depth: 16,
-    weights: [2, 3, 12, 2, 2],
-    again: 5,
-};
+pub const WIDE: Shape = shape((3, 20), (2, 6), 32, 40, 16, [2, 3, 12, 2, 2], 5);
 
 /// Bytes of every kind.
-pub const CROOKED: Shape = Shape {
-    procs: (1, 3),
-    threads: (1, 3),
-    locks: 32,
-    statements: 5,
-    depth: 6,
-    weights: [3, 2, 4, 2, 2],
-    again: 10,
-};
+pub const CROOKED: Shape = shape((1, 3), (1, 3), 32, 5, 6, [3, 2, 4, 2, 2], 10);
 
 /// A size that never passes the machine's numbers.
 pub fn size(block: &[Tree], sizes: &[u64]) -> u64 {
