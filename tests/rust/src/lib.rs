@@ -10,6 +10,7 @@ pub mod guard;
 #[cfg(any(feature = "pairs", feature = "verdict"))]
 pub mod library;
 pub mod pairs;
+pub mod promela;
 pub mod random;
 pub mod reference;
 pub mod report;
