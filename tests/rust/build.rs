@@ -7,8 +7,7 @@ use std::path::PathBuf;
 fn main() {
     println!("cargo:rerun-if-changed=build.rs");
     println!("cargo:rerun-if-env-changed=LOCKPLAN_LIB");
-    let wanted = ["CARGO_FEATURE_PAIRS", "CARGO_FEATURE_VERDICT"];
-    if wanted.iter().all(|name| env::var_os(name).is_none()) {
+    if env::var_os("CARGO_FEATURE_LIBRARY").is_none() {
         return;
     }
     let here = PathBuf::from(env::var_os("CARGO_MANIFEST_DIR").expect("set by cargo"));

@@ -7,7 +7,7 @@ pub mod families;
 pub mod gateway;
 pub mod generate;
 pub mod guard;
-#[cfg(any(feature = "pairs", feature = "verdict"))]
+#[cfg(feature = "library")]
 pub mod library;
 pub mod pairs;
 pub mod promela;

@@ -4,14 +4,9 @@
 //!                                     [--only NUMBER] [--file PLAN]
 //!
 //! LOCKPLAN_TEXTS and LOCKPLAN_SEED stand for the first two. A text that fails
-//! is made shorter and written to a file. Ends with 1 after a difference.
+//! is made shorter and written to a file. Ends with 1 after a difference, and
+//! with 2 where nothing was tested because the features name no call.
 
-#[cfg(not(any(feature = "pairs", feature = "verdict")))]
-fn main() {
-    println!("differential: no call of the library is chosen");
-}
-
-#[cfg(any(feature = "pairs", feature = "verdict"))]
 fn main() {
     let options = differential::options();
     let stack = options.stack;
@@ -20,7 +15,6 @@ fn main() {
     std::process::exit(i32::from(!matches!(differences, Ok(0))));
 }
 
-#[cfg(any(feature = "pairs", feature = "verdict"))]
 mod differential {
     use std::collections::BTreeMap;
     use std::path::{Path, PathBuf};
@@ -90,6 +84,10 @@ mod differential {
     pub fn run(options: &Options) -> usize {
         let start = Instant::now();
         let calls = library::calls();
+        if calls.verdict.is_none() && calls.pairs.is_none() {
+            eprintln!("differential: nothing was tested: the features name no call of the library");
+            std::process::exit(2);
+        }
         let mut fixed: Vec<Case> = Vec::new();
         if let Some(path) = &options.file {
             let text = std::fs::read(path).expect("a readable file");

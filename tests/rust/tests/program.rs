@@ -3,7 +3,8 @@
 //!   LOCKPLAN_PROGRAM=<program> cargo test --no-default-features --test program
 //!
 //! The program reads a plan from standard input. LOCKPLAN_TEXTS and LOCKPLAN_SEED
-//! choose the generated texts. Ends with 1 after a difference.
+//! choose the generated texts. Ends with 1 after a difference, and with 2 where
+//! nothing was tested because no program is named.
 
 use std::io::Write;
 use std::process::{Command, Stdio};
@@ -34,8 +35,8 @@ fn reports(program: &str, text: &[u8]) -> Result<Vec<u8>, String> {
 
 fn main() {
     let Ok(program) = std::env::var("LOCKPLAN_PROGRAM") else {
-        println!("program: LOCKPLAN_PROGRAM names none");
-        return;
+        eprintln!("program: nothing was tested: LOCKPLAN_PROGRAM names no program");
+        std::process::exit(2);
     };
     let number = |name: &str, default: u64| {
         std::env::var(name).map_or(default, |value| value.parse().expect("a number"))
