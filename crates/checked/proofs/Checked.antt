@@ -1,14 +1,14 @@
 -- The plan's rules in checking order: the reader's, then 9 and 10 over the table that it leaves.
 use Prim.Native.Nat.{ℕ, _-_, _<_, _≤_}
 use native.Mathlib.Omega.{arith}
-use mathlib.Core.Bool.{Bool, true, false}
+use mathlib.Core.Bool.{Bool, true, false, cond}
 use mathlib.Core.Path.{_≡_, refl, sym, ap, _∙_}
 use mathlib.Core.List.{List}
-use mathlib.Core.Option.{Option, none, some, Option·none-ne-some}
+use mathlib.Core.Option.{Option, none, some, Option·none-ne-some, orElse}
 use lib.ListN.{length, take, length-map}
 use lib.Dec.{ltb}
+use Rattle.laws.proofs.Tests.{first-none}
 use borrow.Author.Tests.{ltb-false}
-use Rattle.laws.specs.Choice.{if, orElse}
 use Rattle.text.specs.declared.Form.{Form}
 use Rattle.text.specs.Lines.{formsOf}
 use Rattle.text.proofs.Splits.{few-forms}
@@ -19,7 +19,6 @@ use Rattle.plan.specs.Settled.{PlanTable}
 use Rattle.plan.specs.Rules.{Refusal, refusedIf, readerRefusal, planRefusal, tooLarge, tooManyPairs, tooLong, readingOf, Tabled}
 use Rattle.plan.proofs.Laws.{first-refuses, first-passes}
 use Rattle.plan.proofs.Filling.{accepted-none, accepted-count}
-use Rattle.plan.proofs.Kept.{first-none}
 use Rattle.plan.proofs.Sound.{accepted-table}
 
 -- rules 9 and 10, of forms

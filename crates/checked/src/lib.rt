@@ -1,8 +1,8 @@
 // The rules 2 to 10 over a text, in checking order, each tested over the whole text before the next.
+ghost use mathlib.Core.Option.{orElse};
 ghost use mathlib.Core.Path.{_≡_};
 ghost use Prim.Native.Nat.{_≤_};
 ghost use lib.ListN.{length};
-ghost use Rattle.laws.specs.Choice.{orElse};
 ghost use Rattle.plan.specs.Table.{tableForms};
 ghost use Rattle.plan.specs.Settled.{PlanTable};
 ghost use Rattle.plan.specs.Rules.{planRefusal, tooLarge, tooManyPairs, readingOf, Tabled};

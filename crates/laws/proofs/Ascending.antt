@@ -8,21 +8,21 @@ use native.Mathlib.Omega.{arith}
 use lib.ListN.{length}
 use lib.Dec.{ltb, eqb}
 use borrow.Author.Tests.{ltb-true, ltb-false, eqb-true, eqb-false}
-use Rattle.laws.specs.Ascending.{insert, ascending, Ascends}
+use Rattle.laws.specs.Ascending.{insertOnce, ascending, Ascends}
 
--- what insert does, case by case
+-- what insertOnce does, case by case
 module _ (P : ℕ → List ℕ → List ℕ → Type 0)
     (last : (w : ℕ) → P w [] (w ∷ []))
     (before : (w x : ℕ) (xs : List ℕ) → w < x → P w (x ∷ xs) (w ∷ (x ∷ xs)))
     (there : (w x : ℕ) (xs : List ℕ) → w ≡ x → P w (x ∷ xs) (x ∷ xs))
-    (later : (w x : ℕ) (xs : List ℕ) → x < w → P w xs (insert w xs) → P w (x ∷ xs) (x ∷ insert w xs)) where
-  pub insert-elim : (w : ℕ) (xs : List ℕ) → P w xs (insert w xs)
-  unfolding insert
+    (later : (w x : ℕ) (xs : List ℕ) → x < w → P w xs (insertOnce w xs) → P w (x ∷ xs) (x ∷ insertOnce w xs)) where
+  pub insert-elim : (w : ℕ) (xs : List ℕ) → P w xs (insertOnce w xs)
+  unfolding insertOnce
   insert-elim w [] = last w
   insert-elim w (x ∷ xs) = go (ltb w x) refl (eqb w x) refl (insert-elim w xs)
     where
-      go : (s : Bool) → ltb w x ≡ s → (t : Bool) → eqb w x ≡ t → P w xs (insert w xs)
-          → P w (x ∷ xs) (cond s (w ∷ (x ∷ xs)) (cond t (x ∷ xs) (x ∷ insert w xs)))
+      go : (s : Bool) → ltb w x ≡ s → (t : Bool) → eqb w x ≡ t → P w xs (insertOnce w xs)
+          → P w (x ∷ xs) (cond s (w ∷ (x ∷ xs)) (cond t (x ∷ xs) (x ∷ insertOnce w xs)))
       go true lt t e below = before w x xs (ltb-true w x lt)
       go false ge true e below = there w x xs (eqb-true w x e)
       go false ge false e below =
@@ -30,15 +30,15 @@ module _ (P : ℕ → List ℕ → List ℕ → Type 0)
           let ne : w ≡ x → ⊥ = eqb-false w x e in
           later w x xs (omega arith) below
 
-pub insert-length : (w : ℕ) (xs : List ℕ) → length (insert w xs) ≤ 1 + length xs
+pub insert-length : (w : ℕ) (xs : List ℕ) → length (insertOnce w xs) ≤ 1 + length xs
 insert-length = insert-elim (λ w xs ys. length ys ≤ 1 + length xs) (λ w. omega arith) (λ w x xs h. omega arith) (λ w x xs h. omega arith) (λ w x xs h k. omega arith)
 
-pub mem-insert : (w : ℕ) (xs : List ℕ) (v : ℕ) → List·Memᴰ v (insert w xs) → (v ≡ w) ⊎ List·Memᴰ v xs
+pub mem-insert : (w : ℕ) (xs : List ℕ) (v : ℕ) → List·Memᴰ v (insertOnce w xs) → (v ≡ w) ⊎ List·Memᴰ v xs
 mem-insert = insert-elim (λ w xs ys. (v : ℕ) → List·Memᴰ v ys → (v ≡ w) ⊎ List·Memᴰ v xs)
     (λ w v m. List·Memᴰ·cases-cons m) (λ w x xs h v m. List·Memᴰ·cases-cons m) (λ w x xs h v m. inr m)
     (λ w x xs h k v m. ⊎-elim (λ e. inr (List·Memᴰ·head e)) (λ n. ⊎-elim (λ e. inl e) (λ i. inr (List·Memᴰ·tail i)) (k v n)) (List·Memᴰ·cases-cons m))
 
-pub insert-mem : (w : ℕ) (xs : List ℕ) (v : ℕ) → (v ≡ w) ⊎ List·Memᴰ v xs → List·Memᴰ v (insert w xs)
+pub insert-mem : (w : ℕ) (xs : List ℕ) (v : ℕ) → (v ≡ w) ⊎ List·Memᴰ v xs → List·Memᴰ v (insertOnce w xs)
 insert-mem = insert-elim (λ w xs ys. (v : ℕ) → (v ≡ w) ⊎ List·Memᴰ v xs → List·Memᴰ v ys)
     (λ w v. ⊎-elim (λ e. List·Memᴰ·head e) (λ m. List·Memᴰ·tail m))
     (λ w x xs h v. ⊎-elim (λ e. List·Memᴰ·head e) (λ m. List·Memᴰ·tail m))
@@ -54,7 +54,7 @@ least x xs a v m = ⊎-elim (λ (e : v ≡ x). omega arith) (λ n. omega (arith,
 beyond : (y : ℕ) (ys : List ℕ) (v : ℕ) → y < v → List·Memᴰ v (y ∷ ys) → List·Memᴰ v ys
 beyond y ys v h m = ⊎-elim (λ (e : v ≡ y). absurd (omega arith)) (λ n. n) (List·Memᴰ·cases-cons m)
 
-insert-ascends : (w : ℕ) (xs : List ℕ) → Ascends xs → Ascends (insert w xs)
+insert-ascends : (w : ℕ) (xs : List ℕ) → Ascends xs → Ascends (insertOnce w xs)
 unfolding Ascends
 insert-ascends = insert-elim (λ w xs ys. Ascends xs → Ascends ys)
     (λ w a. (λ y m. absurd (List·Memᴰ·not-nil m), tt))

@@ -1,11 +1,10 @@
 -- `equal` says exactly that two lists are equal, and so it is what any exact test of that answers.
 use Prim.Native.Nat.{ℕ}
-use mathlib.Core.Bool.{Bool, true, false}
+use mathlib.Core.Bool.{Bool, true, false, cond}
 use mathlib.Core.List.{List, [], _∷_}
 use mathlib.Core.Path.{_≡_, refl, sym}
 use lib.Dec.{eqb}
 use borrow.Author.Tests.{eq-eqb, eqb-true}
-use Rattle.laws.specs.Choice.{if}
 use Rattle.laws.specs.Bytes.{equal}
 
 pub equal-refl : (a : List ℕ) → equal a a ≡ true
@@ -20,7 +19,7 @@ equal-is [] (y ∷ ys) e = cc
 equal-is (x ∷ xs) [] e = cc
 equal-is (x ∷ xs) (y ∷ ys) e = go (eqb x y) refl (equal-is xs ys) e
   where
-    go : (t : Bool) → eqb x y ≡ t → (equal xs ys ≡ true → xs ≡ ys) → if t (equal xs ys) false ≡ true → x ∷ xs ≡ y ∷ ys
+    go : (t : Bool) → eqb x y ≡ t → (equal xs ys ≡ true → xs ≡ ys) → cond t (equal xs ys) false ≡ true → x ∷ xs ≡ y ∷ ys
     go true d rest e = cc (eqb-true x y d, rest e)
     go false d rest e = cc
 

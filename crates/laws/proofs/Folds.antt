@@ -2,19 +2,16 @@
 use Prim.Native.Nat.{ℕ, _+_, _<_, _≤_}
 use native.Mathlib.Numerals.{add-one}
 use mathlib.Core.Path.{_≡_}
-use mathlib.Core.List.{List}
+use mathlib.Core.List.{List, foldl}
 use lib.ListN.{length, drop, getD, drop-of-length-le}
 use lib.Seq.{drop-cons}
-use Rattle.laws.specs.Fold.{foldl}
 
 module _ {A B : Type 0} (f : B → A → B) (s r : B) (l : List A) (i : ℕ) where
   turn : (d : A) → i < length l → foldl f s (drop i l) ≡ foldl f (f s (getD l i d)) (drop (i + 1) l)
-  unfolding foldl
   turn d h = rw (add-one, drop-cons l i d)
 
   pub fold-again : (t : B) (d : A) → i < length l → t ≡ f s (getD l i d) → foldl f s (drop i l) ≡ r → foldl f t (drop (i + 1) l) ≡ r
   fold-again t d h e p = rw e (cc (turn d h))
 
   pub fold-done : length l ≤ i → foldl f s (drop i l) ≡ r → s ≡ r
-  unfolding foldl
   fold-done h p = rw drop-of-length-le at p

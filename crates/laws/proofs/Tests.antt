@@ -3,12 +3,11 @@ use Prim.Native.Nat.{ℕ, zero, suc, _<_, _≤_}
 use mathlib.Core.Bool.{Bool, true, false, _&&_, _||_, cond}
 use mathlib.Core.List.{[], _∷_, List·Memᴰ, List·Memᴰ·eq-of-singleton, List·Memᴰ·not-nil}
 use mathlib.Core.Logic.{_⊎_, inl, inr, ⊎-elim, _≢_}
-use mathlib.Core.Option.{Option, none, some, Option·none-ne-some}
+use mathlib.Core.Option.{Option, none, some, Option·none-ne-some, bind, orElse, Option·some-ne-none}
 use mathlib.Core.Path.{_≡_, refl, subst}
 use native.Mathlib.Nat.{not-suc-le-zero, eq-or-lt-of-le}
 use native.Mathlib.Omega.{arith}
 use lib.Dec.{T, ltb, eqb, ltb→lt, nltb→le, not-T, eqb→eq, eqb-refl}
-use Rattle.laws.specs.Choice.{bind}
 
 pub T-and : (a b : Bool) → T (a && b) → T a × T b
 T-and true true t = (tt, tt)
@@ -55,8 +54,15 @@ or-T true b t = tt
 or-T false b t = ⊎-elim absurd (λ x. x) t
 
 pub bind-inv : {A B : Type 0} (o : Option A) (f : A → Option B) (b : B) → bind o f ≡ some b → (a : A) × (o ≡ some a) × (f a ≡ some b)
+unfolding bind
 bind-inv none f b h = absurd (Option·none-ne-some b h)
 bind-inv (some a) f b h = (a, refl, h)
+
+-- neither of two stands where the first that does is none
+pub first-none : {A : Type 0} (o p : Option A) → orElse o p ≡ none → (o ≡ none) × (p ≡ none)
+unfolding orElse
+first-none none p h = (refl, h)
+first-none (some a) p h = absurd (Option·some-ne-none a h)
 
 -- the list of x where c holds, and else of nothing
 pub only : (w x : ℕ) (c : Bool) → List·Memᴰ w (cond c (x ∷ []) []) → T c × (w ≡ x)

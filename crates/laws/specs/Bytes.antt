@@ -3,10 +3,9 @@ use Prim.Native.Nat.{ℕ}
 use Prim.Native.Char.{code}
 use Prim.Native.String.{String}
 use Prim.Native.String as string
-use mathlib.Core.Bool.{Bool, true, false}
+use mathlib.Core.Bool.{Bool, true, false, cond}
 use mathlib.Core.List.{List, [], _∷_}
 use lib.Dec.{eqb}
-use Rattle.laws.specs.Choice.{if}
 
 -- the bytes of a quoted text of ASCII characters
 abbrev pub bytes : String → List ℕ
@@ -18,4 +17,4 @@ unfoldable pub equal : List ℕ → List ℕ → Bool
 equal [] [] = true
 equal [] (y ∷ ys) = false
 equal (x ∷ xs) [] = false
-equal (x ∷ xs) (y ∷ ys) = if (eqb x y) (equal xs ys) false
+equal (x ∷ xs) (y ∷ ys) = cond (eqb x y) (equal xs ys) false

@@ -1,6 +1,5 @@
--- General definitions: choices by a test, folds, bytes, masks, ascending lists.
+-- General definitions: a choice by a flag, bytes, masks, ascending lists.
 pub mod Choice
-pub mod Fold
 pub mod Bytes
 pub mod Mask
 pub mod Ascending

@@ -4,12 +4,12 @@ use native.Mathlib.Omega.{arith}
 use mathlib.Core.Bool.{Bool, true, false}
 use mathlib.Core.Path.{_≡_, refl, sym, ap, _∙_}
 use mathlib.Core.List.{List, _++_}
-use mathlib.Core.Option.{Option, none, some, Option·none-ne-some}
+use mathlib.Core.Option.{Option, none, some, Option·none-ne-some, orElse}
 use lib.ListN.{length, take, drop}
 use lib.Seq.{take-at}
 use lib.Dec.{ltb, leb}
+use Rattle.laws.proofs.Tests.{first-none}
 use borrow.Author.Tests.{lt-ltb, le-ltb, le-leb, lt-leb, leb-false, ltb-false}
-use Rattle.laws.specs.Choice.{orElse}
 use Rattle.text.specs.Lines.{formsOf}
 use Rattle.semantics.specs.Pairs.{pairList}
 use Rattle.semantics.proofs.PairList.{pair-list-critical, pair-list-ascends}
@@ -28,7 +28,6 @@ use Rattle.lockplan.specs.declared.Listing.the-variants.{Pairs, Refused}
 use Rattle.lockplan.specs.Answers.{listingOf, listingNumber}
 use Rattle.lockplan.specs.Promises.{pairsOf, written, Exact, Listed, ListedBytes}
 use Rattle.lockplan.specs.Steps.{TablePairs, PairsFound, handedOn, Below, Carried}
-use Rattle.plan.proofs.Kept.{first-none}
 use Rattle.plan.proofs.Sound.{accepted-settled}
 use Rattle.lockplan.proofs.LineBounds.{Numbers, pairs-bounded}
 use Rattle.checked.proofs.Checked.{plan-kept, plan-forms}

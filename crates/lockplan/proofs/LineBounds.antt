@@ -1,14 +1,14 @@
 -- A refusal's numbers are small: the rule is one of 1 to 11, and the line is 0 or at most one more than the text has lines, of which there are no more than bytes.
 use Prim.Native.Nat.{ℕ, zero, suc, _+_, _-_, _*_, _^_, _<_, _≤_}
 use native.Mathlib.Omega.{arith}
-use mathlib.Core.Bool.{Bool, true, false}
+use mathlib.Core.Bool.{Bool, true, false, cond}
 use mathlib.Core.Path.{_≡_, refl, sym, ap, _∙_}
 use mathlib.Core.List.{List, [], _∷_}
-use mathlib.Core.Option.{Option, none, some, Option·none-ne-some, Option·some-injective}
+use mathlib.Core.Option.{Option, none, some, Option·none-ne-some, Option·some-injective, orElse}
 use lib.ListN.{length}
 use lib.Dec.{ltb, eqb, leb}
+use Rattle.laws.proofs.Tests.{first-none}
 use borrow.Author.Tests.{ltb-false}
-use Rattle.laws.specs.Choice.{if, orElse}
 use Rattle.text.specs.declared.Form.{Form}
 use Rattle.text.specs.declared.Form.the-variants.{Plan, Proc, Thread, Close, Skip, Call, Hold, Loop, Either, One, Two}
 use Rattle.text.specs.declared.Kind.{Kind}
@@ -42,7 +42,7 @@ lines-few [] = omega arith
 lines-few (b ∷ bs) = go (eqb b 10) (split bs .ended) (lines-few bs)
   where
     go : (t : Bool) (ls : List (List ℕ)) → length ls ≤ length bs
-        → length (if t (record { ended = [] ∷ ls; tail = split bs .tail }) (pushByte b ls (split bs .tail)) .ended) ≤ suc (length bs)
+        → length (cond t (record { ended = [] ∷ ls; tail = split bs .tail }) (pushByte b ls (split bs .tail)) .ended) ≤ suc (length bs)
     go true ls h = omega arith
     go false [] h = omega arith
     go false (l ∷ ls) h = omega arith
@@ -63,7 +63,7 @@ misplaced-most : (fs : List Form) (mode : ℕ) (stack : List ℕ) (line n : ℕ)
 unfolding misplaced
 misplaced-most [] mode stack line n h = go (eqb mode complete)
   where
-    go : (b : Bool) → AtMost n (if b none (some line))
+    go : (b : Bool) → AtMost n (cond b none (some line))
     go true = unnamed n
     go false = named line n (omega arith)
 misplaced-most (f ∷ fs) mode stack line n h = go (advanceOf mode (innermost stack) f) (λ m s. misplaced-most fs m s (suc line) n (omega arith))
@@ -93,7 +93,7 @@ proc-line-most [] line p n h = omega arith
 proc-line-most (Plan ∷ fs) line p n h = proc-line-most fs (suc line) p n (omega arith)
 proc-line-most (Proc ∷ fs) line p n h = go (eqb p 0) (proc-line-most fs (suc line) (p - 1) n (omega arith))
   where
-    go : (b : Bool) → procLineFrom (suc line) (p - 1) fs ≤ n → if b line (procLineFrom (suc line) (p - 1) fs) ≤ n
+    go : (b : Bool) → procLineFrom (suc line) (p - 1) fs ≤ n → cond b line (procLineFrom (suc line) (p - 1) fs) ≤ n
     go true k = omega arith
     go false k = k
 proc-line-most (Thread m ∷ fs) line p n h = proc-line-most fs (suc line) p n (omega arith)
@@ -176,11 +176,7 @@ module _ (text : List ℕ) (short : length text ≤ 32768) where
 
 reader-short : (text : List ℕ) → readerRefusal text ≡ none → length text ≤ 32768
 unfolding readerRefusal
-reader-short text e = within text (none-first (tooLong text) _ e)
-  where
-    none-first : (a b : Option Refusal) → orElse a b ≡ none → a ≡ none
-    none-first none b h = refl
-    none-first (some w) b h = h
+reader-short text e = within text (first-none (tooLong text) _ e .0)
 
 pub plan-bounded : (text : List ℕ) (w : Refusal) → planRefusal text ≡ some w → Numbers w
 unfolding planRefusal readerRefusal tooLong

@@ -8,6 +8,7 @@ use mathlib.Core.Option.{Option, none, some, Option·none-ne-some}
 use mathlib.Core.Bool.{Bool, true, false}
 use lib.ListN.{length, take, drop, getD}
 use lib.Dec.{ltb}
+use Rattle.laws.proofs.Tests.{first-none}
 use denote.Ref.{RefT}
 use borrow.Author.Tests.{lt-ltb, le-ltb, ltb-true}
 use Rattle.text.specs.Lines.{textOf, formsOf, unreadableLine}
@@ -21,7 +22,6 @@ use Rattle.plan.specs.Table.{tableForms}
 use Rattle.plan.specs.Settled.{PlanTable, tablePlan}
 use Rattle.plan.specs.Starts.{Starts}
 use Rattle.plan.specs.Rules.{Refusal, refusedAt, tooLong, formsRefusal, readerRefusal, planRefusal, planOf, procLineFrom, readingOf, Tabled}
-use Rattle.plan.proofs.Kept.{first-none}
 use Rattle.plan.proofs.Sound.{accepted-text, accepted-settled}
 use Rattle.parts.specs.Parts.{Span, span, bytesIn, PartAt, linesSpan, formsBefore, formsToClosing}
 use Rattle.parts.proofs.Lines.{ProcLines, proc-lines}

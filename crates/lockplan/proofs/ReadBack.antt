@@ -11,14 +11,13 @@ use lib.ListN.{length}
 use Rattle.laws.specs.Mask.{bit, inMask, maskOf}
 use Rattle.laws.proofs.Bits.{bit-lt, bit-ext}
 use Rattle.laws.proofs.Masks.{digit-test, mask-lt, mask-out, mask-digit}
-use Rattle.laws.proofs.Tests.{eq→eqb, lt-or-le, eq-or-ne}
+use Rattle.laws.proofs.Tests.{eq→eqb, lt-or-le, eq-or-ne, first-none}
 use Rattle.semantics.specs.Plan.{LockPlan}
 use Rattle.semantics.specs.Run.{start}
 use Rattle.semantics.specs.Stuck.{Schedule}
 use Rattle.semantics.proofs.Steps.{threadAt-some}
 use Rattle.semantics.proofs.Invariant.{run-length, start-length}
 use Rattle.plan.specs.Rules.{Refusal, refusal, refusedIf, readerRefusal, planRefusal, planOf, verdictRefusal, pairsRefusal}
-use Rattle.plan.proofs.Kept.{first-none}
 use Rattle.plan.proofs.Sound.{accepted-settled}
 use Rattle.lockplan.specs.declared.Verdict.{Verdict}
 use Rattle.lockplan.specs.declared.Verdict.the-variants.{Free, Deadlock}

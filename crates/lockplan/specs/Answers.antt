@@ -1,8 +1,8 @@
 -- The cases of each answer with 01's numbers and values, and the 64-bit number that carries them to C (docs/ANSWERS.md).
+use mathlib.Core.Bool.{cond}
 use Prim.Native.Nat.{ℕ, _+_, _*_, _/_, _%_}
 use mathlib.Core.Option.{Option, none, some}
 use lib.Dec.{eqb}
-use Rattle.laws.specs.Choice.{if}
 use Rattle.plan.specs.Rules.{Refusal}
 use Rattle.lockplan.specs.declared.Verdict.{Verdict}
 use Rattle.lockplan.specs.declared.Verdict.the-variants.{Free, Deadlock}
@@ -27,7 +27,7 @@ listingNumber (Refused r l) = answerNumber 2 r l
 
 -- the answer of a number
 unfoldable pub readListing : ℕ → Listing
-readListing r = if (eqb (r % 256) 0) (Pairs (r / 65536)) (Refused (r / 256 % 256) (r / 65536))
+readListing r = cond (eqb (r % 256) 0) (Pairs (r / 65536)) (Refused (r / 256 % 256) (r / 65536))
 
 -- ---- the verdict
 
@@ -40,6 +40,6 @@ verdictNumber (verdict.Refused r l) = answerNumber 2 r l
 -- the verdict of a number
 unfoldable pub readVerdict : ℕ → Verdict
 readVerdict r =
-    if (eqb (r % 256) 0) Free
-    (if (eqb (r % 256) 1) (Deadlock (r / 65536) (r / 256 % 256))
+    cond (eqb (r % 256) 0) Free
+    (cond (eqb (r % 256) 1) (Deadlock (r / 65536) (r / 256 % 256))
     (verdict.Refused (r / 256 % 256) (r / 65536)))

@@ -1,12 +1,12 @@
 -- What the steps of a call leave for the next one: the pairs of a procedure in a table of words, its lines, a refusal or a finding handed on, and the room that the
 -- 64-bit answer has.
+use mathlib.Core.Bool.{cond}
 use Prim.Native.Nat.{ℕ, _-_, _+_, _^_, _<_}
 use mathlib.Core.List.{List}
 use mathlib.Core.Option.{Option, none}
 use mathlib.Core.Path.{_≡_}
 use lib.Dec.{ltb, leb}
 use lib.ListN.{length, take, drop}
-use Rattle.laws.specs.Choice.{if}
 use Rattle.semantics.specs.Pairs.{pairList}
 use Rattle.plan.specs.Table.{tableForms}
 use Rattle.plan.specs.Settled.{tablePlan}
@@ -43,7 +43,7 @@ PairsFound text p lent r list = WordsFound (pairsRefusal text p lent) (pairsOf t
 unfoldable pub tableLines : List ℕ → List ℕ → ℕ → Span
 tableLines text ws p =
     let line = procLineFrom 1 p (tableForms ws) in
-    if (ltb p (length (tablePlan ws .procs))) (linesSpan text (line - 1) (line + formsBefore (tableForms (drop line ws)))) (span 0 0)
+    cond (ltb p (length (tablePlan ws .procs))) (linesSpan text (line - 1) (line + formsBefore (tableForms (drop line ws)))) (span 0 0)
 
 -- a refusal of the plan, and a finding over its table, in the verdict's answer
 abbrev pub refusedVerdict : Reading → Verdict

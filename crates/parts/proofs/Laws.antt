@@ -3,14 +3,13 @@ use Prim.Native.Nat.{ℕ, zero, suc, _+_, _-_, _<_, _≤_}
 use native.Mathlib.Numerals.{add-one}
 use native.Mathlib.Omega.{arith}
 use mathlib.Core.Path.{_≡_, sym, ap, _∙_}
-use mathlib.Core.Bool.{Bool, true, false}
+use mathlib.Core.Bool.{Bool, true, false, cond}
 use mathlib.Core.List.{List, [], _∷_, map}
 use lib.ListN.{length, take, drop, getD, drop-of-length-le}
 use lib.Seq.{drop-cons}
 use lib.Dec.{eqb, eqb·suc-zero}
 use borrow.Author.Tests.{eq-eqb, ne-eqb}
 use denote.Ref.{RefT}
-use Rattle.laws.specs.Choice.{if}
 use Rattle.text.specs.declared.Form.{Form}
 use Rattle.plan.specs.Table.{formAt}
 use Rattle.parts.specs.Parts.{leftAfter, skipLines, beginsOther, formsBefore, span, PartAt, linesSpan}
@@ -19,7 +18,7 @@ pub other-case : (f k : Form) (r : Bool) → f ≡ k → r ≡ beginsOther k →
 other-case f k r e h = h ∙ ap beginsOther (sym e)
 
 module _ (text : List ℕ) (left i r : ℕ) where
-  turn : i < length text → skipLines left (drop i text) ≡ if (eqb left 0) 0 (suc (skipLines (leftAfter (getD text i 0) left) (drop (i + 1) text)))
+  turn : i < length text → skipLines left (drop i text) ≡ cond (eqb left 0) 0 (suc (skipLines (leftAfter (getD text i 0) left) (drop (i + 1) text)))
   unfolding skipLines
   turn h = rw (add-one i, drop-cons text i 0)
 
@@ -40,13 +39,13 @@ unfolding skipLines
 skip-within [] lines = omega arith
 skip-within (b ∷ bs) lines = go (eqb lines 0) (skip-within bs (leftAfter b lines))
   where
-    go : (t : Bool) → skipLines (leftAfter b lines) bs ≤ length bs → if t 0 (suc (skipLines (leftAfter b lines) bs)) ≤ suc (length bs)
+    go : (t : Bool) → skipLines (leftAfter b lines) bs ≤ length bs → cond t 0 (suc (skipLines (leftAfter b lines) bs)) ≤ suc (length bs)
     go true h = omega arith
     go false h = omega arith
 
 module _ (table : List ℕ) (i r : ℕ) (f : Form) (q : Bool) (h : i < length table) (e : f ≡ formAt (getD table i 0)) (g : q ≡ beginsOther f)
     (p : i + formsBefore (map formAt (drop i table)) ≡ r) where
-  passed : i + if q 0 (suc (formsBefore (map formAt (drop (i + 1) table)))) ≡ r
+  passed : i + cond q 0 (suc (formsBefore (map formAt (drop (i + 1) table)))) ≡ r
   unfolding formsBefore
   passed = rw (g, e, add-one i) (rw (drop-cons table i 0 h) at p)
 
@@ -65,7 +64,7 @@ left-grows : (byte a b : ℕ) → a ≤ b → leftAfter byte a ≤ leftAfter byt
 unfolding leftAfter
 left-grows byte a b h = go (eqb byte 10)
   where
-    go : (t : Bool) → if t (a - 1) a ≤ if t (b - 1) b
+    go : (t : Bool) → cond t (a - 1) a ≤ cond t (b - 1) b
     go true = omega arith
     go false = h
 
@@ -76,7 +75,7 @@ skip-grows (byte ∷ bytes) a zero h = let z : a ≡ 0 = omega arith in rw z (om
 skip-grows (byte ∷ bytes) a (suc b) h = rw (eqb·suc-zero b) (go (eqb a 0) (skip-grows bytes (leftAfter byte a) (leftAfter byte (suc b)) (left-grows byte a (suc b) h)))
   where
     go : (t : Bool) → skipLines (leftAfter byte a) bytes ≤ skipLines (leftAfter byte (suc b)) bytes
-        → if t 0 (suc (skipLines (leftAfter byte a) bytes)) ≤ suc (skipLines (leftAfter byte (suc b)) bytes)
+        → cond t 0 (suc (skipLines (leftAfter byte a) bytes)) ≤ suc (skipLines (leftAfter byte (suc b)) bytes)
     go true k = omega arith
     go false k = omega arith
 

@@ -1,23 +1,22 @@
 -- Parts of a text by the numbers of its lines.
 use Prim.Native.Nat.{ℕ, suc, _+_, _-_}
-use mathlib.Core.Bool.{Bool, true, false}
+use mathlib.Core.Bool.{Bool, true, false, cond}
 use mathlib.Core.List.{List, [], _∷_}
 use mathlib.Core.Path.{_≡_}
 use lib.Dec.{eqb}
 use lib.ListN.{take, drop}
 use denote.Ref.{RefT}
-use Rattle.laws.specs.Choice.{if}
 use Rattle.text.specs.declared.Form.{Form}
 use Rattle.text.specs.declared.Form.the-variants.{Plan, Proc, Thread, Close, Skip, Call, Hold, Loop, Either, One, Two}
 
 -- the lines still to be passed after a byte: "each line ended by byte 10"
 unfoldable pub leftAfter : ℕ → ℕ → ℕ
-leftAfter byte lines = if (eqb byte 10) (lines - 1) lines
+leftAfter byte lines = cond (eqb byte 10) (lines - 1) lines
 
 -- how many bytes the first lines of a text have, their line ends included
 unfoldable pub skipLines : ℕ → List ℕ → ℕ
 skipLines lines [] = 0
-skipLines lines (b ∷ bs) = if (eqb lines 0) 0 (suc (skipLines (leftAfter b lines) bs))
+skipLines lines (b ∷ bs) = cond (eqb lines 0) 0 (suc (skipLines (leftAfter b lines) bs))
 
 -- a part of a text: the place at which it begins, and how many bytes it has
 pub record Span : Type 0 where
@@ -48,7 +47,7 @@ formsToClosing depth (f ∷ fs) = elim f [
   | Plan ↦ suc (formsToClosing depth fs)
   | Proc ↦ suc (formsToClosing depth fs)
   | Thread n ↦ suc (formsToClosing depth fs)
-  | Close ↦ if (eqb depth 0) 1 (suc (formsToClosing (depth - 1) fs))
+  | Close ↦ cond (eqb depth 0) 1 (suc (formsToClosing (depth - 1) fs))
   | Skip ↦ suc (formsToClosing depth fs)
   | Call n ↦ suc (formsToClosing depth fs)
   | Hold l ↦ suc (formsToClosing (suc depth) fs)
@@ -75,4 +74,4 @@ beginsOther Two = false
 -- how many forms stand before the first such one
 unfoldable pub formsBefore : List Form → ℕ
 formsBefore [] = 0
-formsBefore (f ∷ fs) = if (beginsOther f) 0 (suc (formsBefore fs))
+formsBefore (f ∷ fs) = cond (beginsOther f) 0 (suc (formsBefore fs))

@@ -4,7 +4,7 @@ use Prim.Native.Nat.{ℕ, suc, _+_, _-_, _<_, _≤_}
 use mathlib.Core.Bool.{false}
 use mathlib.Core.List.{List, [], _∷_}
 use mathlib.Core.Logic.{_↔_}
-use mathlib.Core.Option.{none}
+use mathlib.Core.Option.{none, orElse}
 use mathlib.Core.Path.{_≡_, refl}
 use native.Mathlib.Omega.{arith}
 use native.Mathlib.Nat.{add-zero}
@@ -152,7 +152,7 @@ pub settled-grammatical : (plan : LockPlan) → Settled plan → Grammatical pla
 settled-grammatical plan x = record { some-procedure = x .some-proc; some-thread = x .some-thread; blocks = x .sound .filled }
 
 pub settled-accepted : (plan : LockPlan) → Settled plan → formsRefusal (forms plan) ≡ none
-unfolding formsRefusal breakingLine breaks pick
+unfolding formsRefusal breakingLine breaks pick orElse
 settled-accepted plan x =
     let k = settled-kept plan x in
     rw (

@@ -4,11 +4,11 @@ use Prim.Native.Nat.{ℕ}
 use mathlib.Core.Bool.{Bool, true, false, _&&_}
 use mathlib.Core.List.{List, [], _∷_, _++_, List·Memᴰ, List·Memᴰ·not-nil, List·Memᴰ·cases-cons, Memᴰ·append-left}
 use mathlib.Core.Logic.{⊎-elim}
-use mathlib.Core.Option.{Option, none, some}
+use mathlib.Core.Option.{Option, none, some, orElse, bind}
 use mathlib.Core.Path.{_≡_, refl, sym, ap₂, subst}
 use lib.Dec.{T, eqb, eqb→eq}
 use Rattle.laws.specs.Bytes.{equal}
-use Rattle.laws.specs.Ascending.{insert, ascending}
+use Rattle.laws.specs.Ascending.{insertOnce, ascending}
 use Rattle.laws.specs.Choice.{pick}
 use Rattle.laws.specs.Mask.{bit}
 use Rattle.laws.proofs.Tests.{T-and}
@@ -53,9 +53,9 @@ right (e ∷ es) = comesOut (e .text) (e .outcome) && right es
 examples-right : T (right (reference ++ limits))
 unfolding right comesOut reference limits rule3 rule4 rule5 rule678 rule9 copies loops eithers kindOf planKind twoKind threadKind callKind
     holdKind numbered wordKind betweenWord afterWord numberOf appendDigit leadingOf digitOf split formsIn formsOf unreadable unreadableLine
-    pick equal inFront behind planIn among only closeBlock onClose advanceOf misplaced misplacedLine counted overLimit testedBy leastBad
+    pick orElse bind equal inFront behind planIn among only closeBlock onClose advanceOf misplaced misplacedLine counted overLimit testedBy leastBad
     numberIn breaks breaking breakingLine tooLong formsRefusal readerRefusal planOf procLineFrom lowestFrom procRefusal tooLarge
-    tooManyPairs planRefusal bodyIn _⨾_ sizeWith sizeAt sizeOf sizes threadSizes heldFrom pairsWith pairsAt pairList up down insert
+    tooManyPairs planRefusal bodyIn _⨾_ sizeWith sizeAt sizeOf sizes threadSizes heldFrom pairsWith pairsAt pairList up down insertOnce
     ascending move compatible withAll apart threadAt stepIn step run start bit any unmet searchFrom atHold round rounds written
     soundFrom all sameList wordsFrom sameBelow setOf stuckAre answers passes
 examples-right = tt

@@ -4,7 +4,8 @@ use native.Mathlib.Numerals.{add-one}
 use native.Mathlib.Omega.{arith}
 use mathlib.Core.Path.{_≡_, refl, sym, ap, _∙_}
 use mathlib.Core.List.{List, [], _∷_, _++_, map, append-nil}
-use mathlib.Core.Option.{Option, none, some, Option·none-ne-some}
+use mathlib.Core.Option.{Option, none, some, Option·none-ne-some, orElse}
+use Rattle.laws.proofs.Tests.{first-none}
 use borrow.Author.Tests.{lt-ltb, le-ltb}
 use lib.ListN.{length, take, set, length-map, length-take}
 use lib.Seq.{length-take-le, take-suc-set, append-snoc}
@@ -13,7 +14,6 @@ use Rattle.text.specs.declared.Line.{Line}
 use Rattle.text.specs.declared.Line.the-variants.{Read}
 use Rattle.text.specs.declared.Line.the-variants as line
 use Rattle.text.specs.Lines.{lineAt, formsOf, unreadableLine}
-use Rattle.laws.specs.Choice.{orElse}
 use Rattle.text.proofs.Splits.{few-forms}
 use Rattle.text.proofs.Reading.{formsFrom, unreadableFrom, next-forms, next-unreadable, next-later, next-within}
 use Rattle.text.proofs.Reading.{next-small, refused-rule, refused-line, ended-forms, ended-readable}
@@ -91,23 +91,19 @@ accepted-count (some r) m n e = let z : _≡_ {A = ℕ} 0 1 = cc in absurd (omeg
 -- ---- the rules 2, 3, and then those over the table
 
 pub plan-long : (text table : List ℕ) → 32768 < length text → Tabled (readerRefusal text) text (Refused 2 0) table
-unfolding readerRefusal tooLong readingOf
+unfolding readerRefusal tooLong orElse readingOf
 plan-long text table h = rw (lt-ltb 32768 (length text) h) (record { answer = refl; forms = λ e. absurd (Option·none-ne-some _ (sym e)) })
 
 -- of a text that is not too long the first rule is 3
 from-rule-3 : (text : List ℕ) → length text ≤ 32768 → readerRefusal text ≡ orElse (refusedAt 3 (unreadableLine text)) (formsRefusal (formsOf text))
-unfolding readerRefusal tooLong
+unfolding readerRefusal tooLong orElse
 from-rule-3 text h = rw (le-ltb 32768 (length text) h)
-
-none-first : (a b : Option Refusal) → orElse a b ≡ none → a ≡ none
-none-first none b e = refl
-none-first (some r) b e = e
 
 module _ (text table : List ℕ) (q : Reading) (t : Tabled (refusedAt 3 (unreadableLine text)) text q table) (h : length text ≤ 32768) where
   pub plan-unreadable : (x y : ℕ) → q ≡ Refused x y → Tabled (readerRefusal text) text q table
   plan-unreadable x y g = record {
     answer = rw (from-rule-3 text h) (first-refuses (refusedAt 3 (unreadableLine text)) (formsRefusal (formsOf text)) q (length (formsOf text)) x y (t .answer) g);
-    forms = λ e. t .forms (none-first (refusedAt 3 (unreadableLine text)) (formsRefusal (formsOf text)) (sym (from-rule-3 text h) ∙ e));
+    forms = λ e. t .forms (first-none (refusedAt 3 (unreadableLine text)) (formsRefusal (formsOf text)) (sym (from-rule-3 text h) ∙ e) .0);
   }
 
   module _ (n : ℕ) (g : q ≡ Accepted n) where
@@ -128,6 +124,7 @@ module _ (text table : List ℕ) (q : Reading) (t : Tabled (refusedAt 3 (unreada
 
     pub plan-readable : (r : Reading) → r ≡ readingOf (formsRefusal (tableForms (take (n - 0) table))) (length (take (n - 0) table))
         → Tabled (readerRefusal text) text r table
+    unfolding orElse
     plan-readable r e =
         let z : n - 0 ≡ length (formsOf text) = omega (arith, plan-count) in
         let none-refused : refusedAt 3 (unreadableLine text) ≡ none =

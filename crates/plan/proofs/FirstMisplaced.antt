@@ -1,7 +1,7 @@
 -- Rule 4 names the first line with which no plan begins, or one more than the last (`structure-first`). From each state some forms lead to
 -- acceptance, so what the machine has read begins a plan; a form without a place is refused whatever follows it.
 use Prim.Native.Nat.{ℕ, suc, _+_, _-_, _<_, _≤_}
-use mathlib.Core.Bool.{Bool, true, false}
+use mathlib.Core.Bool.{Bool, true, false, cond}
 use mathlib.Core.List.{List, [], _∷_, _++_, append-assoc, append-nil}
 use mathlib.Core.Logic.{_⊎_, inl, inr, ⊎-elim, _↔_}
 use mathlib.Core.Option.{Option, none, some, Option·none-ne-some, Option·some-injective}
@@ -10,7 +10,6 @@ use native.Mathlib.Omega.{arith}
 use lib.ListN.{length, take, drop, take-append-drop}
 use lib.Seq.{take-take, take-all}
 use lib.Dec.{eqb}
-use Rattle.laws.specs.Choice.{if}
 use Rattle.laws.proofs.Tests.{lt-or-le}
 use Rattle.text.specs.declared.Form.{Form}
 use Rattle.plan.specs.Structure.{complete, misplaced, misplacedLine}
@@ -98,7 +97,7 @@ refuses-later x fs line n r = record {
   refused = λ h gs. after-step x line (take (suc (r .place)) fs ++ gs) ∙ r .refused (omega arith) gs;
 }
 
-ended : (line n : ℕ) (b : Bool) → if b none (some line) ≡ some n → line ≡ n
+ended : (line n : ℕ) (b : Bool) → cond b none (some line) ≡ some n → line ≡ n
 ended line n true h = absurd (Option·none-ne-some n h)
 ended line n false h = Option·some-injective line n h
 

@@ -2,12 +2,13 @@
 use Prim.Native.Nat.{ℕ, suc, _≤_}
 use mathlib.Core.Bool.{Bool, true, false}
 use mathlib.Core.List.{List, [], _∷_}
-use mathlib.Core.Option.{Option, none, some, Option·some-ne-none}
+use mathlib.Core.Option.{Option, none, some, Option·some-ne-none, orElse}
 use mathlib.Core.Path.{_≡_, refl}
 use native.Mathlib.Omega.{arith}
 use lib.Dec.{ltb}
+use Rattle.laws.proofs.Tests.{first-none}
 use borrow.Author.Tests.{ltb-false}
-use Rattle.laws.specs.Choice.{pick, orElse}
+use Rattle.laws.specs.Choice.{pick}
 use Rattle.text.specs.declared.Form.{Form}
 use Rattle.plan.specs.declared.Counts.{Counts}
 use Rattle.plan.specs.Limits.{counted, overLimit, breaks, lineIf, breaking, breakingLine, noCounts}
@@ -41,10 +42,6 @@ kept-from (f ∷ fs) c line five six seven eight =
     let z = unnamed (breaks 7 d f) line (breaking 7 d (suc line) fs) seven in
     let u = unnamed (breaks 8 d f) line (breaking 8 d (suc line) fs) eight in
     (record { limits = x .0; lock = y .0; callee = z .0; thread = u .0 }, kept-from fs d (suc line) (x .1) (y .1) (z .1) (u .1))
-
-pub first-none : {A : Type 0} (o p : Option A) → orElse o p ≡ none → (o ≡ none) × (p ≡ none)
-first-none none p h = (refl, h)
-first-none (some a) p h = absurd (Option·some-ne-none a h)
 
 no-line : (rule : ℕ) (o : Option ℕ) → refusedAt rule o ≡ none → o ≡ none
 no-line rule none h = refl

@@ -3,16 +3,16 @@ use Prim.Native.Nat.{ℕ, zero, suc, _+_, _-_, _<_, _≤_}
 use native.Mathlib.Numerals.{add-one}
 use native.Mathlib.Omega.{arith}
 use mathlib.Core.Path.{_≡_, refl, sym, ap, _∙_}
-use mathlib.Core.Bool.{Bool, true, false}
-use mathlib.Core.List.{List, _∷_, map}
-use mathlib.Core.Option.{Option, none, some}
+use mathlib.Core.Bool.{Bool, true, false, cond}
+use mathlib.Core.List.{List, _∷_, map, tail}
+use mathlib.Core.Option.{Option, none, some, orElse}
 use native.Mathlib.Nat.{le-refl}
 use lib.Dec.{eqb, leb}
 use borrow.Author.Needs.{needs}
 use borrow.Author.Tests.{eq-eqb, ne-eqb}
 use lib.ListN.{length, drop, getD, set, drop-of-length-le}
 use lib.Seq.{drop-cons, getD-set-same, getD-set-other}
-use Rattle.laws.specs.Choice.{if, pick, orElse}
+use Rattle.laws.specs.Choice.{pick}
 use Rattle.text.specs.declared.Form.{Form}
 use Rattle.text.specs.declared.Form.the-variants.{Plan, Proc, Thread, Close, Skip, Call, Hold, Loop, Either, One, Two}
 use Rattle.text.specs.Forms.{numberIn}
@@ -22,7 +22,7 @@ use Rattle.plan.specs.declared.Reading.{Reading}
 use Rattle.plan.specs.declared.Reading.the-variants.{Accepted, Refused}
 use Rattle.plan.specs.declared.Counts.{Counts}
 use Rattle.plan.specs.Table.{codeOf, formAt}
-use Rattle.plan.specs.Structure.{innermost, stackOf, tail, advanceOf, goOn, complete, misplaced}
+use Rattle.plan.specs.Structure.{innermost, stackOf, advanceOf, goOn, complete, misplaced}
 use Rattle.plan.specs.Rules.{Refusal, refusedAt, readingOf}
 use Rattle.plan.specs.Limits.{Small, counts, noCounts, counted, testedBy, leastBad, breaks, lineIf, breaking}
 
@@ -117,7 +117,7 @@ module _ (table : List ℕ) (mode d i : ℕ) (stack : List ℕ) (r : Option ℕ)
     unfolding readingOf
     pass-misplaced n a = ap (λ x. readingOf (refusedAt 4 x) n) (went Misplaced a)
 
-  at-end : length table ≤ i → misplaced mode (stackOf stack d) (i + 1) (map formAt (drop i table)) ≡ r → if (eqb mode complete) none (some (i + 1)) ≡ r
+  at-end : length table ≤ i → misplaced mode (stackOf stack d) (i + 1) (map formAt (drop i table)) ≡ r → cond (eqb mode complete) none (some (i + 1)) ≡ r
   unfolding misplaced
   at-end h p = rw (drop-of-length-le table h) at p
 
@@ -186,11 +186,11 @@ rule-kept table rule i c r h k p =
 -- ---- the rules one after the other
 
 pub first-refuses : (a b : Option Refusal) (q : Reading) (n x y : ℕ) → q ≡ readingOf a n → q ≡ Refused x y → q ≡ readingOf (orElse a b) n
-unfolding readingOf
+unfolding readingOf orElse
 first-refuses none b q n x y e g = let z : _≡_ {A = ℕ} 0 1 = cc in absurd (omega arith)
 first-refuses (some w) b q n x y e g = e
 
 pub first-passes : (a b : Option Refusal) (q r : Reading) (n m : ℕ) → q ≡ readingOf a n → q ≡ Accepted m → r ≡ readingOf b n → r ≡ readingOf (orElse a b) n
-unfolding readingOf
+unfolding readingOf orElse
 first-passes none b q r n m e g h = h
 first-passes (some w) b q r n m e g h = let z : _≡_ {A = ℕ} 0 1 = cc in absurd (omega arith)

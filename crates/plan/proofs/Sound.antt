@@ -8,6 +8,7 @@ use mathlib.Core.Path.{_≡_, refl, subst}
 use native.Mathlib.Omega.{arith}
 use native.Mathlib.Nat.{add-zero}
 use lib.ListN.{length, getD}
+use Rattle.laws.proofs.Tests.{first-none}
 use borrow.Author.Tests.{ltb-false, leb-false}
 use Rattle.text.specs.declared.Form.{Form}
 use Rattle.text.specs.declared.Form.the-variants.{Close, Two}
@@ -23,7 +24,7 @@ use Rattle.plan.specs.Table.{tableForms}
 use Rattle.plan.specs.Rules.{refusedAt, tooLong, formsRefusal, readerRefusal, planOf}
 use Rattle.plan.proofs.Trees.{later-blocks}
 use Rattle.plan.proofs.Denotes.{accepted-denotes}
-use Rattle.plan.proofs.Kept.{Kept, kept, first-none, within-limits}
+use Rattle.plan.proofs.Kept.{Kept, kept, within-limits}
 
 -- In the n-th procedure, where t threads have been read:
 module _ (n t : ℕ) where

@@ -1,13 +1,12 @@
 -- The rules in checking order, as three refusals: the plan's, by the reader's first, the verdict's, the pair list's. 01, "Rules, in checking order": "A refusal
 -- returns its number and a line (0 where none is named) .. Each rule is tested over the whole text before the next."
 use Prim.Native.Nat.{ℕ, zero, suc, _-_}
-use mathlib.Core.Bool.{Bool}
+use mathlib.Core.Bool.{Bool, cond}
 use mathlib.Core.List.{List, [], _∷_}
-use mathlib.Core.Option.{Option, none, some}
+use mathlib.Core.Option.{Option, none, some, orElse}
 use mathlib.Core.Path.{_≡_}
 use lib.Dec.{ltb, leb, eqb}
 use lib.ListN.{length, take}
-use Rattle.laws.specs.Choice.{if, orElse}
 use Rattle.text.specs.declared.Form.{Form}
 use Rattle.text.specs.declared.Form.the-variants.{Plan, Proc, Thread, Close, Skip, Call, Hold, Loop, Either, One, Two}
 use Rattle.text.specs.declared.Line.{Line}
@@ -39,7 +38,7 @@ refusedAt rule (some line) = some (refusal rule line)
 
 -- a rule that names no line
 abbrev pub refusedIf : ℕ → Bool → Option Refusal
-refusedIf rule b = if b (some (refusal rule 0)) none
+refusedIf rule b = cond b (some (refusal rule 0)) none
 
 -- 2: "The text has more than 32,768 bytes (line 0)."
 unfoldable pub tooLong : List ℕ → Option Refusal
@@ -67,7 +66,7 @@ unfoldable pub procLineFrom : ℕ → ℕ → List Form → ℕ
 procLineFrom line p [] = 0
 procLineFrom line p (f ∷ fs) = elim f [
   | Plan ↦ procLineFrom (suc line) p fs
-  | Proc ↦ if (eqb p 0) line (procLineFrom (suc line) (p - 1) fs)
+  | Proc ↦ cond (eqb p 0) line (procLineFrom (suc line) (p - 1) fs)
   | Thread n ↦ procLineFrom (suc line) p fs
   | Close ↦ procLineFrom (suc line) p fs
   | Skip ↦ procLineFrom (suc line) p fs
@@ -82,7 +81,7 @@ procLineFrom line p (f ∷ fs) = elim f [
 -- the lowest of n numbers from p on that passes a test
 unfoldable pub lowestFrom : (ℕ → Bool) → ℕ → ℕ → Option ℕ
 lowestFrom test p zero = none
-lowestFrom test p (suc n) = if (test p) (some p) (lowestFrom test (suc p) n)
+lowestFrom test p (suc n) = cond (test p) (some p) (lowestFrom test (suc p) n)
 
 -- "`(proc` line of the lowest such", of the procedures that pass a test
 unfoldable pub procRefusal : ℕ → List Form → (ℕ → Bool) → Option Refusal

@@ -2,12 +2,13 @@
 -- procedure. An either's own bracket needs no entry on the stack: its two blocks have theirs, and behind the second the mode alone asks for the either's end.
 -- The machine accepts exactly the forms of grammatical plans (theorem `structure-plan`), and otherwise names the first line with which no plan begins, or one
 -- more than the last line (theorem `structure-first`). 01, "The plan text" and rule 4.
+use mathlib.Core.Bool.{cond}
 use Prim.Native.Nat.{ℕ, zero, suc}
-use mathlib.Core.List.{List, [], _∷_}
+use mathlib.Core.List.{List, [], _∷_, tail}
 use mathlib.Core.Option.{Option, none, some}
 use lib.Dec.{eqb}
 use lib.ListN.{getD}
-use Rattle.laws.specs.Choice.{if, pick}
+use Rattle.laws.specs.Choice.{pick}
 use Rattle.text.specs.declared.Form.{Form}
 use Rattle.text.specs.declared.Form.the-variants.{Plan, Proc, Thread, Close, Skip, Call, Hold, Loop, Either, One, Two}
 use Rattle.plan.specs.declared.Advance.{Advance}
@@ -108,10 +109,6 @@ advanceOf mode top Either = inBlock mode (Stay needsOne)
 advanceOf mode top One = only needsOne mode (Push ofOne)
 advanceOf mode top Two = only needsTwo mode (Push ofTwo)
 
-abbrev pub tail : List ℕ → List ℕ
-tail [] = []
-tail (k ∷ ks) = ks
-
 -- the machine after a step, or the line of a form without a place
 abbrev pub goOn : Advance → List ℕ → ℕ → (ℕ → List ℕ → Option ℕ) → Option ℕ
 goOn (Stay mode) stack line k = k mode stack
@@ -122,7 +119,7 @@ goOn Misplaced stack line k = some line
 -- "A line stands where the text's structure has no place for it (first such line), or the text ends too early (one more than the last line)": in a mode, with a
 -- stack of open brackets, for the forms from a line on
 unfoldable pub misplaced : ℕ → List ℕ → ℕ → List Form → Option ℕ
-misplaced mode stack line [] = if (eqb mode complete) none (some line)
+misplaced mode stack line [] = cond (eqb mode complete) none (some line)
 misplaced mode stack line (f ∷ fs) = goOn (advanceOf mode (innermost stack) f) stack line (λ mode′ stack′. misplaced mode′ stack′ (suc line) fs)
 
 -- rule 4

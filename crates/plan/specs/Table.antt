@@ -1,8 +1,8 @@
 -- A form as a word of a table: its kind plus 16 times its number. A form is read back from its word (theorem `form-of-code`).
+use mathlib.Core.Bool.{cond}
 use Prim.Native.Nat.{ℕ, _+_, _*_, _/_, _%_}
 use mathlib.Core.List.{List, map}
 use lib.Dec.{eqb}
-use Rattle.laws.specs.Choice.{if}
 use Rattle.text.specs.declared.Form.{Form}
 use Rattle.text.specs.declared.Form.the-variants.{Plan, Proc, Thread, Close, Skip, Call, Hold, Loop, Either, One, Two}
 
@@ -26,16 +26,16 @@ numberAt w = w / 16 % 65536
 -- the form of a word; a word of no form reads as `)`
 unfoldable pub formAt : ℕ → Form
 formAt w =
-    if (eqb (w % 16) 0) Plan
-    (if (eqb (w % 16) 1) Proc
-    (if (eqb (w % 16) 2) (Thread (numberAt w))
-    (if (eqb (w % 16) 4) Skip
-    (if (eqb (w % 16) 5) (Call (numberAt w))
-    (if (eqb (w % 16) 6) (Hold (numberAt w))
-    (if (eqb (w % 16) 7) Loop
-    (if (eqb (w % 16) 8) Either
-    (if (eqb (w % 16) 9) One
-    (if (eqb (w % 16) 10) Two
+    cond (eqb (w % 16) 0) Plan
+    (cond (eqb (w % 16) 1) Proc
+    (cond (eqb (w % 16) 2) (Thread (numberAt w))
+    (cond (eqb (w % 16) 4) Skip
+    (cond (eqb (w % 16) 5) (Call (numberAt w))
+    (cond (eqb (w % 16) 6) (Hold (numberAt w))
+    (cond (eqb (w % 16) 7) Loop
+    (cond (eqb (w % 16) 8) Either
+    (cond (eqb (w % 16) 9) One
+    (cond (eqb (w % 16) 10) Two
     Close)))))))))
 
 -- the forms that a table holds

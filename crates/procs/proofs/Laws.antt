@@ -3,14 +3,13 @@ use Prim.Native.Nat.{ℕ, suc, _+_, _-_, _<_, _≤_, min}
 use native.Mathlib.Numerals.{add-one}
 use native.Mathlib.Omega.{arith}
 use mathlib.Core.Path.{_≡_, sym, ap, _∙_}
-use mathlib.Core.Bool.{Bool, true, false, _||_}
+use mathlib.Core.Bool.{Bool, true, false, _||_, cond}
 use mathlib.Core.List.{List, [], _∷_, _++_, map, map-append, append-nil}
 use mathlib.Core.Option.{Option, none, some}
 use borrow.Author.Tests.{lt-ltb, le-ltb}
 use lib.Dec.{ltb}
 use lib.ListN.{length, take, drop, getD, set, replicate, length-take, length-append, length-set, replicate-append-replicate, drop-of-length-le}
 use lib.Seq.{take-suc, take-suc-set, drop-cons}
-use Rattle.laws.specs.Choice.{if}
 use Rattle.laws.proofs.Writes.{emit-more}
 use Rattle.text.specs.declared.Form.{Form}
 use Rattle.text.specs.declared.Form.the-variants.{Call}
@@ -132,7 +131,7 @@ module _ (table sizes : List ℕ) (size i r : ℕ) (p : min 1025 (size + costFro
   size-done h = let e : min 1025 (size + 0) ≡ r = rw (drop-of-length-le table h) at p in omega arith
 
   module _ (f : Form) (q : Bool) (h : i < length table) (e : f ≡ formAt (getD table i 0)) (b : q ≡ (isProc f || isThread f)) where
-    size-turn : min 1025 (size + if q 0 (costOf (entryOf sizes) f + costFrom (entryOf sizes) (map formAt (drop (i + 1) table)))) ≡ r
+    size-turn : min 1025 (size + cond q 0 (costOf (entryOf sizes) f + costFrom (entryOf sizes) (map formAt (drop (i + 1) table)))) ≡ r
     unfolding costFrom
     size-turn = rw (b, e, add-one) (rw (drop-cons table i 0 h) at p)
 
@@ -224,7 +223,7 @@ large-first table procs = let z : procs - 0 ≡ procs = omega arith in rw z
 
 module _ (table sizes : List ℕ) (procs p : ℕ) (c : procs ≡ length (tablePlan table .procs)) (s : Sized table sizes)
     (e : lowestFrom (large table) p (procs - p) ≡ lowestFrom (large table) 0 procs) where
-  large-turn : p < procs → if (large table p) (some p) (lowestFrom (large table) (p + 1) (procs - (p + 1))) ≡ lowestFrom (large table) 0 procs
+  large-turn : p < procs → cond (large table p) (some p) (lowestFrom (large table) (p + 1) (procs - (p + 1))) ≡ lowestFrom (large table) 0 procs
   unfolding lowestFrom
   large-turn h = let z : procs - p ≡ suc (procs - (p + 1)) = omega arith in rw add-one (rw (z, add-one) at e)
 

@@ -3,14 +3,13 @@ use Prim.Native.Nat.{ℕ, zero, suc, _+_, _<_, _≤_}
 use native.Mathlib.Nat.{eq-or-lt-of-le}
 use native.Mathlib.Omega.{arith}
 use mathlib.Core.Path.{_≡_, refl, sym, ap, _∙_}
-use mathlib.Core.Bool.{Bool, true, false}
+use mathlib.Core.Bool.{Bool, true, false, cond}
 use mathlib.Core.List.{List}
 use mathlib.Core.Logic.{⊎-elim}
 use mathlib.Core.Option.{Option, none, some, Option·none-ne-some}
 use borrow.Author.Tests.{ltb-false}
 use lib.Dec.{ltb}
 use lib.ListN.{length, getD}
-use Rattle.laws.specs.Choice.{if}
 use Rattle.text.specs.declared.Form.{Form}
 use Rattle.semantics.specs.Sizes.{sizeOf}
 use Rattle.plan.specs.Grammar.{planIn}
@@ -27,11 +26,11 @@ lowest-none test (suc n) p q e h k =
     ⊎-elim (λ (i : p ≡ q). ap test (sym i) ∙ first (test p) e)
     (λ (l : p < q). lowest-none test n (suc p) q (later (test p) e) (omega arith) (omega arith)) (eq-or-lt-of-le h)
   where
-    first : (b : Bool) → if b (some p) (lowestFrom test (suc p) n) ≡ none → b ≡ false
+    first : (b : Bool) → cond b (some p) (lowestFrom test (suc p) n) ≡ none → b ≡ false
     first true z = absurd (Option·none-ne-some p (sym z))
     first false z = refl
 
-    later : (b : Bool) → if b (some p) (lowestFrom test (suc p) n) ≡ none → lowestFrom test (suc p) n ≡ none
+    later : (b : Bool) → cond b (some p) (lowestFrom test (suc p) n) ≡ none → lowestFrom test (suc p) n ≡ none
     later true z = absurd (Option·none-ne-some p (sym z))
     later false z = z
 

@@ -1,9 +1,8 @@
 -- Passes over the forms of a plan, each as a function on a list of forms: where the procedures begin, the threads, what the forms of a procedure cost.
 use Prim.Native.Nat.{ℕ, suc, _+_, min}
-use mathlib.Core.Bool.{Bool, true, false, _||_}
+use mathlib.Core.Bool.{Bool, true, false, _||_, cond}
 use mathlib.Core.List.{List, [], _∷_}
 use lib.ListN.{drop, getD}
-use Rattle.laws.specs.Choice.{if}
 use Rattle.text.specs.declared.Form.{Form}
 use Rattle.text.specs.declared.Form.the-variants.{Plan, Proc, Thread, Close, Skip, Call, Hold, Loop, Either, One, Two}
 use Rattle.text.specs.Forms.{numberIn}
@@ -70,7 +69,7 @@ costOf s Two = 0
 -- what the forms up to the next procedure or thread cost
 unfoldable pub costFrom : (ℕ → ℕ) → List Form → ℕ
 costFrom s [] = 0
-costFrom s (f ∷ fs) = if (isProc f || isThread f) 0 (costOf s f + costFrom s fs)
+costFrom s (f ∷ fs) = cond (isProc f || isThread f) 0 (costOf s f + costFrom s fs)
 
 -- the entry of procedure p in a table, 0 where there is none
 abbrev pub entryOf : List ℕ → ℕ → ℕ

@@ -3,14 +3,12 @@
 use Prim.Native.Nat.{ℕ, zero, suc, _+_, _-_, _*_, _/_, _%_, _^_, _<_, _≤_}
 use native.Mathlib.Omega.{arith}
 use mathlib.Core.Path.{_≡_, refl, sym, ap, _∙_}
-use mathlib.Core.Bool.{Bool, true, false}
-use mathlib.Core.List.{List, [], _∷_, _++_, List·Memᴰ, List·Memᴰ·append-cases, List·Memᴰ·eq-of-singleton}
+use mathlib.Core.Bool.{Bool, true, false, cond}
+use mathlib.Core.List.{List, [], _∷_, _++_, List·Memᴰ, List·Memᴰ·append-cases, List·Memᴰ·eq-of-singleton, foldl}
 use mathlib.Core.Logic.{⊎-elim}
 use lib.Dec.{ltb}
 use lib.ListN.{length, getD, set, length-append, List·getD-append}
 use borrow.Author.Tests.{lt-ltb, le-ltb}
-use Rattle.laws.specs.Choice.{if}
-use Rattle.laws.specs.Fold.{foldl}
 use Rattle.laws.proofs.Tests.{lt-or-le}
 use Rattle.report_lines.specs.Lines.{digitsIn, digits, Wrote}
 use Rattle.report_lines.proofs.Writing.{wrote-none, wrote-byte}
@@ -45,12 +43,11 @@ unfoldable pub valueOf : List ℕ → ℕ
 valueOf l = foldl (λ v b. v * 10 + (b - 48)) 0 l
 
 fold-snoc : (f : ℕ → ℕ → ℕ) (s : ℕ) (l : List ℕ) (b : ℕ) → foldl f s (l ++ (b ∷ [])) ≡ f (foldl f s l) b
-unfolding foldl
 fold-snoc f s [] b = refl
 fold-snoc f s (x ∷ l) b = fold-snoc f (f s x) l b
 
 pub digits-value : (n : ℕ) → valueOf (digits n) ≡ n
-unfolding valueOf foldl
+unfolding valueOf
 digits-value = by-digits (λ n. valueOf (digits n) ≡ n) (λ n h. rw (digits-one n h) (omega arith))
     (λ n h e. rw (digits-more n h, fold-snoc (λ v b. v * 10 + (b - 48)) 0 (digits (n / 10)) (48 + n % 10), e) (omega arith))
 

@@ -5,14 +5,13 @@ use mathlib.Core.List.{List, [], _∷_, _++_}
 use mathlib.Core.Path.{_≡_}
 use lib.Dec.{ltb}
 use lib.ListN.{length, take, drop}
-use Rattle.laws.specs.Choice.{if}
 use Rattle.laws.specs.Bytes.{bytes}
 use Rattle.laws.specs.Mask.{inMask}
 
 -- "Numbers .. are decimal": the digits of n, highest first, without a leading zero, if there are no more than k
 unfoldable pub digitsIn : ℕ → ℕ → List ℕ
 digitsIn zero n = []
-digitsIn (suc k) n = if (ltb n 10) ((48 + n) ∷ []) (digitsIn k (n / 10) ++ ((48 + n % 10) ∷ []))
+digitsIn (suc k) n = cond (ltb n 10) ((48 + n) ∷ []) (digitsIn k (n / 10) ++ ((48 + n % 10) ∷ []))
 
 -- right for every number, since n has fewer than n + 2 digits (theorems `digits-bytes`, `digits-value`, `digits-lead`)
 unfoldable pub digits : ℕ → List ℕ

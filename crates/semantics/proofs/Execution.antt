@@ -1,13 +1,12 @@
 -- The executions of one thread by itself: as a list of choices (`exec`), and as the states after 0, 1, 2 .. of them (`Execution`).
 use Prim.Native.Nat.{ℕ, zero, suc, _≤_, _<_}
 use mathlib.Core.List.{List, [], _∷_, _++_}
-use mathlib.Core.Option.{Option, some, Option·getD, Option·some-injective}
+use mathlib.Core.Option.{Option, some, Option·getD, Option·some-injective, bind}
 use mathlib.Core.Path.{_≡_, refl, sym, ap, _∙_, subst}
 use native.Mathlib.Nat.{not-suc-le-zero, le-of-suc-le-suc}
 use native.Mathlib.Omega.{arith}
 use lib.ListN.{length, getD}
 use Rattle.semantics.specs.Plan.{Block, bodyIn}
-use Rattle.laws.specs.Choice.{bind}
 use Rattle.semantics.specs.Run.{ThreadState, move}
 use Rattle.laws.proofs.Tests.{bind-inv}
 use Rattle.semantics.proofs.Remainders.{Plain}
@@ -21,7 +20,7 @@ exec ps x (c ∷ cs) = bind (move ps c (x .rest) (x .count)) (λ y. exec ps y cs
 
 pub exec-append : (ps : List Block) (t m t′ : ThreadState) (cs ds : List ℕ) → exec ps t cs ≡ some m → exec ps m ds ≡ some t′
     → exec ps t (cs ++ ds) ≡ some t′
-unfolding exec
+unfolding exec bind
 exec-append ps t m t′ [] ds g h = subst (λ x. exec ps x ds ≡ some t′) (sym (Option·some-injective t m g)) h
 exec-append ps t m t′ (c ∷ cs) ds g h =
     let (n, moveOrStay, rest) = bind-inv (move ps c (t .rest) (t .count)) (λ y. exec ps y cs) m g in
@@ -31,7 +30,7 @@ exec-append ps t m t′ (c ∷ cs) ds g h =
 pub exec-invariant : (ps : List Block) (P : ThreadState → Type 0)
     → ((c : ℕ) (t t′ : ThreadState) → Transition ps c (t .rest) (t .count) (t′ .rest) (t′ .count) → P t → P t′)
     → (t : ThreadState) (cs : List ℕ) (t′ : ThreadState) → exec ps t cs ≡ some t′ → P t → P t′
-unfolding exec
+unfolding exec bind
 exec-invariant ps P k t [] t′ h p = subst P (Option·some-injective t t′ h) p
 exec-invariant ps P k t (c ∷ cs) t′ h p =
     let (m, moveOrStay, rest) = bind-inv (move ps c (t .rest) (t .count)) (λ y. exec ps y cs) t′ h in
@@ -57,7 +56,7 @@ moved-some ps c x y h = ap (λ o. Option·getD o x) h
 
 pub exec-steps : (ps : List Block) (x y : ThreadState) (cs : List ℕ) → exec ps x cs ≡ some y → (j : ℕ) → j < length cs
     → move ps (getD cs j 0) ((stateAfter ps x cs j) .rest) ((stateAfter ps x cs j) .count) ≡ some (stateAfter ps x cs (suc j))
-unfolding exec stateAfter
+unfolding exec stateAfter bind
 exec-steps ps x y [] h j b = absurd (not-suc-le-zero b)
 exec-steps ps x y (c ∷ cs) h zero b =
     let m = bind-inv (move ps c (x .rest) (x .count)) (λ z. exec ps z cs) y h in
@@ -67,7 +66,7 @@ exec-steps ps x y (c ∷ cs) h (suc j) b =
     exec-steps ps (moveOrStay ps c x) y cs (ap (λ z. exec ps z cs) (moved-some ps c x (m .0) (m .1)) ∙ m .2) j (le-of-suc-le-suc b)
 
 pub exec-last : (ps : List Block) (x y : ThreadState) (cs : List ℕ) → exec ps x cs ≡ some y → stateAfter ps x cs (length cs) ≡ y
-unfolding exec stateAfter
+unfolding exec stateAfter bind
 exec-last ps x y [] h = Option·some-injective x y h
 exec-last ps x y (c ∷ cs) h =
     let m = bind-inv (move ps c (x .rest) (x .count)) (λ z. exec ps z cs) y h in

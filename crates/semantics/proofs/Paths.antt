@@ -7,7 +7,7 @@ use mathlib.Core.List.{List, [], _∷_, _++_, append-assoc, append-nil, map, map
 use mathlib.Core.List.{List·Memᴰ, List·Memᴰ·head, List·Memᴰ·not-nil, Memᴰ·append-left, Memᴰ·append-right, List·Memᴰ·append-cases}
 use mathlib.Core.Bool.{Bool, true, false, cond, _&&_}
 use mathlib.Core.Logic.{_⊎_, inl, inr, ⊎-elim}
-use mathlib.Core.Option.{some}
+use mathlib.Core.Option.{some, bind}
 use mathlib.Core.Path.{_≡_, refl, sym, ap, _∙_}
 use native.Mathlib.Nat.{add-zero, eq-or-lt-of-le}
 use native.Mathlib.Numerals.{add-one}
@@ -16,7 +16,6 @@ use lib.Bits.{bitOr}
 use lib.ListN.{length, getD, take, length-append, length-map, List·getD-append}
 use lib.Seq.{getD-at, take-append-seam}
 use lib.Dec.{T, eqb, ltb, eqb→eq, eqb-refl}
-use Rattle.laws.specs.Choice.{bind}
 use Rattle.laws.proofs.Tests.{only, T-and, and-T, T-true, T-false, T-dec}
 use Rattle.semantics.specs.Plan.{Block, done, skip, call, hold, loop, either, end, _⨾_, bodyIn, Written, Sound}
 use Rattle.semantics.specs.Run.{ThreadState, thread, initial, unlocked, up, move}
@@ -178,7 +177,7 @@ module _ {ps : List Block} {x : ThreadState} {path : List ℕ} {m : ℕ} {cs : L
   -- one step more is written
   pub stands-put : (c m′ : ℕ) (cs′ : List ℕ) (b′ : Block) → c < 4 → move ps c b cs ≡ some (thread b′ cs′) → m′ ≡ held cs′ → length cs′ ≡ 32
       → Stands ps x (put path c m′) m′ cs′ b′
-  unfolding exec
+  unfolding exec bind
   stands-put c m′ cs′ b′ small moved mask locks = record { leads = leads; masks = masks; mask = mask; locks = locks }
     where
       back : choiceOf (stepOf c m′) ≡ c

@@ -4,7 +4,7 @@ use Prim.Native.Nat.{ℕ, _*_, _/_, _%_}
 use mathlib.Core.List.{List, [], _∷_, map}
 use mathlib.Core.Bool.{true, false, cond}
 use mathlib.Core.Logic.{⊎-elim, _≢_}
-use mathlib.Core.Option.{Option, some, Option·some-injective}
+use mathlib.Core.Option.{Option, some, Option·some-injective, bind}
 use mathlib.Core.Path.{_≡_, sym, ap, _∙_, subst}
 use native.Mathlib.Nat.{mul-mod-right, mul-div-cancel-left}
 use native.Mathlib.Omega.{arith}
@@ -12,7 +12,6 @@ use lib.ListN.{set}
 use lib.Seq.{getD-set-same, getD-set-other}
 use lib.Dec.{T, eqb}
 use Rattle.semantics.specs.Plan.{Block, hold}
-use Rattle.laws.specs.Choice.{bind}
 use Rattle.semantics.specs.Run.{ThreadState, thread, withAll, move, apart, everyone, step, run, start, initial}
 use Rattle.semantics.specs.Pairs.{wordOf, Critical, fresh, held}
 use Rattle.laws.proofs.Tests.{bind-inv, eqb-cases}
@@ -28,7 +27,7 @@ projection t (e ∷ es) = cond (eqb (e % 8) t) (e / 8 ∷ projection t es) (proj
 -- each thread's own steps are an execution of it alone
 pub projection-execution : (ps : List Block) (ts ts′ : List ThreadState) (es : List ℕ) → run ps ts es ≡ some ts′ → (t : ℕ)
     → exec ps (nth ts t) (projection t es) ≡ some (nth ts′ t)
-unfolding run step exec projection
+unfolding run step exec projection bind
 projection-execution ps ts ts′ [] h t = ap {B = Option ThreadState} (λ us. some (nth us t)) (Option·some-injective ts ts′ h)
 projection-execution ps ts ts′ (e ∷ es) h t =
     let p = bind-inv (step ps ts e) (λ us. run ps us es) ts′ h in
@@ -57,7 +56,7 @@ solo-step ps x y c h =
 
 -- an execution of one thread is a run of the gateway that has this thread alone
 pub execution-run : (ps : List Block) (x y : ThreadState) (cs : List ℕ) → exec ps x cs ≡ some y → run ps (x ∷ []) (map (λ c. 8 * c) cs) ≡ some (y ∷ [])
-unfolding exec run step
+unfolding exec run step bind
 execution-run ps x y [] h = ap {B = Option (List ThreadState)} (λ z. some (z ∷ [])) (Option·some-injective x y h)
 execution-run ps x y (c ∷ cs) h =
     let p = bind-inv (move ps c (x .rest) (x .count)) (λ z. exec ps z cs) y h in

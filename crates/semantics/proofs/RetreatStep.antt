@@ -4,13 +4,12 @@ use Prim.Native.Nat.{ℕ, suc, _+_, _*_, _≤_, _<_}
 use mathlib.Core.List.{List, _∷_}
 use mathlib.Core.Bool.{Bool}
 use mathlib.Core.Logic.{⊎-elim, _≢_}
-use mathlib.Core.Option.{Option, some}
+use mathlib.Core.Option.{Option, some, bind}
 use mathlib.Core.Path.{_≡_, sym, ap, _∙_, subst}
 use native.Mathlib.Omega.{arith}
 use lib.ListN.{length, getD, set}
 use lib.Dec.{T}
 use Rattle.semantics.specs.Plan.{Block}
-use Rattle.laws.specs.Choice.{bind}
 use Rattle.semantics.specs.Run.{ThreadState, move, apart, everyone, step, run}
 use Rattle.semantics.specs.Stuck.{Stuck}
 use Rattle.laws.proofs.Tests.{eq-or-ne}
@@ -59,7 +58,7 @@ module _ {ps : List Block} {n : ℕ} {P : ℕ → List ℕ} {s : ℕ → ℕ →
   -- thread k goes back by one step
   pub retreat-step : {bound : ℕ} {j : ℕ → ℕ} {es : List ℕ} {ts : List ThreadState} (k : ℕ) (j′ : ℕ → ℕ) → k < n → Lowered k j j′
       → T (apart everyone (earlier n s j k)) → Retreat ps n P s bound j es ts → Retreat ps n P s bound j′ ((k + 8 * getD (P k) (j′ k) 0) ∷ es) ts
-  unfolding run
+  unfolding run bind
   retreat-step {j = j} {es} {ts} k j′ b l a r = record {
     within = λ i c. omega (arith, lowered-le k j j′ l i, r .within i c);
     all-apart = subst (λ us. T (apart everyone us)) (lowered-joint k j j′ b l) a;

@@ -2,14 +2,13 @@
 -- Numbers cut off at the limit can be added and cut off again without a difference, so after d rounds entry p is the size of p with calls less than d deep, cut
 -- off at the limit (`rounds-at`). Where calls go to lower numbers alone, one ascending pass over the procedures is enough (`ordered-at`).
 use Prim.Native.Nat.{ℕ, zero, suc, _+_, _<_, _≤_, min}
-use mathlib.Core.List.{List, [], _∷_, _++_, map}
+use mathlib.Core.List.{List, [], _∷_, _++_, map, foldl}
 use mathlib.Core.Logic.{⊎-elim}
 use mathlib.Core.Path.{_≡_, refl, sym, ap, _∙_}
 use native.Mathlib.Nat.{eq-or-lt-of-le}
 use native.Mathlib.Omega.{arith}
 use lib.ListN.{length, getD, take, replicate, length-replicate, length-append, length-map, List·getD-append}
 use lib.Seq.{take-suc, getD-at, ext-getD}
-use Rattle.laws.specs.Fold.{foldl}
 use Rattle.semantics.specs.Plan.{Block, done, skip, call, hold, loop, either, end, bodyIn, Sound}
 use Rattle.semantics.specs.Sizes.{sizeWith, sizeAt, sizeOf}
 use Rattle.semantics.proofs.SizeDepth.{size-agree, size-unfolds}
@@ -42,7 +41,7 @@ abbrev pub addUpTo : {A : Type 0} → ℕ → (A → ℕ) → ℕ → A → ℕ
 addUpTo limit c a x = min limit (a + c x)
 
 pub saturate-fold : {A : Type 0} (limit : ℕ) (c : A → ℕ) (xs : List A) (a : ℕ) → a ≤ limit → foldl (addUpTo limit c) a xs ≡ min limit (a + costs c xs)
-unfolding foldl costs
+unfolding costs
 saturate-fold limit c [] a h = omega arith
 saturate-fold limit c (x ∷ xs) a h = saturate-fold limit c xs (min limit (a + c x)) (omega arith) ∙ omega arith
 

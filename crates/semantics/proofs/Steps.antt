@@ -3,14 +3,13 @@ use Prim.Native.Nat.{ℕ, zero, suc, _<_}
 use mathlib.Core.List.{List, [], _∷_}
 use mathlib.Core.Bool.{Bool, cond}
 use mathlib.Core.Logic.{⊎-elim}
-use mathlib.Core.Option.{Option, none, some, Option·some-injective, Option·none-ne-some}
+use mathlib.Core.Option.{Option, none, some, Option·some-injective, Option·none-ne-some, bind}
 use mathlib.Core.Path.{_≡_, refl, sym}
 use native.Mathlib.Nat.{not-suc-le-zero, le-of-suc-le-suc}
 use native.Mathlib.Omega.{arith}
 use lib.ListN.{length, set}
 use lib.Dec.{T}
 use Rattle.semantics.specs.Plan.{Block}
-use Rattle.laws.specs.Choice.{bind}
 use Rattle.semantics.specs.Run.{ThreadState, move, apart, threadAt, stepIn}
 use Rattle.laws.proofs.Tests.{bind-inv, T-dec, T-true, T-false}
 use Rattle.semantics.proofs.Apart.{nth}
@@ -33,20 +32,20 @@ moveOf ps ts t c = move ps c ((nth ts t) .rest) ((nth ts t) .count)
 
 module _ (S : ℕ → Bool) (ps : List Block) (ts : List ThreadState) (t c : ℕ) where
   pub step-some : (y : ThreadState) → t < length ts → moveOf ps ts t c ≡ some y → T (apart S (set ts t y)) → stepIn S ps ts t c ≡ some (set ts t y)
-  unfolding stepIn
+  unfolding stepIn bind
   step-some y b m a = rw (threadAt-nth ts t b, m, T-true (apart S (set ts t y)) a) refl
 
   pub step-none : (y : ThreadState) → t < length ts → moveOf ps ts t c ≡ some y → (T (apart S (set ts t y)) → ⊥) → stepIn S ps ts t c ≡ none
-  unfolding stepIn
+  unfolding stepIn bind
   step-none y b m a = rw (threadAt-nth ts t b, m, T-false (apart S (set ts t y)) a) refl
 
   pub step-cannot : t < length ts → moveOf ps ts t c ≡ none → stepIn S ps ts t c ≡ none
-  unfolding stepIn
+  unfolding stepIn bind
   step-cannot b m = rw (threadAt-nth ts t b, m) refl
 
   pub step-inv : (ts′ : List ThreadState) → stepIn S ps ts t c ≡ some ts′
       → (y : ThreadState) × (t < length ts) × (moveOf ps ts t c ≡ some y) × T (apart S (set ts t y)) × (ts′ ≡ set ts t y)
-  unfolding stepIn
+  unfolding stepIn bind
   step-inv ts′ h =
       let p = bind-inv (threadAt ts t) (λ x. bind (move ps c (x .rest) (x .count)) (λ y. cond (apart S (set ts t y)) (some (set ts t y)) none)) ts′ h in
       let q = bind-inv (move ps c ((p .0) .rest) ((p .0) .count)) (λ y. cond (apart S (set ts t y)) (some (set ts t y)) none) ts′ (p .2) in

@@ -2,12 +2,11 @@
 -- through the block (Lemma 3.14), which stands before the hold where the word acquires a lock.
 use Prim.Native.Nat.{ℕ}
 use mathlib.Core.List.{List, [], _∷_, _++_, append-assoc}
-use mathlib.Core.Option.{Option, some}
+use mathlib.Core.Option.{Option, some, bind}
 use mathlib.Core.Path.{_≡_, refl, ap, sym, _∙_}
 use mathlib.Core.Logic.{_⊎_, inl, inr, ⊎-elim}
 use native.Mathlib.Omega.{arith}
 use Rattle.semantics.specs.Plan.{Block, done, skip, call, hold, loop, either, end, _⨾_}
-use Rattle.laws.specs.Choice.{bind}
 use Rattle.semantics.specs.Run.{ThreadState, thread, up, down, move}
 use Rattle.semantics.proofs.Transitions.{Transition, skips, calls, begins, ends, enters, leaves, takes-one, takes-two, move-transition}
 use Rattle.semantics.proofs.Execution.{exec}
@@ -107,7 +106,7 @@ trace-counts ps t (c ∷ es) u t′ s =
     ap (countsAfter (t .count)) is ∙ step-count ps (move-transition ps c (t .rest) (t .count) m e) v ∙ trace-counts ps m es v t′ rest
 
 pub traces-exec : (ps : List Block) (t : ThreadState) (es : List ℕ) (u : List Action) (t′ : ThreadState) → Traces ps t es u t′ → exec ps t es ≡ some t′
-unfolding Traces exec
+unfolding Traces exec bind
 traces-exec ps t [] u t′ s = ap {B = Option ThreadState} some (s .1)
 traces-exec ps t (c ∷ es) u t′ s = let (m, v, e, is, rest) = s in ap (λ o. bind o (λ y. exec ps y es)) e ∙ traces-exec ps m es v t′ rest
 

@@ -2,10 +2,9 @@
 use Prim.Native.Nat.{ℕ, _+_, _-_, _/_, _%_}
 use mathlib.Core.List.{List, [], _∷_, map}
 use mathlib.Core.Bool.{Bool, true, not, _&&_, _||_, cond}
-use mathlib.Core.Option.{Option, none, some}
+use mathlib.Core.Option.{Option, none, some, bind}
 use lib.ListN.{getD, set, replicate}
 use lib.Dec.{eqb, ltb}
-use Rattle.laws.specs.Choice.{bind}
 use Rattle.semantics.specs.Plan.{Block, done, skip, call, hold, loop, either, end, _⨾_, bodyIn}
 
 -- "Each thread has a remainder, .. and a count for each lock"

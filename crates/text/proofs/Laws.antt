@@ -1,4 +1,5 @@
 -- The definitions by the case that a function's branch has found, in the shape of the functions' needs.
+use mathlib.Core.Bool.{cond}
 use Prim.Native.Nat.{ℕ, suc, _+_, _-_, _*_, _<_, _≤_}
 use native.Mathlib.Numerals.{add-one}
 use native.Mathlib.Omega.{arith}
@@ -8,7 +9,6 @@ use lib.ListN.{length, take, drop, getD, drop-of-length-le}
 use lib.Seq.{drop-cons}
 use lib.Dec.{eqb}
 use borrow.Author.Tests.{eq-eqb, ne-eqb, lt-ltb, le-ltb}
-use Rattle.laws.specs.Choice.{if}
 use Rattle.text.specs.declared.Form.{Form}
 use Rattle.text.specs.declared.Kind.{Kind}
 use Rattle.text.specs.declared.Kind.the-variants.{Known, Unknown}
@@ -76,7 +76,7 @@ module _ (k : Kind) (next line : ℕ) (r : Line) where
 
 -- the length of a line, byte by byte
 module _ (s : List ℕ) (i r : ℕ) where
-  turn : i < length s → lineLength (drop i s) ≡ if (eqb (getD s i 0) 10) 0 (suc (lineLength (drop (i + 1) s)))
+  turn : i < length s → lineLength (drop i s) ≡ cond (eqb (getD s i 0) 10) 0 (suc (lineLength (drop (i + 1) s)))
   unfolding lineLength
   turn h = rw (add-one i, drop-cons s i 0)
 

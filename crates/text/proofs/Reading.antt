@@ -4,14 +4,13 @@ use Prim.Native.Nat.{ℕ, suc, _+_, _-_, _*_, _<_, _≤_}
 use native.Mathlib.Numerals.{add-one}
 use native.Mathlib.Omega.{arith}
 use mathlib.Core.Path.{_≡_, refl, sym, ap, subst, _∙_}
-use mathlib.Core.Bool.{Bool, true, false}
+use mathlib.Core.Bool.{Bool, true, false, cond}
 use mathlib.Core.List.{List, [], _∷_}
 use mathlib.Core.Option.{Option, none, some}
 use lib.ListN.{length, take, drop, length-drop, drop-of-length-le}
 use lib.Seq.{drop-cons, drop-drop, length-take-le}
 use lib.Dec.{ltb}
 use borrow.Author.Tests.{ltb-true, ltb-false}
-use Rattle.laws.specs.Choice.{if}
 use Rattle.text.specs.declared.Form.{Form}
 use Rattle.text.specs.declared.Kind.{Kind}
 use Rattle.text.specs.declared.Kind.the-variants.{Known, Unknown}
@@ -88,7 +87,7 @@ module _ (text : List ℕ) (at line : ℕ) where
   read-form f next = go (ltb (at + extent text at) (length text)) refl (kindOf (lineFrom text at)) refl
     where
       go : (t : Bool) → ltb (at + extent text at) (length text) ≡ t → (k : Kind) → kindOf (lineFrom text at) ≡ k
-          → if t (lineAnswer k (after text at) line) (Refused 3 line) ≡ Read f next → ReadForm text at line f next
+          → cond t (lineAnswer k (after text at) line) (Refused 3 line) ≡ Read f next → ReadForm text at line f next
       go false p k q e = let z : _≡_ {A = ℕ} 0 1 = cc in absurd (omega arith)
       go true p Unknown q e = let z : _≡_ {A = ℕ} 0 1 = cc in absurd (omega arith)
       go true p (Known g) q e =
@@ -101,7 +100,7 @@ module _ (text : List ℕ) (at line : ℕ) where
   read-refused r l h = go (ltb (at + extent text at) (length text)) refl (kindOf (lineFrom text at)) refl
     where
       go : (t : Bool) → ltb (at + extent text at) (length text) ≡ t → (k : Kind) → kindOf (lineFrom text at) ≡ k
-          → if t (lineAnswer k (after text at) line) (Refused 3 line) ≡ Refused r l → ReadRefused text at line r l
+          → cond t (lineAnswer k (after text at) line) (Refused 3 line) ≡ Refused r l → ReadRefused text at line r l
       go false p k q e = record { rule = cc; number = cc; unreadable = unended-line h (ltb-false (at + extent text at) (length text) p) }
       go true p Unknown q e = record { rule = cc; number = cc; unreadable = ended-line Unknown (ltb-true (at + extent text at) (length text) p) q .1 }
       go true p (Known g) q e = let z : _≡_ {A = ℕ} 0 1 = cc in absurd (omega arith)

@@ -4,13 +4,12 @@ use Prim.Native.Nat.{ℕ, suc, _*_, _<_, _≤_}
 use native.Mathlib.Omega.{arith}
 use mathlib.Core.Path.{_≡_, refl, sym, ap, subst, _∙_}
 use mathlib.Core.Logic.{_↔_, ⊎-elim}
-use mathlib.Core.Bool.{Bool, true, false}
+use mathlib.Core.Bool.{Bool, true, false, cond}
 use mathlib.Core.List.{List, [], _∷_, _++_, List·Memᴰ, List·Memᴰ·head, List·Memᴰ·tail, List·Memᴰ·not-nil, List·Memᴰ·cases-cons}
 use mathlib.Core.Option.{none}
 use lib.ListN.{length, take, drop, length-append}
 use lib.Dec.{eqb}
 use borrow.Author.Tests.{eqb-true, ne-eqb}
-use Rattle.laws.specs.Choice.{if}
 use Rattle.text.specs.declared.Form.{Form}
 use Rattle.text.specs.declared.Kind.{Kind}
 use Rattle.text.specs.declared.Kind.the-variants.{Known, Unknown}
@@ -31,11 +30,11 @@ split-line (b ∷ bs) h = go (eqb b 10) (split-line bs) h
 
     go : (t : Bool)
         → (n < length bs → split bs ≡ record { ended = take n bs ∷ split (drop (suc n) bs) .ended; tail = split (drop (suc n) bs) .tail })
-        → if t 0 (suc n) < suc (length bs)
-        → if t (record { ended = [] ∷ split bs .ended; tail = split bs .tail }) (pushByte b (split bs .ended) (split bs .tail))
+        → cond t 0 (suc n) < suc (length bs)
+        → cond t (record { ended = [] ∷ split bs .ended; tail = split bs .tail }) (pushByte b (split bs .ended) (split bs .tail))
         ≡ record {
-          ended = take (if t 0 (suc n)) (b ∷ bs) ∷ split (drop (suc (if t 0 (suc n))) (b ∷ bs)) .ended;
-          tail = split (drop (suc (if t 0 (suc n))) (b ∷ bs)) .tail;
+          ended = take (cond t 0 (suc n)) (b ∷ bs) ∷ split (drop (suc (cond t 0 (suc n))) (b ∷ bs)) .ended;
+          tail = split (drop (suc (cond t 0 (suc n))) (b ∷ bs)) .tail;
         }
     go true ih h = refl
     go false ih h = ap (λ (p : Split). pushByte b (p .ended) (p .tail)) (ih (omega arith))
@@ -46,8 +45,8 @@ unfolding lineLength split
 split-tail [] h = refl
 split-tail (b ∷ bs) h = go (eqb b 10) (split-tail bs) h
   where
-    go : (t : Bool) → (length bs ≤ lineLength bs → split bs ≡ record { ended = []; tail = bs }) → suc (length bs) ≤ if t 0 (suc (lineLength bs))
-        → if t (record { ended = [] ∷ split bs .ended; tail = split bs .tail }) (pushByte b (split bs .ended) (split bs .tail))
+    go : (t : Bool) → (length bs ≤ lineLength bs → split bs ≡ record { ended = []; tail = bs }) → suc (length bs) ≤ cond t 0 (suc (lineLength bs))
+        → cond t (record { ended = [] ∷ split bs .ended; tail = split bs .tail }) (pushByte b (split bs .ended) (split bs .tail))
         ≡ record { ended = []; tail = b ∷ bs }
     go true ih h = absurd (omega arith)
     go false ih h = ap (λ (p : Split). pushByte b (p .ended) (p .tail)) (ih (omega arith))
@@ -78,8 +77,8 @@ split-joined (b ∷ bs) = go (eqb b 10) refl (split-joined bs)
         pushed (l ∷ ls) t = refl
 
     go : (t : Bool) → eqb b 10 ≡ t → joined (split bs .ended) (split bs .tail) ≡ bs
-        → joined (if t (record { ended = [] ∷ split bs .ended; tail = split bs .tail }) (pushByte b (split bs .ended) (split bs .tail)) .ended)
-        (if t (record { ended = [] ∷ split bs .ended; tail = split bs .tail }) (pushByte b (split bs .ended) (split bs .tail)) .tail)
+        → joined (cond t (record { ended = [] ∷ split bs .ended; tail = split bs .tail }) (pushByte b (split bs .ended) (split bs .tail)) .ended)
+        (cond t (record { ended = [] ∷ split bs .ended; tail = split bs .tail }) (pushByte b (split bs .ended) (split bs .tail)) .tail)
         ≡ b ∷ bs
     go true e ih = cc (eqb-true b 10 e)
     go false e ih = push (split bs) ∙ ap (λ x. b ∷ x) ih

@@ -5,13 +5,13 @@ use native.Mathlib.Omega.{arith}
 use native.Mathlib.Nat.{sub-zero}
 use mathlib.Core.Path.{_≡_, refl, sym, ap, subst, _∙_}
 use mathlib.Core.Logic.{_↔_, ⊎-elim}
-use mathlib.Core.Bool.{Bool, true, false, not, _&&_}
+use mathlib.Core.Bool.{Bool, true, false, not, _&&_, cond}
 use mathlib.Core.List.{List, [], _∷_, _++_, List·Memᴰ, List·Memᴰ·not-nil, List·Memᴰ·cases-cons, List·Memᴰ·append-cases}
 use lib.ListN.{length, getD, take, drop, length-append, length-drop, take-append-drop, drop-of-length-le}
 use lib.Seq.{take-all, take-length, take-append-seam, drop-append-seam, getD-append-seam, split-at}
 use lib.Dec.{T, eqb, ltb, T-not}
 use borrow.Author.Tests.{ne-eqb, lt-ltb, le-ltb, eqb-true, ltb-false}
-use Rattle.laws.specs.Choice.{if, pick}
+use Rattle.laws.specs.Choice.{pick}
 use Rattle.laws.specs.Bytes.{bytes, equal}
 use Rattle.laws.proofs.Bytes.{equal-refl, equal-is}
 use Rattle.laws.proofs.Choices.{pick-elim}
@@ -36,7 +36,7 @@ digit-inv : (b y : ℕ) → digitOf b ≡ Is y → Digit b y
 unfolding digitOf
 digit-inv b y e = go (ltb b 48) refl (ltb 57 b) refl e
   where
-    go : (s : Bool) → ltb b 48 ≡ s → (t : Bool) → ltb 57 b ≡ t → if s Not (if t Not (Is (b - 48))) ≡ Is y → Digit b y
+    go : (s : Bool) → ltb b 48 ≡ s → (t : Bool) → ltb 57 b ≡ t → cond s Not (cond t Not (Is (b - 48))) ≡ Is y → Digit b y
     go true p t q e = let z : _≡_ {A = ℕ} 0 1 = cc in absurd (omega arith)
     go false p true q e = let z : _≡_ {A = ℕ} 0 1 = cc in absurd (omega arith)
     go false p false q e =
@@ -54,7 +54,7 @@ leading-inv : (b y : ℕ) → leadingOf b ≡ Is y → Leading b y
 unfolding leadingOf
 leading-inv b y e = go (ltb b 49) refl (ltb 57 b) refl e
   where
-    go : (s : Bool) → ltb b 49 ≡ s → (t : Bool) → ltb 57 b ≡ t → if s Not (if t Not (Is (b - 48))) ≡ Is y → Leading b y
+    go : (s : Bool) → ltb b 49 ≡ s → (t : Bool) → ltb 57 b ≡ t → cond s Not (cond t Not (Is (b - 48))) ≡ Is y → Leading b y
     go true p t q e = let z : _≡_ {A = ℕ} 0 1 = cc in absurd (omega arith)
     go false p true q e = let z : _≡_ {A = ℕ} 0 1 = cc in absurd (omega arith)
     go false p false q e =
@@ -76,7 +76,7 @@ append-inv Not b n e = let z : _≡_ {A = ℕ} 0 1 = cc in absurd (omega arith)
 append-inv (Is x) Not n e = let z : _≡_ {A = ℕ} 0 1 = cc in absurd (omega arith)
 append-inv (Is x) (Is y) n e = go (ltb 99 x) (ltb 9 y) e
   where
-    go : (s t : Bool) → if s Not (if t Not (Is (x * 10 + y))) ≡ Is n → Appended (Is x) (Is y) n
+    go : (s t : Bool) → cond s Not (cond t Not (Is (x * 10 + y))) ≡ Is n → Appended (Is x) (Is y) n
     go true t e = let z : _≡_ {A = ℕ} 0 1 = cc in absurd (omega arith)
     go false true e = let z : _≡_ {A = ℕ} 0 1 = cc in absurd (omega arith)
     go false false e = record { before = x; last = y; first = refl; second = refl; sum = cc }
@@ -366,7 +366,7 @@ unbroken-decimal n = go (ltb n 10) (ltb n 100)
     nil : Unbroken []
     nil = unbroken-is [] tt
 
-    go : (s t : Bool) → Unbroken (if s ((48 + n) ∷ []) (if t ((48 + n / 10) ∷ (48 + n % 10) ∷ []) ((48 + n / 100) ∷ (48 + n / 10 % 10) ∷ (48 + n % 10) ∷ [])))
+    go : (s t : Bool) → Unbroken (cond s ((48 + n) ∷ []) (cond t ((48 + n / 10) ∷ (48 + n % 10) ∷ []) ((48 + n / 100) ∷ (48 + n / 10 % 10) ∷ (48 + n % 10) ∷ [])))
     go true t = unbroken-digit n [] nil
     go false true = unbroken-digit (n / 10) _ (unbroken-digit (n % 10) [] nil)
     go false false = unbroken-digit (n / 100) _ (unbroken-digit (n / 10 % 10) _ (unbroken-digit (n % 10) [] nil))

@@ -1,9 +1,9 @@
 -- The forms of a plan text and how each is written. 01, "The plan text".
+use mathlib.Core.Bool.{cond}
 use Prim.Native.Nat.{ℕ, _+_, _/_, _%_, _<_}
 use mathlib.Core.List.{List, [], _∷_, _++_}
 use mathlib.Core.Path.{_≡_}
 use lib.Dec.{ltb}
-use Rattle.laws.specs.Choice.{if}
 use Rattle.laws.specs.Bytes.{bytes}
 use Rattle.text.specs.declared.Form.{Form}
 use Rattle.text.specs.declared.Form.the-variants.{Plan, Proc, Thread, Close, Skip, Call, Hold, Loop, Either, One, Two}
@@ -11,8 +11,8 @@ use Rattle.text.specs.declared.Form.the-variants.{Plan, Proc, Thread, Cl
 -- "N is one to three digits without a leading zero, or `0`": the digits of a number below 1,000
 unfoldable pub decimal : ℕ → List ℕ
 decimal n =
-    if (ltb n 10) ((48 + n) ∷ [])
-    (if (ltb n 100) ((48 + n / 10) ∷ (48 + n % 10) ∷ [])
+    cond (ltb n 10) ((48 + n) ∷ [])
+    (cond (ltb n 100) ((48 + n / 10) ∷ (48 + n % 10) ∷ [])
     ((48 + n / 100) ∷ (48 + n / 10 % 10) ∷ (48 + n % 10) ∷ []))
 
 -- "One form a line, .. no other blanks than those shown": the bytes of a form's line, without the byte 10 that ends it

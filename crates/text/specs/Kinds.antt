@@ -1,10 +1,11 @@
 -- The kind of a line as a decision over its first letters and its digits. That it finds exactly the lines that are written forms is the theorem `kind-written`.
 -- 01, "The plan text": "A line's kind follows from its bytes alone; its place is judged afterwards."
+use mathlib.Core.Bool.{cond}
 use Prim.Native.Nat.{ℕ, _+_, _-_, _*_}
 use mathlib.Core.List.{List}
 use lib.Dec.{eqb, ltb}
 use lib.ListN.{length, getD, take, drop}
-use Rattle.laws.specs.Choice.{if, pick}
+use Rattle.laws.specs.Choice.{pick}
 use Rattle.laws.specs.Bytes.{bytes, equal}
 use Rattle.text.specs.declared.Form.{Form}
 use Rattle.text.specs.declared.Form.the-variants.{Plan, Proc, Thread, Close, Skip, Call, Hold, Loop, Either, One, Two}
@@ -15,16 +16,16 @@ use Rattle.text.specs.declared.Number.the-variants.{Is, Not}
 
 -- a digit, and one that may lead a number of several
 unfoldable pub digitOf : ℕ → Number
-digitOf b = if (ltb b 48) Not (if (ltb 57 b) Not (Is (b - 48)))
+digitOf b = cond (ltb b 48) Not (cond (ltb 57 b) Not (Is (b - 48)))
 
 unfoldable pub leadingOf : ℕ → Number
-leadingOf b = if (ltb b 49) Not (if (ltb 57 b) Not (Is (b - 48)))
+leadingOf b = cond (ltb b 49) Not (cond (ltb 57 b) Not (Is (b - 48)))
 
 -- a number of at most two digits with one digit more behind it
 unfoldable pub appendDigit : Number → Number → Number
 appendDigit Not b = Not
 appendDigit (Is x) Not = Not
-appendDigit (Is x) (Is y) = if (ltb 99 x) Not (if (ltb 9 y) Not (Is (x * 10 + y)))
+appendDigit (Is x) (Is y) = cond (ltb 99 x) Not (cond (ltb 9 y) Not (Is (x * 10 + y)))
 
 -- "one to three digits without a leading zero, or `0`"
 unfoldable pub numberOf : List ℕ → Number

@@ -1,11 +1,11 @@
 -- The lines of a text and what reading one gives. 01, "The plan text" and rule 3.
+use mathlib.Core.Bool.{cond}
 use Prim.Native.Nat.{ℕ, suc, _+_, _<_}
 use mathlib.Core.Path.{_≡_}
 use mathlib.Core.List.{List, [], _∷_, _++_, List·Memᴰ}
 use mathlib.Core.Option.{Option, none, some}
 use lib.Dec.{eqb, ltb}
 use lib.ListN.{length, take, drop}
-use Rattle.laws.specs.Choice.{if}
 use Rattle.text.specs.declared.Form.{Form}
 use Rattle.text.specs.declared.Kind.{Kind}
 use Rattle.text.specs.declared.Kind.the-variants.{Known, Unknown}
@@ -17,7 +17,7 @@ use Rattle.text.specs.Kinds.{kindOf}
 -- "each line ended by byte 10": how many bytes stand before the first byte 10, or all
 unfoldable pub lineLength : List ℕ → ℕ
 lineLength [] = 0
-lineLength (b ∷ bs) = if (eqb b 10) 0 (suc (lineLength bs))
+lineLength (b ∷ bs) = cond (eqb b 10) 0 (suc (lineLength bs))
 
 -- "Reading a line gives either a form with its number or the refusal, never both." The cases of the answer, with 01's numbers: the form and the place of the next
 -- line; rule 3, "Some line is none of the forms above", and the line's number
@@ -30,7 +30,7 @@ lineAnswer Unknown next line = Refused 3 line
 unfoldable pub lineAt : List ℕ → ℕ → ℕ → Line
 lineAt text at line =
     let n = lineLength (drop at text) in
-    if (ltb (at + n) (length text)) (lineAnswer (kindOf (take n (drop at text))) (at + n + 1) line) (Refused 3 line)
+    cond (ltb (at + n) (length text)) (lineAnswer (kindOf (take n (drop at text))) (at + n + 1) line) (Refused 3 line)
 
 -- A text cut at each byte 10: its ended lines, and what stands after the last of them.
 pub record Split : Type 0 where
@@ -45,7 +45,7 @@ pushByte b (l ∷ ls) t = record { ended = (b ∷ l) ∷ ls; tail = t }
 unfoldable pub split : List ℕ → Split
 split [] = record { ended = []; tail = [] }
 split (b ∷ bs) =
-    if (eqb b 10) (record { ended = [] ∷ split bs .ended; tail = split bs .tail })
+    cond (eqb b 10) (record { ended = [] ∷ split bs .ended; tail = split bs .tail })
     (pushByte b (split bs .ended) (split bs .tail))
 
 -- the form of a line that is one, in front of others
