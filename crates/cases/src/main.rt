@@ -2,6 +2,7 @@
 // refusal. A schedule is replayed by a second gateway, of the modules below, which read the plan's text by themselves.
 mod gateway;
 mod lines;
+mod parts;
 mod sizes;
 mod stuck;
 
@@ -162,6 +163,8 @@ fn show_file(path: &[u8], buffer: &mut [u8], list: &mut [u64], out: &mut [u16]) 
     io::write_all(1, b"\n");
     show_plan(&buffer[..n], list);
     show_verdict(&buffer[..n], out);
+    parts::show_texts(&buffer[..n]);
+    parts::show_report(&buffer[..n]);
 }
 
 // A line of the index: the file's name of three letters, and what the plan is.

@@ -1,8 +1,12 @@
 -- The words are those of the critical pairs, at most 128 since rule 10 refuses nothing; so their lines fit.
-use Rattle.report.proofs.Parts.{procedure-room, procedure-lines}
+use Rattle.report_text.proofs.Parts.{procedure-room, procedure-lines}
 use borrow.Author.Needs.{needs}
-use Rattle.report.proofs.put_procedure.Statement.{statement}
-use Rattle.report.proofs.put_procedure.Tie as tie
+use Rattle.report_text.proofs.put_pair_lines.Statement.{statement}
+use Rattle.report_text.proofs.put_pair_lines.Tie as tie
+use Rattle.report_text.proofs.put_pair_lines.Reads as reads
+use Rattle.report_text.proofs.put_pair_lines.Lts as lts
+use Rattle.pairs.proofs.pair_words.Reads as pair-words-reads
+use Rattle.report_lines.proofs.put_proc_lines.Reads as put-proc-lines-reads
 
 pair-words-requires : tie.Need-pair-words-requires
 pair-words-requires c κs = search needs
@@ -28,8 +32,8 @@ same-length-2 c = search needs
 returns : tie.Need-returns
 returns c = search (procedure-lines, needs)
 
-pub put-procedure-spec : {M : Type 1} → statement M
-put-procedure-spec =
+pub put-pair-lines-spec : {M : Type 1} → statement M
+put-pair-lines-spec =
     tie.close
     (tie.spec
     pair-words-requires

@@ -1,2 +1,0 @@
--- The lines of the report's parts.
-pub mod Parts

@@ -1,2 +1,0 @@
--- The lines of the verdict.
-pub mod Verdict

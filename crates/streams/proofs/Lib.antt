@@ -1,0 +1,2 @@
+-- How many bytes of a buffer were read.
+pub mod Counting

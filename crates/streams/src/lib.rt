@@ -1,0 +1,78 @@
+// The standard streams of a program: a text read from standard input, and the report on a text printed to standard output, part by part.
+ghost use Prim.Native.Nat.{_≤_};
+ghost use lib.ListN.{length};
+ghost use Rattle.io.specs.Counts.{Counts};
+ghost use Rattle.report_text.specs.Tables.{tableRoom, entryRoom, partRoom, Prepared};
+use report_text::ENTRY_ROOM;
+use report_text::Judged;
+use report_text::MOST_PARTS;
+use report_text::PART_ROOM;
+use report_text::TABLE_ROOM;
+
+// The parts of the report on a text that was judged, up to the last: whether all were written.
+fn print_parts(text: &[u8], judged: Judged, table: &[u64], entries: &[u16], out: &mut [u8]) -> bool
+    requires { ⌜ Prepared (now text) judged (now table) (now entries) × (length (now entries) ≤ entryRoom) × (partRoom ≤ length (now out)) ⌝ }
+{
+    let mut k: usize = 0;
+    while k < MOST_PARTS {
+        let n = report_text::put_part(text, judged, table, entries, k, out);
+        if n == 0 {
+            return true;
+        }
+        if !io::write_all(1, &out[0..n]) {
+            return false;
+        }
+        k += 1;
+    }
+    true
+}
+
+// The text is read and judged once.
+fn print_text(text: &[u8], table: &mut [u64], entries: &mut [u16], out: &mut [u8]) -> bool
+    requires { ⌜ (tableRoom ≤ length (now table)) × (length (now entries) ≤ entryRoom) × (entryRoom ≤ length (now entries)) × (partRoom ≤ length (now out)) ⌝ }
+{
+    let judged = report_text::judge_text(text, table, entries);
+    print_parts(text, judged, table, entries, out)
+}
+
+// The report on a text: whether all of it was written.
+pub fn print_report(text: &[u8]) -> bool {
+    let mut table = [0u64; TABLE_ROOM];
+    let mut entries = [0u16; ENTRY_ROOM];
+    let mut out = [0u8; PART_ROOM];
+    print_text(text, &mut table, &mut entries, &mut out)
+}
+
+// What standard input held: how many bytes of it were read, and whether it could be read to its end or as far as the buffer goes.
+pub struct Input {
+    pub whole: bool,
+    pub bytes: usize,
+}
+
+// Standard input into the start of a buffer.
+pub fn read_input(text: &mut [u8]) -> Input
+    ensures { λ r. ⌜ Counts (r .bytes) (now (text .exit)) ⌝ }
+{
+    let mut n: usize = 0;
+    while n < text.len() {
+        let got = libc::read(0, &mut text[n..]);
+        if got < 0 {
+            return Input {
+                whole: false,
+                bytes: n,
+            };
+        }
+        let more = io::count(got, &text[n..]);
+        if more == 0 {
+            return Input {
+                whole: true,
+                bytes: n,
+            };
+        }
+        n += more;
+    }
+    Input {
+        whole: true,
+        bytes: n,
+    }
+}
