@@ -1,7 +1,7 @@
 /* Reads a plan from standard input and prints its report by the C calls: the
- * pairs of each procedure and, with LOCKPLAN_VERDICT defined, the verdict.
+ * pairs of each procedure and the verdict.
  *
- *   cc -std=c99 -I ../../include -DLOCKPLAN_VERDICT caller.c \
+ *   cc -std=c99 -I ../../include caller.c \
  *      -L ../../target/staticlib -llockplan -o caller
  *
  * For the stack that a call needs see docs/ANSWERS.md.
@@ -39,7 +39,6 @@ static void print_pairs(uint64_t count)
     }
 }
 
-#ifdef LOCKPLAN_VERDICT
 static void print_verdict(uint64_t answer)
 {
     uint64_t k;
@@ -59,7 +58,6 @@ static void print_verdict(uint64_t answer)
     }
     printf(")\n");
 }
-#endif
 
 static int kept(const uint8_t *buffer, size_t from, size_t to)
 {
@@ -96,7 +94,6 @@ int main(void)
         print_pairs(lockplan_count(answer));
         printf(")\n");
     }
-#ifdef LOCKPLAN_VERDICT
     memset(entries, 0xa5, sizeof entries);
     answer = lockplan_verdict(text, length, entries, LOCKPLAN_ENTRY_BYTES);
     if (lockplan_kind(answer) == LOCKPLAN_REFUSED)
@@ -104,9 +101,6 @@ int main(void)
     if (!kept(entries, 2 * (size_t)lockplan_count(answer), sizeof entries))
         return 3;
     print_verdict(answer);
-#else
-    (void)entries;
-#endif
     printf(")\n");
     return 0;
 }

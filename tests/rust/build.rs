@@ -1,4 +1,4 @@
-//! Links liblockplan.a when a feature asks for it. Its folder is LOCKPLAN_LIB,
+//! Links liblockplan.a where the feature asks for it. Its folder is LOCKPLAN_LIB,
 //! or target/staticlib at the top of the repository.
 
 use std::env;
@@ -18,9 +18,8 @@ fn main() {
     let archive = folder.join("liblockplan.a");
     println!("cargo:rerun-if-changed={}", archive.display());
     if !archive.is_file() {
-        eprintln!("{} is not there.", archive.display());
-        eprintln!("Set LOCKPLAN_LIB to the folder of liblockplan.a,");
-        eprintln!("or pass --no-default-features for the reference alone.");
+        eprintln!("{} is not there: rt staticlib lockplan makes it,", archive.display());
+        eprintln!("and LOCKPLAN_LIB names its folder where it is another.");
         std::process::exit(1);
     }
     println!("cargo:rustc-link-search=native={}", folder.display());

@@ -12,11 +12,11 @@ pub type VerdictCall = fn(&[u8], &mut [u8]) -> u64;
 /// Text, procedure and output.
 pub type PairsCall = fn(&[u8], u64, &mut [u8]) -> u64;
 
-/// The calls of a library, those that it has.
+/// The calls of a library.
 #[derive(Clone, Copy)]
 pub struct Calls {
-    pub verdict: Option<VerdictCall>,
-    pub pairs: Option<PairsCall>,
+    pub verdict: VerdictCall,
+    pub pairs: PairsCall,
 }
 
 /// What a text gave, for the summary.
@@ -62,18 +62,12 @@ impl Bench {
             Some(last) if last.0 == text => last,
             _ => said(text),
         };
-        if let Some(call) = calls.pairs {
-            for proc in requested(&plan, random) {
-                let least = 8 * MAX_PAIRS;
-                let lent = self.lend(text, least, random);
-                self.pairs(call, &plan, proc, lent)?;
-            }
+        for proc in requested(&plan, random) {
+            let lent = self.lend(text, 8 * MAX_PAIRS, random);
+            self.pairs(calls.pairs, &plan, proc, lent)?;
         }
-        if let Some(call) = calls.verdict {
-            let least = 2 * SCHEDULE_ENTRIES;
-            let lent = self.lend(text, least, random);
-            self.verdict(call, &plan, outcome == Outcome::Deadlock, lent)?;
-        }
+        let lent = self.lend(text, 2 * SCHEDULE_ENTRIES, random);
+        self.verdict(calls.verdict, &plan, outcome == Outcome::Deadlock, lent)?;
         self.last = Some((known, plan, outcome));
         Ok(outcome)
     }

@@ -1,11 +1,10 @@
 //! The library against the reference on generated texts.
 //!
-//!   cargo test --test differential -- [--texts N] [--seed S] [--stack BYTES]
-//!                                     [--only NUMBER] [--file PLAN]
+//!   cargo test --features library --test differential -- [--texts N] [--seed S]
+//!                       [--stack BYTES] [--only NUMBER] [--file PLAN]
 //!
 //! LOCKPLAN_TEXTS and LOCKPLAN_SEED stand for the first two. A text that fails
-//! is made shorter and written to a file. Ends with 1 after a difference, and
-//! with 2 where nothing was tested because the features name no call.
+//! is made shorter and written to a file. Ends with 1 after a difference.
 
 fn main() {
     let options = differential::options();
@@ -22,8 +21,9 @@ mod differential {
 
     use lockplan_tests::compare::{outcome, shorten, Bench};
     use lockplan_tests::generate::{beginnings, generate, Case};
+    use lockplan_tests::library::CALLS;
     use lockplan_tests::random::Random;
-    use lockplan_tests::{families, guard, library, shelf};
+    use lockplan_tests::{families, guard, shelf};
 
     /// Buffers are lent to a fixed text this often.
     const LENT: u64 = 4;
@@ -83,11 +83,6 @@ mod differential {
     /// The number of differences.
     pub fn run(options: &Options) -> usize {
         let start = Instant::now();
-        let calls = library::calls();
-        if calls.verdict.is_none() && calls.pairs.is_none() {
-            eprintln!("differential: nothing was tested: the features name no call of the library");
-            std::process::exit(2);
-        }
         let mut fixed: Vec<Case> = Vec::new();
         if let Some(path) = &options.file {
             let text = std::fs::read(path).expect("a readable file");
@@ -116,7 +111,7 @@ mod differential {
             texts += 1;
             bytes += case.text.len();
             *kinds.entry(case.kind).or_insert(0_u64) += 1;
-            match bench.check(calls, &case.text, &mut random) {
+            match bench.check(CALLS, &case.text, &mut random) {
                 Ok(outcome) => *outcomes.entry(format!("{outcome:?}")).or_insert(0_u64) += 1,
                 Err(message) => {
                     differences += 1;
@@ -127,7 +122,7 @@ mod differential {
                     let found = outcome(&case.text);
                     let mut fails = |text: &[u8]| {
                         outcome(text) == found
-                            && (0..4).any(|k| bench.check(calls, text, &mut Random::new(k)).is_err())
+                            && (0..4).any(|k| bench.check(CALLS, text, &mut Random::new(k)).is_err())
                     };
                     let shorter =
                         if fails(&case.text) { shorten(&case.text, &mut fails) } else { case.text.clone() };

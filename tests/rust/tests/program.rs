@@ -1,6 +1,6 @@
 //! The program's reports against the reference.
 //!
-//!   LOCKPLAN_PROGRAM=<program> cargo test --no-default-features --test program
+//!   LOCKPLAN_PROGRAM=<program> cargo test --test program
 //!
 //! The program reads a plan from standard input. LOCKPLAN_TEXTS and LOCKPLAN_SEED
 //! choose the generated texts. Ends with 1 after a difference, and with 2 where

@@ -547,7 +547,7 @@ fn run(calls: Calls, count: u64, edges: bool) -> Result<Bench, (u64, String)> {
 /// The comparison accepts the stand-in made of the reference.
 #[test]
 fn comparison_accepts_the_stand_in() {
-    let calls = Calls { verdict: Some(standin::verdict), pairs: Some(standin::pairs) };
+    let calls = Calls { verdict: standin::verdict, pairs: standin::pairs };
     let bench =
         run(calls, texts(4_000), true).unwrap_or_else(|(index, message)| panic!("{index}: {message}"));
     println!("{:?}", bench.counts);
@@ -557,13 +557,13 @@ fn comparison_accepts_the_stand_in() {
 #[test]
 fn comparison_finds_every_fault() {
     for (name, pairs) in standin::FAULTY_PAIRS {
-        let calls = Calls { verdict: None, pairs: Some(pairs) };
+        let calls = Calls { verdict: standin::verdict, pairs };
         let (index, message) =
             run(calls, 4_000, false).err().unwrap_or_else(|| panic!("{name} is not found"));
         println!("pairs, {name}: text {index}, {message}");
     }
     for (name, verdict) in standin::FAULTY_VERDICTS {
-        let calls = Calls { verdict: Some(verdict), pairs: None };
+        let calls = Calls { verdict, pairs: standin::pairs };
         let (index, message) =
             run(calls, 4_000, false).err().unwrap_or_else(|| panic!("{name} is not found"));
         println!("verdict, {name}: text {index}, {message}");
@@ -576,7 +576,7 @@ fn comparison_finds_every_fault() {
 fn memory_fault() {
     guard::report_faults();
     let (_, pairs) = standin::FAULTY_PAIRS.iter().find(|(name, _)| name.contains("behind")).unwrap();
-    let calls = Calls { verdict: None, pairs: Some(*pairs) };
+    let calls = Calls { verdict: standin::verdict, pairs: *pairs };
     let mut bench = Bench::new(true);
     let text = shelf().remove(0).text;
     for index in 0..1_000 {

@@ -1,7 +1,7 @@
 //! Processor times of the library's verdict and of the reference's condition
 //! over pairs, beside those of SPIN where the table of `tests/spin/run` is given.
 //!
-//!   cargo run --release --features verdict --bin bench -- [--rounds N]
+//!   cargo run --release --features library --bin bench -- [--rounds N]
 //!                       [--family NAME] [--spin TABLE] [--write FOLDER]
 
 use std::time::Duration;

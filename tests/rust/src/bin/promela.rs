@@ -2,7 +2,7 @@
 //! the shelf's cases with a letter and of the families into a folder:
 //! `<name>.pml`, with the verdict in a comment in the first line.
 //!
-//!   cargo run --release --no-default-features --bin promela [-- FOLDER]
+//!   cargo run --release --bin promela [-- FOLDER]
 
 use std::io::Read;
 use std::path::Path;
