@@ -1,4 +1,4 @@
-//! Memory between two inaccessible pages, and a message on a fault.
+//! Memory between two inaccessible parts, and a message on a fault.
 
 #[cfg(target_os = "linux")]
 mod pages {
@@ -6,6 +6,8 @@ mod pages {
     use std::sync::atomic::{AtomicU64, Ordering};
 
     const PAGE: usize = 65_536;
+    /// The inaccessible bytes on each side: more than the largest frame of a call.
+    const GUARD: usize = 1 << 20;
     const NONE: i32 = 0;
     const READ_WRITE: i32 = 3;
     const PRIVATE_ANONYMOUS: i32 = 0x22;
@@ -37,12 +39,12 @@ mod pages {
         /// At least as many bytes as asked for.
         pub fn new(len: usize) -> Pages {
             let len = len.div_ceil(PAGE) * PAGE;
-            let whole = len + 2 * PAGE;
+            let whole = len + 2 * GUARD;
             // SAFETY: a fresh mapping, of which the inner pages are opened.
             unsafe {
                 let base = mmap(std::ptr::null_mut(), whole, NONE, PRIVATE_ANONYMOUS, -1, 0);
                 assert_ne!(base as isize, -1, "no memory");
-                let base = base.cast::<u8>().add(PAGE);
+                let base = base.cast::<u8>().add(GUARD);
                 assert_eq!(mprotect(base.cast(), len, READ_WRITE), 0);
                 Pages { base, len }
             }
@@ -58,7 +60,7 @@ mod pages {
         fn drop(&mut self) {
             // SAFETY: the mapping of `new`, which nothing borrows any more.
             unsafe {
-                munmap(self.base.sub(PAGE).cast(), self.len + 2 * PAGE);
+                munmap(self.base.sub(GUARD).cast(), self.len + 2 * GUARD);
             }
         }
     }
