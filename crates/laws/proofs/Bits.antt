@@ -9,7 +9,6 @@ use native.Mathlib.Numerals.{one-add}
 use lib.Pow.{shr-shr}
 use lib.Bits.{bitAnd, bitOr, and-step, and-shr, or-step, or-shr}
 use Rattle.laws.specs.Mask.{bit}
-use Rattle.laws.proofs.Tests.{eq-or-ne}
 
 pub bit-zero : (m : ℕ) → bit m 0 ≡ m % 2
 unfolding bit
@@ -84,15 +83,8 @@ or-left a b l e = rw bit-or (omega (arith, bit-lt b l))
 pub or-right : (a b l : ℕ) → bit b l ≡ 1 → bit (bitOr a b) l ≡ 1
 or-right a b l e = rw bit-or (omega (arith, bit-lt a l))
 
-pub pow-is : (l k : ℕ) → bit (2 ^ l) k ≡ 1 → k ≡ l
-pow-is l k e = ⊎-elim (λ p. p) (λ n. absurd (omega (arith, bit-pow-other l k n))) (eq-or-ne k l)
-
 pub some-bit : (m l : ℕ) → bit m l ≡ 1 → 0 < m
 some-bit m l e = ⊎-elim (λ (z : m ≡ 0). absurd (omega (arith, bit-none l, ap (λ x. bit x l) z))) (λ h. h) (eq-zero-or-pos m)
-
-pub subset : (m w : ℕ) → ((l : ℕ) → bit w l ≡ 1 → bit m l ≡ 1) → bitOr m w ≡ m
-subset m w h = bit-ext _ m (λ k. rw bit-or
-    (⊎-elim (λ (z : bit w k ≡ 0). omega arith) (λ (g : 0 < bit w k). omega (arith, bit-lt w k, h k (omega (arith, bit-lt w k)))) (eq-zero-or-pos (bit w k))))
 
 -- sets that share no member
 pub apart-or : (a b c : ℕ) → bitAnd a c ≡ 0 → bitAnd b c ≡ 0 → bitAnd (bitOr a b) c ≡ 0

@@ -1,21 +1,20 @@
--- Masks as sums of powers of two, and the machine's operations on them: joins, intersections, one member more, tests of membership, the lowest
--- member, a shift with a number put below it. Each follows from the digits, since two numbers with the same digits are equal (`bit-ext`). `width` is
--- the number of digits of a machine word.
-use Prim.Native.Nat.{ℕ, zero, suc, _+_, _-_, _*_, _/_, _%_, _^_, _<_, _≤_, min, max}
-use mathlib.Core.Bool.{Bool, true, false, not, _&&_, _||_, cond}
+-- Masks as sums of powers of two, and the machine's operations on them: a join with one member more, tests of membership, the lowest member, a shift
+-- with a number put below it. `width` is the number of digits of a machine word.
+use Prim.Native.Nat.{ℕ, zero, suc, _+_, _-_, _*_, _/_, _%_, _^_, _<_, _≤_}
+use mathlib.Core.Bool.{Bool, true, false, not, cond}
 use mathlib.Core.Logic.{_≢_, _⊎_, inl, inr, ⊎-elim}
 use mathlib.Core.Path.{_≡_, refl, sym, ap, _∙_}
 use native.Mathlib.Omega.{arith}
-use native.Mathlib.Nat.{one-mul, zero-mul, zero-add, add-mul, mod-eq-of-lt, div-eq-of-lt}
+use native.Mathlib.Nat.{one-mul, zero-mul, zero-add, mod-eq-of-lt, div-eq-of-lt}
 use native.Mathlib.Numerals.{one-add, add-one}
-use lib.Bits.{bitAnd, bitOr, and-mask, and-step, and-self, and-high, and-le-r, or-shifted, or-zero-l, or-comm, or-lt, and-lt}
+use lib.Bits.{bitAnd, bitOr, and-step, and-self, and-high, and-le-r, or-shifted, or-zero-l, or-comm}
 use lib.Count.{trailingZeros}
-use lib.Dec.{T, eqb, leb, eqb→eq, eqb·zero-suc, eqb·suc-zero, eqb·suc-suc}
-use lib.Pow.{pow-pos, pow-mono, pow-lt, pow-add, shl-exact}
-use borrow.Author.Tests.{ne-eqb, le-leb, lt-leb}
+use lib.Dec.{T, eqb, eqb→eq, eqb·zero-suc, eqb·suc-zero, eqb·suc-suc}
+use lib.Pow.{pow-pos, pow-mono, shl-exact}
+use borrow.Author.Tests.{ne-eqb}
 use Rattle.laws.specs.Mask.{bit, inMask, maskOf}
-use Rattle.laws.proofs.Bits.{bit-zero, bit-suc, bit-lt, bit-or, bit-and, bit-ext, bit-none, bit-pow, bit-pow-other}
-use Rattle.laws.proofs.Tests.{lt-or-le, eq-or-ne, eqb-cases}
+use Rattle.laws.proofs.Bits.{bit-zero, bit-suc, bit-lt, bit-or, bit-and, bit-none, bit-pow, bit-pow-other}
+use Rattle.laws.proofs.Tests.{lt-or-le, eq-or-ne}
 
 -- a number of n digits has none above
 pub digit-out : (m n k : ℕ) → m < 2 ^ n → n ≤ k → bit m k ≡ 0
@@ -27,16 +26,6 @@ on-digit : (P : ℕ → Type 0) → P 0 → P 1 → (d : ℕ) → d < 2 → P d
 on-digit P a b zero h = a
 on-digit P a b (suc zero) h = b
 on-digit P a b (suc (suc d)) h = absurd (omega arith)
-
-on-digits : (P : ℕ → ℕ → Type 0) → P 0 0 → P 0 1 → P 1 0 → P 1 1 → (a b k : ℕ) → P (bit a k) (bit b k)
-on-digits P p q r s a b k = on-digit (λ x. P x (bit b k)) (on-digit (P 0) p q (bit b k) (bit-lt b k)) (on-digit (P 1) r s (bit b k) (bit-lt b k))
-    (bit a k) (bit-lt a k)
-
-on-tests : (P : Bool → Bool → Type 0) → P false false → P false true → P true false → P true true → (a b : Bool) → P a b
-on-tests P p q r s true true = s
-on-tests P p q r s true false = r
-on-tests P p q r s false true = q
-on-tests P p q r s false false = p
 
 -- a digit is the number of its test, and the test of such a number is the test
 pub digit-test : (m k : ℕ) → cond (inMask m k) 1 0 ≡ bit m k
@@ -99,75 +88,7 @@ mask-of-in n f k t =
     ⊎-elim (λ (b : k < n). (b, rw (mask-member n f k b) at t))
     (λ (b : n ≤ k). let e : bit (maskOf n f) k ≡ 1 = eqb→eq (bit (maskOf n f) k) 1 t in absurd (omega (arith, mask-out n f k b))) (lt-or-le k n)
 
--- two masks of n digits are equal where their members are
-pub mask-ext : (n a b : ℕ) → a < 2 ^ n → b < 2 ^ n → ((k : ℕ) → k < n → bit a k ≡ bit b k) → a ≡ b
-mask-ext n a b g h e = bit-ext a b (λ k. ⊎-elim (λ c. e k c) (λ c. digit-out a n k g c ∙ sym (digit-out b n k h c)) (lt-or-le k n))
-
--- every number below 2 ^ n is the sum of the powers of two of its members
-pub mask-of-members : (n m : ℕ) → m < 2 ^ n → maskOf n (inMask m) ≡ m
-mask-of-members n m h = mask-ext n (maskOf n (inMask m)) m (mask-lt n (inMask m)) h (λ k b. mask-digit n (inMask m) k b ∙ digit-test m k)
-
--- ---- joins and intersections
-
-pub in-or : (a b k : ℕ) → inMask (bitOr a b) k ≡ (inMask a k || inMask b k)
-in-or a b k = rw bit-or (on-digits (λ x y. eqb (max x y) 1 ≡ (eqb x 1 || eqb y 1)) refl refl refl refl a b k)
-
-pub in-and : (a b k : ℕ) → inMask (bitAnd a b) k ≡ (inMask a k && inMask b k)
-in-and a b k = rw bit-and (on-digits (λ x y. eqb (min x y) 1 ≡ (eqb x 1 && eqb y 1)) refl refl refl refl a b k)
-
--- a join of masks is the mask of the union, an intersection that of the common members
-pub mask-or : (n : ℕ) (f g : ℕ → Bool) → bitOr (maskOf n f) (maskOf n g) ≡ maskOf n (λ k. f k || g k)
-mask-or n f g = mask-ext n _ _ (or-lt n (maskOf n f) (maskOf n g) (mask-lt n f) (mask-lt n g)) (mask-lt n (λ k. f k || g k))
-    (λ k b. rw (bit-or, mask-digit n f k b, mask-digit n g k b, mask-digit n (λ k. f k || g k) k b)
-    (on-tests (λ x y. max (cond x 1 0) (cond y 1 0) ≡ cond (x || y) 1 0) refl refl refl refl (f k) (g k)))
-
-pub mask-and : (n : ℕ) (f g : ℕ → Bool) → bitAnd (maskOf n f) (maskOf n g) ≡ maskOf n (λ k. f k && g k)
-mask-and n f g = mask-ext n _ _ (and-lt n (maskOf n f) (maskOf n g) (mask-lt n f) (mask-lt n g)) (mask-lt n (λ k. f k && g k))
-    (λ k b. rw (bit-and, mask-digit n f k b, mask-digit n g k b, mask-digit n (λ k. f k && g k) k b)
-    (on-tests (λ x y. min (cond x 1 0) (cond y 1 0) ≡ cond (x && y) 1 0) refl refl refl refl (f k) (g k)))
-
--- ---- a shift
-
--- a set without members below n
-pub mask-none : (n : ℕ) (f : ℕ → Bool) → ((k : ℕ) → k < n → f k ≡ false) → maskOf n f ≡ 0
-unfolding maskOf
-mask-none zero f h = refl
-mask-none (suc n) f h = rw (h n (omega arith)) (zero-add (maskOf n f) ∙ mask-none n f (λ k b. h k (omega arith)))
-
--- shifted up by s: the sum of 2 to the power k + s over the k below n that are in f
-pub mask-shift : (s n : ℕ) (f : ℕ → Bool) → maskOf n f * 2 ^ s ≡ maskOf (n + s) (λ k. leb s k && f (k - s))
-unfolding maskOf
-mask-shift s zero f = zero-mul (2 ^ s) ∙ sym (mask-none (0 + s) (λ k. leb s k && f (k - s)) (λ k b. rw (lt-leb s k (omega arith))))
-mask-shift s (suc n) f =
-    let next : suc n + s ≡ suc (n + s) = omega arith in
-    let back : n + s - s ≡ n = omega arith in
-    rw (next, le-leb s (n + s) (omega arith), back, ← mask-shift s n f) (go (f n))
-  where
-    go : (b : Bool) → (cond b (2 ^ n) 0 + maskOf n f) * 2 ^ s ≡ cond b (2 ^ (n + s)) 0 + maskOf n f * 2 ^ s
-    go true = rw (pow-add 2 n s) (add-mul (2 ^ n) (maskOf n f) (2 ^ s))
-    go false = rw (zero-add, zero-add)
-
--- ---- one member more
-
-power-test : (l k : ℕ) → bit (2 ^ l) k ≡ cond (eqb k l) 1 0
-power-test l k = ⊎-elim (λ (p : (k ≡ l) × (eqb k l ≡ true)). rw (p .1) (rw (p .0) (bit-pow l)))
-    (λ (p : (k ≢ l) × (eqb k l ≡ false)). rw (p .1) (bit-pow-other l k (p .0))) (eqb-cases k l)
-
-pub mask-one : (n l : ℕ) → l < n → 2 ^ l ≡ maskOf n (λ k. eqb k l)
-mask-one n l h = mask-ext n (2 ^ l) _ (pow-lt h) (mask-lt n (λ k. eqb k l)) (λ k b. power-test l k ∙ sym (mask-digit n (λ k. eqb k l) k b))
-
-pub in-with : (m l k : ℕ) → inMask (bitOr m (2 ^ l)) k ≡ (inMask m k || eqb k l)
-in-with m l k = rw (in-or, power-test) (ap (λ b. inMask m k || b) (test-digit (eqb k l)))
-
-pub mask-with : (n : ℕ) (f : ℕ → Bool) (l : ℕ) → l < n → bitOr (maskOf n f) (2 ^ l) ≡ maskOf n (λ k. f k || eqb k l)
-mask-with n f l h = ap (λ x. bitOr (maskOf n f) x) (mask-one n l h) ∙ mask-or n f (λ k. eqb k l)
-
 -- ---- the machine's shifts and tests
-
--- `m >> k & 1`
-pub shift-test : (m k : ℕ) → bitAnd (m / 2 ^ k) 1 ≡ bit m k
-unfolding bit
-shift-test m k = and-mask (m / 2 ^ k) 1
 
 pub and-power : (m k : ℕ) → bitAnd m (2 ^ k) ≡ bit m k * 2 ^ k
 unfolding bit
@@ -192,29 +113,12 @@ module _ (width : ℕ) where
   pub or-below : (s m k : ℕ) → m * 2 ^ s < 2 ^ width → k < 2 ^ s → bitOr (m * 2 ^ s % 2 ^ width) k ≡ m * 2 ^ s + k
   or-below s m k h b = rw (mod-eq-of-lt h) (or-shifted m s k b)
 
--- a word of 5 digits below a mask: `m << 5 | k`, `w >> 5` and `w & 31`
-pub word-or : (width m k : ℕ) → m * 32 < 2 ^ width → k < 32 → bitOr (m * 32 % 2 ^ width) k ≡ m * 32 + k
-word-or width m k h b = or-below width 5 m k h b
-
-pub word-high : (m k : ℕ) → k < 32 → (m * 32 + k) / 32 ≡ m
-word-high m k b = omega arith
-
-pub word-low : (w : ℕ) → bitAnd w 31 ≡ w % 32
-word-low w = and-mask w 5
-
-pub word-parts : (w : ℕ) → w / 32 * 32 + w % 32 ≡ w
-word-parts w = omega arith
-
 -- ---- the lowest member
 
 -- k is the lowest member of m
 pub record Lowest (m k : ℕ) : Type 0 where
   pub member : bit m k ≡ 1
   pub below : (i : ℕ) → i < k → bit m i ≡ 0
-
-pub lowest-unique : {m j k : ℕ} → Lowest m j → Lowest m k → j ≡ k
-lowest-unique {m} {j} {k} a b = ⊎-elim (λ (h : j < k). absurd (omega (arith, a .member, b .below j h)))
-    (λ (h : k ≤ j). ⊎-elim (λ (g : k < j). absurd (omega (arith, b .member, a .below k g))) (λ (g : j ≤ k). omega arith) (lt-or-le k j)) (lt-or-le j k)
 
 low-digit : (m : ℕ) → (m % 2 ≡ 0) ⊎ (m % 2 ≡ 1)
 low-digit m = on-digit (λ d. (d ≡ 0) ⊎ (d ≡ 1)) (inl refl) (inr refl) (m % 2) (omega arith)
@@ -242,27 +146,10 @@ trailing-lt width m p h = ⊎-elim (λ b. b)
     (omega (arith, digit-out m width (trailingZeros width m) h b, (trailing-lowest width m p h) .member)))
     (lt-or-le (trailingZeros width m) width)
 
--- `m & m - 1` is m without its lowest member: as a number, and by members
-pub clear-lowest : (width m : ℕ) → 0 < m → m < 2 ^ width → bitAnd m (m - 1) ≡ m - 2 ^ trailingZeros width m
-unfolding trailingZeros
-clear-lowest zero m p h = absurd (omega arith)
-clear-lowest (suc n) m p h = ⊎-elim
-    (λ (e : m % 2 ≡ 0).
-    let t = trailingZeros n (m / 2) in
-    let half : (m - 1) / 2 ≡ m / 2 - 1 = omega arith in
-    let low : (m - 1) % 2 ≡ 1 = omega arith in
-    let rest = clear-lowest n (m / 2) (omega arith) (half-small n m h) in
-    let double : 2 ^ suc t ≡ 2 ^ t + 2 ^ t = omega arith in
-    rw e (and-step m (m - 1) ∙ rw (half, low, e, rest, double) (omega arith)))
-    (λ (e : m % 2 ≡ 1).
-    let half : (m - 1) / 2 ≡ m / 2 = omega arith in
-    let low : (m - 1) % 2 ≡ 0 = omega arith in
-    rw e (and-step m (m - 1) ∙ rw (half, low, e, and-self) (omega arith)))
-    (low-digit m)
-
 pub clear-lt : (m : ℕ) → 0 < m → bitAnd m (m - 1) < m
 clear-lt m p = omega (arith, and-le-r m (m - 1))
 
+-- `m & m - 1` is m without its lowest member
 pub clear-digit : (width m k : ℕ) → 0 < m → m < 2 ^ width → bit (bitAnd m (m - 1)) k ≡ cond (eqb k (trailingZeros width m)) 0 (bit m k)
 unfolding trailingZeros
 clear-digit zero m k p h = absurd (omega arith)
@@ -282,10 +169,3 @@ clear-digit (suc n) m (suc k) p h =
     let half : (m - 1) / 2 ≡ m / 2 = omega arith in
     rw (e, bit-suc, q, half, and-self, eqb·suc-zero k) (sym (bit-suc m k)))
     (low-digit m)
-
-pub in-clear : (width m k : ℕ) → 0 < m → m < 2 ^ width → inMask (bitAnd m (m - 1)) k ≡ (inMask m k && not (eqb k (trailingZeros width m)))
-in-clear width m k p h = rw (clear-digit width m k p h) (go (eqb k (trailingZeros width m)) (bit m k))
-  where
-    go : (t : Bool) (d : ℕ) → eqb (cond t 0 d) 1 ≡ (eqb d 1 && not t)
-    go true d = on-tests (λ x y. cond x false y ≡ (y && not x)) refl refl refl refl true (eqb d 1)
-    go false d = on-tests (λ x y. cond x false y ≡ (y && not x)) refl refl refl refl false (eqb d 1)

@@ -30,12 +30,12 @@ kept-back a b = record { grows = b .grows; room = b .room; size = b .size ∙ a 
 -- ---- a step that is put
 
 module _ (s : List ℕ) (n e : ℕ) where
-  pub put-stored : n < length s → PutAt s n e (n + 1) (set s n e)
-  put-stored h = record {
+  pub put-stored : (v : ℕ) → v ≡ e → n < length s → PutAt s n e (n + 1) (set s n v)
+  put-stored v same h = rw same (record {
     buffer = record { grows = omega arith; room = rw (length-set s n e) (omega arith); size = length-set s n e; same = take-set-le n s n e (le-refl n) };
     one = le-refl (n + 1);
     put = λ k. rw add-one (take-suc-set s n e h);
-  }
+  })
 
   pub put-full : length s ≤ n → n ≤ length s → PutAt s n e n s
   put-full h k = record { buffer = kept-same s n k; one = omega arith; put = λ l. absurd (omega arith) }

@@ -26,8 +26,8 @@ module _ (m l b w : ℕ) (is : l < 32 → b ≡ 2 ^ l) where
       rw (ne-eqb (bit m l) 0 z)
 
   -- it is not
-  pub gives-tested : bitAnd m b ≡ 0 → l < 32 → eqb (m * 32 + l) w ≡ gives w m l
-  gives-tested e h = rw (eq-eqb (bit m l) 0 (none (bit m l) (sym (and-power m l) ∙ ap (bitAnd m) (sym (is h)) ∙ e)))
+  pub gives-tested : (v : ℕ) → bitAnd m b ≡ 0 → (l < 32 → v ≡ m * 32 + l) → l < 32 → eqb v w ≡ gives w m l
+  gives-tested v e f h = rw (f h, eq-eqb (bit m l) 0 (none (bit m l) (sym (and-power m l) ∙ ap (bitAnd m) (sym (is h)) ∙ e)))
     where
       none : (x : ℕ) → x * 2 ^ l ≡ 0 → x ≡ 0
       none zero z = refl

@@ -43,7 +43,7 @@ fn gives_word(mask: u64, l: u16, word: u64) -> bool
     if mask & mask_of(l) != 0 {
         return false;
     }
-    mask * 32 + (l as u64) == word
+    locks::word_of(mask, l as u64) == word
 }
 
 // One step more, with the mask after it, where the buffer has room.
@@ -52,7 +52,7 @@ fn put(steps: &mut [u64], n: usize, choice: u64, mask: u64) -> usize
     ensures { λ r. ⌜ PutAt (now (steps .entry)) n (stepOf choice mask) r (now (steps .exit)) ⌝ }
 {
     if n < steps.len() {
-        steps[n] = choice + 4 * mask;
+        steps[n] = locks::step_of(choice, mask);
         return n + 1;
     }
     n

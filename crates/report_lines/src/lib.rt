@@ -83,8 +83,10 @@ pub fn put_pair(out: &mut [u8], at: usize, word: u64) -> usize
     requires { ⌜ at + pairRoom ≤ length (now out) ⌝ }
     ensures { λ r. ⌜ Wrote (now (out .entry)) (now (out .exit)) at r (pairLine word) ⌝ }
 {
-    let i = put_numbered(out, at, b"(pair ", word % 32);
-    let j = put_members(out, i, word / 32);
+    let wanted = locks::wanted_in(word);
+    let held = locks::held_in(word);
+    let i = put_numbered(out, at, b"(pair ", wanted);
+    let j = put_members(out, i, held);
     put_text(out, j, b")\n")
 }
 
@@ -103,8 +105,10 @@ pub fn put_step(out: &mut [u8], at: usize, entry: u16) -> usize
     requires { ⌜ at + stepRoom ≤ length (now out) ⌝ }
     ensures { λ r. ⌜ Wrote (now (out .entry)) (now (out .exit)) at r (stepLine entry) ⌝ }
 {
-    let i = put_numbered(out, at, b"(step ", (entry % 8) as u64);
-    let j = put_numbered(out, i, b" ", (entry / 8) as u64);
+    let thread = locks::thread_in(entry as u64);
+    let choice = locks::rest_in(entry as u64);
+    let i = put_numbered(out, at, b"(step ", thread);
+    let j = put_numbered(out, i, b" ", choice);
     put_text(out, j, b")\n")
 }
 

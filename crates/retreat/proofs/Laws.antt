@@ -33,12 +33,12 @@ pub mask-first : (steps : List ℕ) (t j : ℕ) → j ≡ 0 → 0 ≡ getD (mask
 unfolding masksOf
 mask-first steps t j e = rw e
 
-pub mask-next : (steps : List ℕ) (t j : ℕ) → (j ≡ 0 → ⊥) → getD steps (1024 * t + (j - 1)) 0 / 4 ≡ getD (masksOf steps t) j 0
+pub mask-next : (steps : List ℕ) (t j r : ℕ) → (j ≡ 0 → ⊥) → r ≡ getD steps (1024 * t + (j - 1)) 0 / 4 → r ≡ getD (masksOf steps t) j 0
 unfolding masksOf
-mask-next steps t zero n = absurd (n refl)
-mask-next steps t (suc j) n =
+mask-next steps t zero r n f = absurd (n refl)
+mask-next steps t (suc j) r n f =
     let e : suc j - 1 ≡ j = omega arith in
-    rw e (sym (List·getD-map (λ e. e / 4) (drop (1024 * t) steps) j 0 ∙ ap (λ x. x / 4) (getD-drop (1024 * t) steps j 0)))
+    (rw e at f) ∙ sym (List·getD-map (λ e. e / 4) (drop (1024 * t) steps) j 0 ∙ ap (λ x. x / 4) (getD-drop (1024 * t) steps j 0))
 
 module _ (steps js : List ℕ) (n t : ℕ) (w : Within steps js n) (h : t < n) where
   pub within-at : getD js t 0 ≤ 1024

@@ -1,6 +1,6 @@
 -- One move over the lent tables is a move of the theory (`step-back`, `jump-back`), so the way back goes on leading to the target; and the sum of the
 -- positions falls. The theory's positions are the first n of the table.
-use Prim.Native.Nat.{ℕ, zero, suc, _+_, _-_, _*_, _<_, _≤_}
+use Prim.Native.Nat.{ℕ, zero, suc, _+_, _-_, _*_, _%_, _<_, _≤_}
 use native.Mathlib.Nat.{eq-zero-or-pos}
 use native.Mathlib.Omega.{arith}
 use mathlib.Core.Path.{_≡_, sym, ap, _∙_, subst}
@@ -21,6 +21,13 @@ use Rattle.retreat.specs.Paths.{masksOf, choiceAt, Within, Holding, meet
 use Rattle.retreat.specs.Moves.{NoneBelow, FirstBelow, hasStepped, AtStart, stepsLeft, entryOf}
 use Rattle.retreat.specs.Moves.{Landed, SteppedBack, Jumped, Turned, Retreats, WentBack}
 use Rattle.retreat.proofs.Laws.{join-same, back-stepped}
+
+-- ---- the entry of a step back
+
+pub entry-put : (steps js es : List ℕ) (k d c e : ℕ) (r : List ℕ) → c ≡ getD steps (1024 * k + (getD js k 0 - 1)) 0 % 4 → e ≡ k + 8 * c → r ≡ set es d e
+    → r ≡ set es d (entryOf steps js k)
+unfolding entryOf choiceAt
+entry-put steps js es k d c e r f g h = rw (← f, ← g) h
 
 -- ---- a move of the theory
 

@@ -36,7 +36,7 @@ fn mask_at(steps: &[u64], t: usize, j: u64) -> u64
     if j == 0 {
         return 0;
     }
-    steps[1024 * t + (j as usize - 1)] / 4
+    locks::mask_in(steps[1024 * t + (j as usize - 1)])
 }
 
 // The locks that each thread holds at its position.
@@ -138,7 +138,7 @@ fn put_entry(steps: &[u64], js: &mut [u64], entries: &mut [u16], k: usize, d: us
 {
     let j = js[k] - 1;
     let step = steps[1024 * k + j as usize];
-    entries[d] = k as u16 + 8 * ((step % 4) as u16);
+    entries[d] = locks::entry_of(k as u64, locks::choice_in(step)) as u16;
     js[k] = j;
 }
 

@@ -13,14 +13,13 @@ use lib.Bits.{bitOr}
 use lib.ListN.{length, getD, set, List·getD-eq-default}
 use lib.Seq.{getD-set-same, getD-set-other}
 use lib.Dec.{ltb}
-use lib.Pow.{pow-mono}
 use borrow.Author.Tests.{lt-ltb}
 use Rattle.laws.specs.Mask.{bit, maskOf}
 use Rattle.laws.proofs.Bits.{bit-zero, bit-suc, bit-or, bit-ext, bit-none, bit-pow, bit-pow-other}
-use Rattle.laws.proofs.Masks.{mask-lt, mask-digit, mask-out, word-or}
+use Rattle.laws.proofs.Masks.{mask-lt, mask-digit, mask-out}
 use Rattle.laws.proofs.Tests.{lt-or-le}
 use Rattle.semantics.specs.Run.{up}
-use Rattle.semantics.specs.Pairs.{heldFrom, held, wordOf}
+use Rattle.semantics.specs.Pairs.{heldFrom, held}
 
 shift : (k : ℕ) (cs : List ℕ) → heldFrom k cs ≡ held cs * 2 ^ k
 unfolding heldFrom
@@ -78,7 +77,3 @@ held-mask n cs h = bit-ext (held cs) (maskOf n (λ l. ltb 0 (getD cs l 0))) (λ 
 
 pub held-lt : (n : ℕ) (cs : List ℕ) → length cs ≤ n → held cs < 2 ^ n
 held-lt n cs h = rw (held-mask n cs h) (mask-lt n (λ l. ltb 0 (getD cs l 0)))
-
--- a pair's word as a machine of 37 digits or more makes it, `m << 5 | l`
-pub held-word : (width : ℕ) → 37 ≤ width → (cs : List ℕ) → length cs ≤ 32 → (l : ℕ) → l < 32 → bitOr (held cs * 32 % 2 ^ width) l ≡ wordOf (held cs) l
-held-word width h cs k l b = word-or width (held cs) l (omega (arith, held-lt 32 cs k, pow-mono h)) b

@@ -1,5 +1,5 @@
 -- One thread: the procedure that it runs and what it begins with, and its path, which is copied into its row.
-use Prim.Native.Nat.{ℕ, _+_, _-_, _*_, _^_, _<_, _≤_}
+use Prim.Native.Nat.{ℕ, _+_, _-_, _*_, _/_, _%_, _^_, _<_, _≤_}
 use native.Mathlib.Nat.{sub-zero}
 use native.Mathlib.Omega.{arith}
 use mathlib.Core.List.{List, _++_}
@@ -12,7 +12,6 @@ use Rattle.laws.proofs.Tests.{eq-or-ne}
 use Rattle.semantics.specs.Plan.{bodyIn}
 use Rattle.semantics.specs.Run.{initial}
 use Rattle.semantics.specs.Sizes.{sizeOf}
-use Rattle.semantics.specs.Pairs.{wantOf}
 use Rattle.semantics.proofs.Closing.{wishOf}
 use Rattle.semantics.proofs.Paths.{Finds}
 use Rattle.plan.specs.Table.{tableForms}
@@ -136,6 +135,13 @@ module _ (ws starts path₀ path : List ℕ) (procs p word r : ℕ) (a : PathAsk
           others = row-other steps q t room short;
         })
 
-pub member-put : (ws : List ℕ) (t word p r v : ℕ) (steps lens wishes steps′ : List ℕ) → p ≡ procOf ws t → RowWritten ws p word t steps r steps′
-    → v ≡ 2 ^ wantOf word → MemberPut ws t word steps lens wishes steps′ (set lens t r) (set wishes t v)
-member-put ws t word p r v steps lens wishes steps′ e w h = record { count = r; row = rw (← e) w; lengths = refl; wanted = rw h }
+-- ---- the member of a circle that an entry is
+
+module _ (ws : List ℕ) (e t word p : ℕ) (of : t ≡ e % 8) (rest : word ≡ e / 8) (is : p ≡ procOf ws t) where
+  pub member-asked : (starts threads path : List ℕ) (procs n : ℕ) → Threads ws starts procs threads n → Target ws n (e % 8) (e / 8) → 1025 ≤ length path → p < procs
+      → PathAsked ws starts procs p word path
+  member-asked starts threads path procs n a g h k = target-asked ws starts threads procs n t a word p path (rw (of, rest) g) h is k
+
+  pub member-put : (r k v : ℕ) (steps lens wishes steps′ : List ℕ) → RowWritten ws p word t steps r steps′ → k ≡ word % 32 → v ≡ 2 ^ k
+      → MemberPut ws (e % 8) (e / 8) steps lens wishes steps′ (set lens t r) (set wishes t v)
+  member-put r k v steps lens wishes steps′ w f h = rw (← of, ← rest) (record { count = r; row = rw (← is) w; lengths = refl; wanted = rw (h, f) })

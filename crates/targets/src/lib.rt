@@ -92,12 +92,12 @@ fn put_member(
     ensures { λ _. ⌜ MemberPut (now (table .entry)) (entry % 8) (entry / 8) (now (steps .entry)) (now (lens .entry)) (now (wishes .entry))
         (now (steps .exit)) (now (lens .exit)) (now (wishes .exit)) ⌝ }
 {
-    let t = (entry % 8) as usize;
-    let word = entry / 8;
+    let t = locks::thread_in(entry) as usize;
+    let word = locks::rest_in(entry);
     let p = proc_of(table, starts, procs, threads, n, t);
     let count = put_path(table, starts, procs, p, word, path, t, steps);
     lens[t] = count as u64;
-    wishes[t] = locks::lock_bit(word % 32);
+    wishes[t] = locks::lock_bit(locks::wanted_in(word));
 }
 
 // The same for each member of the circle.

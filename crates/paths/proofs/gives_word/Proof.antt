@@ -10,14 +10,11 @@ mask-of-requires c κs = search needs
 returns : tie.Need-returns
 returns c = gives-not _ _ _ _ (c .before .mask-of .ensures .1) (c .if1 .taken)
 
-mul-result : tie.Need-mul-result
-mul-result c = search needs
-
-add-result : tie.Need-add-result
-add-result c = search needs
+word-of-requires : tie.Need-word-of-requires
+word-of-requires c κs = search needs
 
 returns-2 : tie.Need-returns-2
-returns-2 c = gives-tested _ _ _ _ (c .before .mask-of .ensures .1) (c .if1 .left)
+returns-2 c = gives-tested _ _ _ _ (c .before .before .mask-of .ensures .1) _ (c .before .if1 .left) (c .word-of .ensures)
 
 pub gives-word-spec : {M : Type 1} → statement M
-gives-word-spec = tie.close (tie.spec mask-of-requires returns mul-result add-result returns-2)
+gives-word-spec = tie.close (tie.spec mask-of-requires returns word-of-requires returns-2)

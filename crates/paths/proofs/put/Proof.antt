@@ -4,14 +4,11 @@ use borrow.Author.Needs.{needs}
 use Rattle.paths.proofs.put.Statement.{statement}
 use Rattle.paths.proofs.put.Tie as tie
 
+step-of-requires : tie.Need-step-of-requires
+step-of-requires c κs = search needs
+
 mul-steps : tie.Need-mul-steps
 mul-steps c = search needs
-
-add-steps : tie.Need-add-steps
-add-steps c = search needs
-
-mul-steps-2 : tie.Need-mul-steps-2
-mul-steps-2 c = search needs
 
 slice-write-steps : tie.Need-slice-write-steps
 slice-write-steps c = search needs
@@ -32,9 +29,8 @@ pub put-spec : {M : Type 1} → statement M
 put-spec =
     tie.close
     (tie.spec
+    step-of-requires
     mul-steps
-    add-steps
-    mul-steps-2
     slice-write-steps
     add-result
     same-length

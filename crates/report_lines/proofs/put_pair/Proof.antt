@@ -1,39 +1,36 @@
 -- The wanted lock with the word before it, the held locks, then the end. The wanted lock has at most 2 digits, the held ones have at most 192 bytes together.
 use borrow.Author.Needs.{needs}
-use Prim.Native.Nat.{_/_, _%_}
 use native.Mathlib.Omega.{arith}
-use Rattle.report_lines.proofs.Digits.{digits-short}
-use Rattle.report_lines.proofs.Members.{members-short}
-use Rattle.report_lines.proofs.WholeLines.{pair-whole}
+use Rattle.report_lines.proofs.WholeLines.{wanted-short, held-short, pair-whole}
 use Rattle.report_lines.proofs.put_pair.Statement.{statement}
 use Rattle.report_lines.proofs.put_pair.Tie as tie
+
+wanted-in-requires : tie.Need-wanted-in-requires
+wanted-in-requires c κs = search needs
+
+held-in-requires : tie.Need-held-in-requires
+held-in-requires c κs = search needs
 
 slice-aggregate-put-numbered : tie.Need-slice-aggregate-put-numbered
 slice-aggregate-put-numbered c = search needs
 
 put-numbered-requires : tie.Need-put-numbered-requires
 put-numbered-requires c κs =
-    let a = c .before .before .before .args in
-    let h = digits-short 1 (a .word % 32) (omega arith) in
-    let k = members-short (a .word / 32) in
-    omega arith
+    let b = c .before .before in
+    omega (arith, wanted-short _ _ (b .before .wanted-in .ensures), held-short _ _ (b .held-in .ensures))
 
 put-members-requires : tie.Need-put-members-requires
 put-members-requires c κs =
-    let a = c .before .before .before .before .before .before .before .args in
-    let h = digits-short 1 (a .word % 32) (omega arith) in
-    let k = members-short (a .word / 32) in
-    omega arith
+    let b = c .before .before .before .before .before .before in
+    omega (arith, wanted-short _ _ (b .before .wanted-in .ensures), held-short _ _ (b .held-in .ensures))
 
 slice-aggregate-put-text : tie.Need-slice-aggregate-put-text
 slice-aggregate-put-text c = search needs
 
 put-text-requires : tie.Need-put-text-requires
 put-text-requires c κs =
-    let a = c .before .before .before .before .before .before .before .before .before .before .before .before .args in
-    let h = digits-short 1 (a .word % 32) (omega arith) in
-    let k = members-short (a .word / 32) in
-    omega arith
+    let b = c .before .before .before .before .before .before .before .before .before .before .before in
+    omega (arith, wanted-short _ _ (b .before .wanted-in .ensures), held-short _ _ (b .held-in .ensures))
 
 same-length : tie.Need-same-length
 same-length c = search needs
@@ -45,6 +42,8 @@ pub put-pair-spec : {M : Type 1} → statement M
 put-pair-spec =
     tie.close
     (tie.spec
+    wanted-in-requires
+    held-in-requires
     slice-aggregate-put-numbered
     put-numbered-requires
     put-members-requires

@@ -1,47 +1,39 @@
 -- The thread and the choice with the words before them, then the end. A thread has one digit, a choice at most 4.
 use borrow.Author.Needs.{needs}
-use Prim.Native.Nat.{_/_, _%_}
 use native.Mathlib.Omega.{arith}
-use Rattle.report_lines.proofs.Digits.{digits-short}
-use Rattle.report_lines.proofs.WholeLines.{step-whole}
+use Rattle.report_lines.proofs.WholeLines.{thread-short, choice-short, step-whole}
 use Rattle.report_lines.proofs.put_step.Statement.{statement}
 use Rattle.report_lines.proofs.put_step.Tie as tie
+
+thread-in-requires : tie.Need-thread-in-requires
+thread-in-requires c κs = search needs
+
+rest-in-requires : tie.Need-rest-in-requires
+rest-in-requires c κs = search needs
 
 slice-aggregate-put-numbered : tie.Need-slice-aggregate-put-numbered
 slice-aggregate-put-numbered c = search needs
 
-cast-put-numbered : tie.Need-cast-put-numbered
-cast-put-numbered c = search needs
-
 put-numbered-requires : tie.Need-put-numbered-requires
 put-numbered-requires c κs =
-    let a = c .before .before .before .args in
-    let h = digits-short 0 (a .entry % 8) (omega arith) in
-    let k = digits-short 3 (a .entry / 8) (omega arith) in
-    omega arith
+    let b = c .before .before in
+    omega (arith, thread-short _ _ (b .before .thread-in .ensures), choice-short _ _ (omega arith) (b .rest-in .ensures))
 
 slice-aggregate-put-numbered-2 : tie.Need-slice-aggregate-put-numbered-2
 slice-aggregate-put-numbered-2 c = search needs
 
-cast-put-numbered-2 : tie.Need-cast-put-numbered-2
-cast-put-numbered-2 c = search needs
-
 put-numbered-requires-2 : tie.Need-put-numbered-requires-2
 put-numbered-requires-2 c κs =
-    let a = c .before .before .before .before .before .before .before .before .args in
-    let h = digits-short 0 (a .entry % 8) (omega arith) in
-    let k = digits-short 3 (a .entry / 8) (omega arith) in
-    omega arith
+    let b = c .before .before .before .before .before .before .before in
+    omega (arith, thread-short _ _ (b .before .thread-in .ensures), choice-short _ _ (omega arith) (b .rest-in .ensures))
 
 slice-aggregate-put-text : tie.Need-slice-aggregate-put-text
 slice-aggregate-put-text c = search needs
 
 put-text-requires : tie.Need-put-text-requires
 put-text-requires c κs =
-    let a = c .before .before .before .before .before .before .before .before .before .before .before .before .before .args in
-    let h = digits-short 0 (a .entry % 8) (omega arith) in
-    let k = digits-short 3 (a .entry / 8) (omega arith) in
-    omega arith
+    let b = c .before .before .before .before .before .before .before .before .before .before .before .before in
+    omega (arith, thread-short _ _ (b .before .thread-in .ensures), choice-short _ _ (omega arith) (b .rest-in .ensures))
 
 same-length : tie.Need-same-length
 same-length c = search needs
@@ -53,11 +45,11 @@ pub put-step-spec : {M : Type 1} → statement M
 put-step-spec =
     tie.close
     (tie.spec
+    thread-in-requires
+    rest-in-requires
     slice-aggregate-put-numbered
-    cast-put-numbered
     put-numbered-requires
     slice-aggregate-put-numbered-2
-    cast-put-numbered-2
     put-numbered-requires-2
     slice-aggregate-put-text
     put-text-requires

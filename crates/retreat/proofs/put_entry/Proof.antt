@@ -1,6 +1,5 @@
 -- The entry of the last step of thread k, and its position one lower.
-use Rattle.retreat.specs.Paths.{choiceAt}
-use Rattle.retreat.specs.Moves.{entryOf}
+use Rattle.retreat.proofs.Moves.{entry-put}
 use borrow.Author.Needs.{needs}
 use Rattle.retreat.proofs.put_entry.Statement.{statement}
 use Rattle.retreat.proofs.put_entry.Tie as tie
@@ -26,20 +25,17 @@ mul-step-2 c = search needs
 shared-slice-read-step : tie.Need-shared-slice-read-step
 shared-slice-read-step c = search needs
 
+choice-in-requires : tie.Need-choice-in-requires
+choice-in-requires c κs = search needs
+
+entry-of-requires : tie.Need-entry-of-requires
+entry-of-requires c κs = search needs
+
 cast-entries : tie.Need-cast-entries
 cast-entries c = search needs
 
-cast-entries-2 : tie.Need-cast-entries-2
-cast-entries-2 c = search needs
-
 mul-entries : tie.Need-mul-entries
 mul-entries c = search needs
-
-add-entries : tie.Need-add-entries
-add-entries c = search needs
-
-mul-entries-2 : tie.Need-mul-entries-2
-mul-entries-2 c = search needs
 
 slice-write-entries : tie.Need-slice-write-entries
 slice-write-entries c = search needs
@@ -57,8 +53,7 @@ same-length-2 : tie.Need-same-length-2
 same-length-2 c = search needs
 
 returns : tie.Need-returns
-unfolding entryOf choiceAt
-returns c = search needs
+returns c = search (entry-put, needs)
 
 pub put-entry-spec : {M : Type 1} → statement M
 put-entry-spec =
@@ -71,11 +66,10 @@ put-entry-spec =
     add-step
     mul-step-2
     shared-slice-read-step
+    choice-in-requires
+    entry-of-requires
     cast-entries
-    cast-entries-2
     mul-entries
-    add-entries
-    mul-entries-2
     slice-write-entries
     mul-js
     slice-write-js
