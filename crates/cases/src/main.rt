@@ -45,12 +45,12 @@ fn show_proc(text: &[u8], p: usize, list: &mut [u64]) -> bool {
             print_pairs(p, n, list);
             true
         }
-        Listing::Refused { rule, line } => {
-            if rule == 11 {
+        Listing::Refused(refusal) => {
+            if refusal.rule == 11 {
                 return false;
             }
-            print_number(b"  pairs refused ", rule as u64);
-            print_number(b" ", line as u64);
+            print_number(b"  pairs refused ", refusal.rule as u64);
+            print_number(b" ", refusal.line as u64);
             io::write_all(1, b"\n");
             false
         }
@@ -143,9 +143,9 @@ fn show_verdict(text: &[u8], out: &mut [u16]) {
         Verdict::Deadlock { entries, stuck } => {
             print_schedule(text, entries, stuck as u64, out);
         }
-        Verdict::Refused { rule, line } => {
-            print_number(b"  refused ", rule as u64);
-            print_number(b" ", line as u64);
+        Verdict::Refused(refusal) => {
+            print_number(b"  refused ", refusal.rule as u64);
+            print_number(b" ", refusal.line as u64);
             io::write_all(1, b"\n");
         }
     }

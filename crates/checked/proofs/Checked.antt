@@ -16,7 +16,8 @@ use Rattle.plan.specs.declared.Reading.{Reading}
 use Rattle.plan.specs.declared.Reading.the-variants.{Accepted, Refused}
 use Rattle.plan.specs.Table.{formAt, tableForms}
 use Rattle.plan.specs.Settled.{PlanTable}
-use Rattle.plan.specs.Rules.{Refusal, refusedIf, readerRefusal, planRefusal, tooLarge, tooManyPairs, tooLong, readingOf, Tabled}
+use Rattle.text.specs.declared.Refusal.{Refusal}
+use Rattle.plan.specs.Rules.{refusedIf, readerRefusal, planRefusal, tooLarge, tooManyPairs, tooLong, readingOf, Tabled}
 use Rattle.plan.proofs.Laws.{first-refuses, first-passes}
 use Rattle.plan.proofs.Filling.{accepted-none, accepted-count}
 use Rattle.plan.proofs.Sound.{accepted-table}
@@ -35,10 +36,10 @@ accepted-short text e = go (ltb 32768 (length text)) refl (first-none _ _ e .0)
     go false t h = ltb-false 32768 (length text) t
 
 module _ (text table : List ℕ) (q : Reading) (t : Tabled (readerRefusal text) text q table) where
-  pub text-refused : (x y : ℕ) → q ≡ Refused x y → Tabled (planRefusal text) text q table
+  pub text-refused : (x : Refusal) → q ≡ Refused x → Tabled (planRefusal text) text q table
   unfolding planRefusal
-  text-refused x y g = record {
-    answer = first-refuses (readerRefusal text) (laterRefusal (formsOf text)) q (length (formsOf text)) x y (t .answer) g;
+  text-refused x g = record {
+    answer = first-refuses (readerRefusal text) (laterRefusal (formsOf text)) q (length (formsOf text)) x (t .answer) g;
     forms = λ e. t .forms (first-none (readerRefusal text) (laterRefusal (formsOf text)) e .0);
   }
 

@@ -18,7 +18,9 @@ use Rattle.plan.specs.declared.Reading.the-variants.{Accepted}
 use Rattle.plan.specs.declared.Reading.the-variants as plan
 use Rattle.plan.specs.Table.{tableForms}
 use Rattle.plan.specs.Settled.{tablePlan}
-use Rattle.plan.specs.Rules.{Refusal, refusedIf, planOf, readerRefusal, planRefusal, pairsRefusal, tooManyPairs, readingOf, Tabled}
+use Rattle.text.specs.declared.Refusal.{Refusal}
+use Rattle.text.specs.Lines.{refusal}
+use Rattle.plan.specs.Rules.{refusedIf, planOf, readerRefusal, planRefusal, pairsRefusal, tooManyPairs, readingOf, Tabled}
 use Rattle.buffers.specs.LittleEndian.{listBytes}
 use Rattle.buffers.proofs.Filled.{list-length}
 use Rattle.pairs.specs.Promises.{PairWords}
@@ -27,7 +29,7 @@ use Rattle.lockplan.specs.declared.Listing.{Listing}
 use Rattle.lockplan.specs.declared.Listing.the-variants.{Pairs, Refused}
 use Rattle.lockplan.specs.Answers.{listingOf, listingNumber}
 use Rattle.lockplan.specs.Promises.{pairsOf, written, Exact, Listed, ListedBytes}
-use Rattle.lockplan.specs.Steps.{TablePairs, PairsFound, handedOn, Below, Carried}
+use Rattle.lockplan.specs.Steps.{TablePairs, PairsFound, Below, Carried}
 use Rattle.plan.proofs.Sound.{accepted-settled}
 use Rattle.lockplan.proofs.LineBounds.{Numbers, pairs-bounded}
 use Rattle.checked.proofs.Checked.{plan-kept, plan-forms}
@@ -38,7 +40,7 @@ refused-some h = Option·none-ne-some _ (sym h)
 -- ---- in a table
 
 module _ (ws : List ℕ) (p procs : ℕ) (list : List ℕ) (c : procs ≡ length (tablePlan ws .procs)) where
-  pub table-absent : procs ≤ p → TablePairs ws p (Refused 11 0) list
+  pub table-absent : procs ≤ p → TablePairs ws p (Refused (refusal 11 0)) list
   unfolding listingOf
   table-absent h = rw (le-leb (length (tablePlan ws .procs)) p (omega arith))
       (record { answer = refl; listed = λ e. absurd (refused-some e); few = λ e. absurd (refused-some e) })
@@ -57,30 +59,30 @@ module _ (ws : List ℕ) (p procs : ℕ) (list : List ℕ) (c : procs ≡ length
 
 -- ---- in a text
 
-pub text-short : (text : List ℕ) (p lent : ℕ) (list : List ℕ) → lent < 128 → PairsFound text p lent (Refused 1 0) list
-unfolding listingOf pairsRefusal
+pub text-short : (text : List ℕ) (p lent : ℕ) (list : List ℕ) → lent < 128 → PairsFound text p lent (Refused (refusal 1 0)) list
+unfolding listingOf pairsRefusal orElse
 text-short text p lent list h = rw (lt-ltb lent 128 h) (record { answer = refl; listed = λ e. absurd (refused-some e); few = λ e. absurd (refused-some e) })
 
 -- enough is lent: the plan's rules come next, then 11
 pairs-refusal : (text : List ℕ) (p lent : ℕ) → 128 ≤ lent → pairsRefusal text p lent ≡ orElse (planRefusal text) (refusedIf 11 (leb (length (planOf text .procs)) p))
-unfolding pairsRefusal
+unfolding pairsRefusal orElse
 pairs-refusal text p lent h = rw (le-ltb lent 128 h)
 
 -- a refusal of the plan is the pair list's
-handed : (a b : Option Refusal) (q : Reading) (n m x y : ℕ) → q ≡ readingOf a n → q ≡ plan.Refused x y → (handedOn q ≡ listingOf (orElse a b) m) × (orElse a b ≡ none → ⊥)
-unfolding readingOf listingOf
-handed none b q n m x y e g = let z : _≡_ {A = ℕ} 0 1 = cc in absurd (omega arith)
-handed (some w) b q n m x y e g = (ap handedOn e, refused-some)
+handed : (a b : Option Refusal) (q : Reading) (n m : ℕ) (x : Refusal) → q ≡ readingOf a n → q ≡ plan.Refused x → (Refused x ≡ listingOf (orElse a b) m) × (orElse a b ≡ none → ⊥)
+unfolding readingOf listingOf orElse
+handed none b q n m x e g = let z : _≡_ {A = ℕ} 0 1 = cc in absurd (omega arith)
+handed (some w) b q n m x e g = let k : x ≡ w = cc in (ap Refused k, refused-some)
 
-pub text-refused : (text : List ℕ) (p lent : ℕ) (table list : List ℕ) (q : Reading) (r : Listing) (x y : ℕ) → 128 ≤ lent → Tabled (planRefusal text) text q table → q ≡ plan.Refused x y
-    → r ≡ handedOn q → PairsFound text p lent r list
-text-refused text p lent table list q r x y h t g k =
-    let d = handed (planRefusal text) (refusedIf 11 (leb (length (planOf text .procs)) p)) q (length (formsOf text)) (length (pairsOf text p)) x y (t .answer) g in
-    rw (pairs-refusal text p lent h) (record { answer = k ∙ d .0; listed = λ e. absurd (d .1 e); few = λ e. absurd (d .1 e) })
+pub text-refused : (text : List ℕ) (p lent : ℕ) (table list : List ℕ) (q : Reading) (x : Refusal) → 128 ≤ lent → Tabled (planRefusal text) text q table
+    → q ≡ plan.Refused x → PairsFound text p lent (Refused x) list
+text-refused text p lent table list q x h t g =
+    let d = handed (planRefusal text) (refusedIf 11 (leb (length (planOf text .procs)) p)) q (length (formsOf text)) (length (pairsOf text p)) x (t .answer) g in
+    rw (pairs-refusal text p lent h) (record { answer = d .0; listed = λ e. absurd (d .1 e); few = λ e. absurd (d .1 e) })
 
 pub text-listed : (text : List ℕ) (p lent n : ℕ) (table list : List ℕ) (q : Reading) (r : Listing) → 128 ≤ lent → Tabled (planRefusal text) text q table → q ≡ Accepted n
     → TablePairs (take (n - 0) table) p r list → PairsFound text p lent r list
-unfolding planOf
+unfolding planOf orElse
 text-listed text p lent n table list q r h t g w =
     rw (pairs-refusal text p lent h, plan-kept text table q n t g) (rw (plan-forms text table q n t g) at w)
 
@@ -103,10 +105,10 @@ exact-pairs text p lent e =
 -- ---- into the caller's buffer
 
 -- a refusal writes nothing
-untouched : (a : Option Refusal) (r : Listing) (n x y : ℕ) (given before : List ℕ) → r ≡ listingOf a n → r ≡ Refused x y → before ≡ written a given before
+untouched : (a : Option Refusal) (r : Listing) (n : ℕ) (x : Refusal) (given before : List ℕ) → r ≡ listingOf a n → r ≡ Refused x → before ≡ written a given before
 unfolding listingOf
-untouched none r n x y given before e h = let z : _≡_ {A = ℕ} 0 1 = cc in absurd (omega arith)
-untouched (some w) r n x y given before e h = refl
+untouched none r n x given before e h = let z : _≡_ {A = ℕ} 0 1 = cc in absurd (omega arith)
+untouched (some w) r n x given before e h = refl
 
 -- otherwise there are as many as the answer says
 answered : (a : Option Refusal) (r : Listing) (n m : ℕ) → r ≡ listingOf a n → r ≡ Pairs m → (a ≡ none) × (m ≡ n)
@@ -148,10 +150,10 @@ module _ (text : List ℕ) (p : ℕ) (before list : List ℕ) (r : Listing) (f :
     exact = exact-pairs text p (length before);
   }
 
-  pub words-refused : (x y : ℕ) → r ≡ Refused x y → Listed text p before r before
-  words-refused x y g = record {
+  pub words-refused : (x : Refusal) → r ≡ Refused x → Listed text p before r before
+  words-refused x g = record {
     answer = f .answer;
-    buffer = untouched (pairsRefusal text p (length before)) r (length (pairsOf text p)) x y (pairsOf text p) before (f .answer) g;
+    buffer = untouched (pairsRefusal text p (length before)) r (length (pairsOf text p)) x (pairsOf text p) before (f .answer) g;
     exact = exact-pairs text p (length before);
   }
 
@@ -170,10 +172,10 @@ module _ (text : List ℕ) (p : ℕ) (before list : List ℕ) (r : Listing) (f :
     exact = exact-pairs text p (length before / 8);
   }
 
-  pub bytes-refused : (x y v : ℕ) → r ≡ Refused x y → v ≡ listingNumber r → ListedBytes text p before v before
-  bytes-refused x y v g k = record {
+  pub bytes-refused : (x : Refusal) (v : ℕ) → r ≡ Refused x → v ≡ listingNumber r → ListedBytes text p before v before
+  bytes-refused x v g k = record {
     answer = k ∙ ap listingNumber (f .answer);
-    buffer = untouched (pairsRefusal text p (length before / 8)) r (length (pairsOf text p)) x y (listBytes 8 (pairsOf text p)) before (f .answer) g;
+    buffer = untouched (pairsRefusal text p (length before / 8)) r (length (pairsOf text p)) x (listBytes 8 (pairsOf text p)) before (f .answer) g;
     exact = exact-pairs text p (length before / 8);
   }
 
@@ -196,14 +198,14 @@ pub number-pairs : (r : Listing) (n : ℕ) → Carried r → r ≡ Pairs n → n
 unfolding Carried
 number-pairs r n c e = (rw e at c) .high
 
-pub number-refused : (r : Listing) (x y : ℕ) → Carried r → r ≡ Refused x y → Below x y
+pub number-refused : (r : Listing) (x : Refusal) → Carried r → r ≡ Refused x → Below (x .rule) (x .line)
 unfolding Carried
-number-refused r x y c e = rw e at c
+number-refused r x c e = rw e at c
 
 pub pairs-number : (r : Listing) (n : ℕ) → r ≡ Pairs n → 65536 * n ≡ listingNumber r
 unfolding listingNumber
 pairs-number r n e = rw e (omega arith)
 
-pub refused-number : (r : Listing) (x y : ℕ) → r ≡ Refused x y → 2 + 256 * x + 65536 * y ≡ listingNumber r
+pub refused-number : (r : Listing) (x : Refusal) → r ≡ Refused x → 2 + 256 * x .rule + 65536 * x .line ≡ listingNumber r
 unfolding listingNumber
-refused-number r x y e = rw e
+refused-number r x e = rw e

@@ -1,148 +1,173 @@
 -- The verdict from the plan's rules and the finding over its table, for entries and for bytes.
-use Prim.Native.Nat.{ℕ, _-_, _*_, _/_, _^_, _<_, _≤_, min}
+use Prim.Native.Nat.{ℕ, _-_, _*_, _/_, _^_, _<_, _≤_}
 use native.Mathlib.Omega.{arith}
 use mathlib.Core.Path.{_≡_, refl, sym, ap, subst, _∙_}
-use mathlib.Core.List.{List, _++_}
-use mathlib.Core.Logic.{⊎-elim}
-use mathlib.Core.Option.{Option, none, some, Option·none-ne-some}
-use lib.ListN.{length, take, drop, length-take}
-use lib.Seq.{length-take-le}
+use mathlib.Core.List.{List, [], _∷_, _++_}
+use mathlib.Core.Option.{Option, none, some, orElse}
+use lib.ListN.{length, take, drop, length-take, length-append, take-append-drop}
+use lib.Seq.{length-take-le, take-at}
 use borrow.Author.Tests.{lt-ltb, le-ltb}
+use denote.Enum.Declared.{tagOf}
+use types.Run.{OneOf, miss}
 use Rattle.laws.specs.Mask.{inMask}
-use Rattle.laws.proofs.Tests.{lt-or-le}
-use Rattle.text.specs.Lines.{formsOf}
+use Rattle.text.specs.Lines.{refusal, formsOf}
+use Rattle.text.specs.declared.Refusal.{Refusal}
+use Rattle.semantics.specs.Plan.{LockPlan}
 use Rattle.semantics.specs.Stuck.{DeadlockFree, Schedule}
 use Rattle.plan.specs.declared.Reading.{Reading}
 use Rattle.plan.specs.declared.Reading.the-variants.{Accepted}
 use Rattle.plan.specs.declared.Reading.the-variants as plan
 use Rattle.plan.specs.Grammar.{planIn}
 use Rattle.plan.specs.Table.{tableForms}
-use Rattle.plan.specs.Rules.{Refusal, refusal, planOf, planRefusal, verdictRefusal, readingOf, Tabled}
+use Rattle.plan.specs.Rules.{planOf, planRefusal, verdictRefusal, readingOf, Tabled}
 use Rattle.buffers.specs.LittleEndian.{listBytes}
+use Rattle.buffers.proofs.Filled.{list-length}
 use Rattle.deadlock.specs.declared.Finding.{Finding}
 use Rattle.deadlock.specs.declared.Finding.the-variants.{Never, Reached}
 use Rattle.deadlock.specs.Findings.{Within, Found}
 use Rattle.lockplan.specs.declared.Verdict.{Verdict}
 use Rattle.lockplan.specs.declared.Verdict.the-variants.{Free, Deadlock, Refused}
-use Rattle.lockplan.specs.Answers.{verdictNumber}
-use Rattle.lockplan.specs.Steps.{refusedVerdict, verdictOf, highPart, scheduleLength}
-use Rattle.lockplan.specs.Judgement.{JudgedIn, JudgedBytesAs, JudgedBytes}
+use Rattle.lockplan.specs.Answers.{filled, verdictNumber}
+use Rattle.lockplan.specs.Steps.{verdictOf, highPart}
+use Rattle.lockplan.specs.Judgement.{Judgement, Judged, JudgedBytes}
 use Rattle.checked.proofs.Checked.{plan-kept, plan-forms, plan-table, plan-few, plan-sizes}
 use Rattle.lockplan.proofs.LineBounds.{verdict-bounded}
+use Rattle.lockplan.proofs.Verdict.{the-type}
 
 -- ---- entries
 
-pub judged-short : (text before : List ℕ) (lent : ℕ) → lent < 6144 → JudgedIn text lent before (Refused 1 0) before
-unfolding JudgedIn verdictRefusal
-judged-short text before lent h = rw (lt-ltb lent 6144 h) (refl, refl)
+pub judged-short : (text before : List ℕ) → length before < 6144 → Judged text before (Refused (refusal 1 0)) before
+unfolding Judgement verdictRefusal orElse
+judged-short text before h = record { schedule = []; judged = rw (lt-ltb (length before) 6144 h) (refl, refl); buffer = refl }
 
 enough : (text : List ℕ) (lent : ℕ) → 6144 ≤ lent → verdictRefusal text lent ≡ planRefusal text
-unfolding verdictRefusal
+unfolding verdictRefusal orElse
 enough text lent h = rw (le-ltb lent 6144 h)
 
-handed : (a : Option Refusal) (q : Reading) (n x y : ℕ) → q ≡ readingOf a n → q ≡ plan.Refused x y → a ≡ some (refusal x y)
+handed : (a : Option Refusal) (q : Reading) (n : ℕ) (x : Refusal) → q ≡ readingOf a n → q ≡ plan.Refused x → a ≡ some x
 unfolding readingOf
-handed none q n x y e g = let z : _≡_ {A = ℕ} 0 1 = cc in absurd (omega arith)
-handed (some w) q n x y e g =
-    let a : w .rule ≡ x = cc in
-    let b : w .line ≡ y = cc in
-    rw (← a, ← b)
+handed none q n x e g = let z : _≡_ {A = ℕ} 0 1 = cc in absurd (omega arith)
+handed (some w) q n x e g = let k : w ≡ x = cc in ap some k
 
-pub judged-refused : (text before table : List ℕ) (lent x y : ℕ) (q : Reading) (r : Verdict) → 6144 ≤ lent → Tabled (planRefusal text) text q table → q ≡ plan.Refused x y
-    → r ≡ refusedVerdict q → JudgedIn text lent before r before
-unfolding JudgedIn
-judged-refused text before table lent x y q r h t g k =
-    rw (k, g) (enough text lent h ∙ handed (planRefusal text) q (length (formsOf text)) x y (t .answer) g, refl)
+pub judged-refused : (text before table : List ℕ) (x : Refusal) (q : Reading) → 6144 ≤ length before → Tabled (planRefusal text) text q table → q ≡ plan.Refused x
+    → Judged text before (Refused x) before
+unfolding Judgement
+judged-refused text before table x q h t g = record {
+  schedule = [];
+  judged = (enough text (length before) h ∙ handed (planRefusal text) q (length (formsOf text)) x (t .answer) g, refl);
+  buffer = refl;
+}
 
 pub table-within : (text table : List ℕ) (q : Reading) (n : ℕ) → Tabled (planRefusal text) text q table → q ≡ Accepted n → Within (take (n - 0) table)
 table-within text table q n t g =
     record { plan = plan-table text table q n t g; sizes = plan-sizes text table q n t g; pairs = plan-few text table q n t g }
 
--- over the text's plan
-over-text : (text before after ws : List ℕ) (lent : ℕ) (f : Finding) → tableForms ws ≡ formsOf text → verdictRefusal text lent ≡ none → Found ws before f after
-    → JudgedIn text lent before (verdictOf f) after
-unfolding Found JudgedIn planOf
-over-text text before after ws lent Never e z d =
-    (z, d .1, subst (λ fs. DeadlockFree (planIn fs .procs) (planIn fs .threads)) e (d .0))
-over-text text before after ws lent (Reached n S) e z d =
-    (z, d .1, d .2, subst (λ fs. Schedule (planIn fs) (take n after) (inMask S)) e (d .0))
+-- what is kept behind the schedule is the rest of the buffer
+start-filled : (n : ℕ) (before after : List ℕ) → n ≤ length after → drop n after ≡ drop n before → after ≡ filled (take n after) before
+start-filled n before after h e = rw (length-take-le n after h) (sym (take-append-drop n after) ∙ ap (λ l. take n after ++ l) e)
 
-pub judged-found : (text before after table : List ℕ) (lent n : ℕ) (q : Reading) (f : Finding) (r : Verdict) → 6144 ≤ lent → Tabled (planRefusal text) text q table
-    → q ≡ Accepted n → Found (take (n - 0) table) before f after → r ≡ verdictOf f → JudgedIn text lent before r after
-judged-found text before after table lent n q f r h t g d k =
-    rw k (over-text text before after (take (n - 0) table) lent f (plan-forms text table q n t g) (enough text lent h ∙ plan-kept text table q n t g) d)
+-- over the text's plan
+over-text : (text before after ws : List ℕ) (f : Finding) → tableForms ws ≡ formsOf text → verdictRefusal text (length before) ≡ none → Found ws before f after
+    → Judged text before (verdictOf f) after
+unfolding Found Judgement planOf
+over-text text before after ws Never e z d = record {
+  schedule = [];
+  judged = (z, refl, subst (λ fs. DeadlockFree (planIn fs .procs) (planIn fs .threads)) e (d .0));
+  buffer = d .1;
+}
+over-text text before after ws (Reached n S) e z d = record {
+  schedule = take n after;
+  judged = (z, length-take-le n after (d .1), subst (λ fs. Schedule (planIn fs) (take n after) (inMask S)) e (d .0));
+  buffer = start-filled n before after (d .1) (d .2);
+}
+
+pub judged-found : (text before after table : List ℕ) (n : ℕ) (q : Reading) (f : Finding) (r : Verdict) → 6144 ≤ length before
+    → Tabled (planRefusal text) text q table → q ≡ Accepted n → Found (take (n - 0) table) before f after → r ≡ verdictOf f → Judged text before r after
+judged-found text before after table n q f r h t g d k =
+    rw k (over-text text before after (take (n - 0) table) f (plan-forms text table q n t g) (enough text (length before) h ∙ plan-kept text table q n t g) d)
 
 -- ---- bytes
 
--- more than a schedule can have is enough
-capped : (text : List ℕ) (lent m : ℕ) → m ≡ min 6144 lent → verdictRefusal text m ≡ verdictRefusal text lent
-capped text lent m e =
-    ⊎-elim
-    (λ (h : lent < 6144). let i : m ≡ lent = omega arith in ap (verdictRefusal text) i)
-    (λ (h : 6144 ≤ lent). enough text m (omega arith) ∙ sym (enough text lent h))
-    (lt-or-le lent 6144)
+pub bytes-short : (text before : List ℕ) (v : ℕ) → length before / 2 < 6144 → v ≡ verdictNumber (Refused (refusal 1 0)) → JudgedBytes text before v before
+unfolding Judgement verdictRefusal orElse listBytes
+bytes-short text before v h k =
+    record { verdict = Refused (refusal 1 0); schedule = []; number = k; judged = rw (lt-ltb (length before / 2) 6144 h) (refl, refl); buffer = refl }
 
--- where nothing is refused enough is lent
-lent-enough : (text : List ℕ) (lent : ℕ) → verdictRefusal text lent ≡ none → 6144 ≤ lent
-unfolding verdictRefusal
-lent-enough text lent e =
-    ⊎-elim (λ (h : lent < 6144). absurd (Option·none-ne-some _ (sym (rw (lt-ltb lent 6144 h) at e)))) (λ (h : 6144 ≤ lent). h) (lt-or-le lent 6144)
+-- only a deadlock has a schedule
+no-schedule : (refused : Option Refusal) (plan : LockPlan) (v : Verdict) (es : List ℕ) → Judgement refused plan v es → OneOf (0 ∷ 2 ∷ []) (tagOf the-type v) → es ≡ []
+unfolding Judgement
+no-schedule refused plan Free es j h = j .1
+no-schedule refused plan (Deadlock n S) es j h = absurd (miss (0 ∷ 2 ∷ []) 1 tt h)
+no-schedule refused plan (Refused x) es j h = j .1
 
-module _ (text before entries entries′ : List ℕ) (lent n : ℕ) (c : lent ≡ min 6144 (length before / 2)) where
-  same : verdictRefusal text lent ≡ verdictRefusal text (length before / 2)
-  same = capped text (length before / 2) lent c
+small : (text : List ℕ) (lent : ℕ) (v : Verdict) (es : List ℕ) → Judgement (verdictRefusal text lent) (planOf text) v es → length es ≤ 6144 → highPart v < 2 ^ 40
+unfolding Judgement highPart
+small text lent Free es j h = omega arith
+small text lent (Deadlock n S) es j h = omega (arith, j .1)
+small text lent (Refused x) es j h = verdict-bounded text lent x (j .0) .line
+
+module _ (text before entries entries′ : List ℕ) (r : Verdict) (d : Judged text entries r entries′) (l : length entries ≡ 6144) where
+  schedule-short : length entries′ ≡ length entries → length (d .schedule) ≤ length entries′
+  schedule-short k = rw (d .buffer, length-append) (omega arith)
+
+  pub verdict-small : length entries′ ≡ length entries → highPart r < 2 ^ 40
+  verdict-small k = small text (length entries) r (d .schedule) (d .judged) (omega (arith, schedule-short k))
 
   -- the schedule's part of the entries
-  pub schedule-within : (r : Verdict) → JudgedIn text lent entries r entries′ → n ≡ scheduleLength r → n ≤ length entries′
-  unfolding JudgedIn scheduleLength
-  schedule-within Free d e = omega arith
-  schedule-within (Deadlock m S) d e = omega (arith, d .1)
-  schedule-within (Refused x y) d e = omega arith
+  module _ (n S : ℕ) (g : r ≡ Deadlock n S) where
+    size : length (d .schedule) ≡ n
+    unfolding Judgement
+    size = (rw g at (d .judged)) .1
 
-  pub schedule-room : (r : Verdict) → JudgedIn text lent entries r entries′ → n ≡ scheduleLength r → length entries ≡ 6144 → length entries′ ≡ length entries
-      → length (take (n - 0) entries′) * 2 ≤ length before
-  unfolding JudgedIn scheduleLength
-  schedule-room Free d e l k = rw length-take (omega arith)
-  schedule-room (Deadlock m S) d e l k = rw length-take (omega (arith, d .1, lent-enough text lent (d .0)))
-  schedule-room (Refused x y) d e l k = rw length-take (omega arith)
+    listed : take (n - 0) entries′ ≡ d .schedule
+    listed = let e : n - 0 ≡ n = omega arith in rw (e, d .buffer) (take-at (d .schedule) _ n size)
 
-  pub verdict-small : (r : Verdict) → JudgedIn text lent entries r entries′ → length entries ≡ 6144 → length entries′ ≡ length entries → highPart r < 2 ^ 40
-  unfolding JudgedIn highPart
-  verdict-small Free d l k = omega arith
-  verdict-small (Deadlock m S) d l k = omega (arith, d .1)
-  verdict-small (Refused x y) d l k = verdict-bounded text lent (refusal x y) (d .0) .line
+    pub schedule-within : length entries′ ≡ length entries → n ≤ length entries′
+    schedule-within k = omega (arith, size, schedule-short k)
 
-  -- nothing is written where there is no schedule
-  none-written : (after : List ℕ) → n ≡ 0 → after ≡ listBytes 2 (take (n - 0) entries′) ++ drop (length (take (n - 0) entries′) * 2) before → after ≡ before
-  unfolding listBytes
-  none-written after z e = rw z at e
+    pub schedule-room : length entries′ ≡ length entries → 6144 ≤ length before / 2 → length (take (n - 0) entries′) * 2 ≤ length before
+    schedule-room k h = rw length-take (omega arith)
 
-  judged-as : (after : List ℕ) (r : Verdict) → JudgedIn text lent entries r entries′ → n ≡ scheduleLength r
-      → after ≡ listBytes 2 (take (n - 0) entries′) ++ drop (length (take (n - 0) entries′) * 2) before → JudgedBytesAs r text before after
-  unfolding JudgedIn JudgedBytesAs scheduleLength
-  judged-as after Free d e k = (sym same ∙ d .0, none-written after e k, d .2)
-  judged-as after (Deadlock m S) d e k =
-      let i : n - 0 ≡ m = omega arith in
-      let size : length (take m entries′) ≡ m = length-take-le m entries′ (d .1) in
-      (sym same ∙ d .0, take m entries′, size, rw (i, size) at k, d .3)
-  judged-as after (Refused x y) d e k = (sym same ∙ d .0, none-written after e k)
+    pub deadlock-small : length entries′ ≡ length entries → highPart (Deadlock n S) < 2 ^ 40
+    deadlock-small k = rw (← g) (verdict-small k)
 
-  pub judged-bytes : (after : List ℕ) (r : Verdict) (v : ℕ) → JudgedIn text lent entries r entries′ → n ≡ scheduleLength r
-      → after ≡ listBytes 2 (take (n - 0) entries′) ++ drop (length (take (n - 0) entries′) * 2) before → v ≡ verdictNumber r → JudgedBytes text before v after
-  judged-bytes after r v d e k m = record { verdict = r; number = m; judged = judged-as after r d e k }
+  -- 6,144 entries are enough, and so is what is lent
+  module _ (h : 6144 ≤ length before / 2) where
+    judged-lent : Judgement (verdictRefusal text (length before / 2)) (planOf text) r (d .schedule)
+    judged-lent =
+        let same : verdictRefusal text (length entries) ≡ verdictRefusal text (length before / 2) =
+        enough text (length entries) (omega arith) ∙ sym (enough text (length before / 2) h) in
+        rw same at (d .judged)
+
+    pub bytes-kept : (v : ℕ) → OneOf (0 ∷ 2 ∷ []) (tagOf the-type r) → v ≡ verdictNumber r → JudgedBytes text before v before
+    unfolding listBytes
+    bytes-kept v o k = record {
+      verdict = r;
+      schedule = d .schedule;
+      number = k;
+      judged = judged-lent;
+      buffer = rw (no-schedule _ _ r (d .schedule) (d .judged) o);
+    }
+
+    pub bytes-scheduled : (n S v : ℕ) (after : List ℕ) → r ≡ Deadlock n S → v ≡ verdictNumber (Deadlock n S)
+        → after ≡ listBytes 2 (take (n - 0) entries′) ++ drop (length (take (n - 0) entries′) * 2) before → JudgedBytes text before v after
+    bytes-scheduled n S v after g k e = record {
+      verdict = r;
+      schedule = d .schedule;
+      number = k ∙ ap verdictNumber (sym g);
+      judged = judged-lent;
+      buffer = (rw (listed n S g) at e) ∙ ap (λ i. listBytes 2 (d .schedule) ++ drop i before) (sym (list-length 2 (d .schedule)));
+    }
 
 -- ---- the answer as a number
 
 pub verdict-case : (r k : Verdict) (v : ℕ) → r ≡ k → v ≡ verdictNumber k → v ≡ verdictNumber r
 verdict-case r k v e h = h ∙ ap verdictNumber (sym e)
 
-pub length-case : (r k : Verdict) (v : ℕ) → r ≡ k → v ≡ scheduleLength k → v ≡ scheduleLength r
-length-case r k v e h = h ∙ ap scheduleLength (sym e)
-
 pub high-entries : (r : Verdict) (m S : ℕ) → highPart r < 2 ^ 40 → r ≡ Deadlock m S → m < 2 ^ 40
 unfolding highPart
 high-entries r m S h e = rw e at h
 
-pub high-line : (r : Verdict) (x y : ℕ) → highPart r < 2 ^ 40 → r ≡ Refused x y → y < 2 ^ 40
+pub high-line : (r : Verdict) (x : Refusal) → highPart r < 2 ^ 40 → r ≡ Refused x → x .line < 2 ^ 40
 unfolding highPart
-high-line r x y h e = rw e at h
+high-line r x h e = rw e at h

@@ -22,7 +22,8 @@ use Rattle.plan.specs.declared.Counts.{Counts}
 use Rattle.plan.specs.Structure.{innermost, advanceOf, goOn, complete, misplaced, misplacedLine}
 use Rattle.plan.specs.Limits.{counted, breaks, lineIf, breaking, breakingLine, noCounts}
 use Rattle.plan.specs.Grammar.{planIn}
-use Rattle.plan.specs.Rules.{Refusal, refusedAt, refusedIf, tooLong, formsRefusal, readerRefusal, procLineFrom, lowestFrom, procRefusal, tooLarge, tooManyPairs, planOf, planRefusal, verdictRefusal, pairsRefusal}
+use Rattle.text.specs.declared.Refusal.{Refusal}
+use Rattle.plan.specs.Rules.{refusedAt, refusedIf, tooLong, formsRefusal, readerRefusal, procLineFrom, lowestFrom, procRefusal, tooLarge, tooManyPairs, planOf, planRefusal, verdictRefusal, pairsRefusal}
 
 -- a named line is at most n
 abbrev AtMost : ℕ → Option ℕ → Type 0
@@ -124,6 +125,7 @@ bounded-some r l h k w e = let i = Option·some-injective _ w e in rw (← i) (r
 
 -- b counts only where a refuses nothing
 bounded-or : (a b : Option Refusal) → Bounded a → (a ≡ none → Bounded b) → Bounded (orElse a b)
+unfolding orElse
 bounded-or none b x y = y refl
 bounded-or (some w) b x y = x
 

@@ -21,7 +21,8 @@ use Rattle.plan.specs.Grammar.{forms, procForms}
 use Rattle.plan.specs.Table.{tableForms}
 use Rattle.plan.specs.Settled.{PlanTable, tablePlan}
 use Rattle.plan.specs.Starts.{Starts}
-use Rattle.plan.specs.Rules.{Refusal, refusedAt, tooLong, formsRefusal, readerRefusal, planRefusal, planOf, procLineFrom, readingOf, Tabled}
+use Rattle.text.specs.declared.Refusal.{Refusal}
+use Rattle.plan.specs.Rules.{refusedAt, tooLong, formsRefusal, readerRefusal, planRefusal, planOf, procLineFrom, readingOf, Tabled}
 use Rattle.plan.proofs.Sound.{accepted-text, accepted-settled}
 use Rattle.parts.specs.Parts.{Span, span, bytesIn, PartAt, linesSpan, formsBefore, formsToClosing}
 use Rattle.parts.proofs.Lines.{ProcLines, proc-lines}
@@ -57,14 +58,14 @@ module _ (ws : List ℕ) (p procs : ℕ) (c : procs ≡ length (tablePlan ws .pr
 
 -- ---- of a text
 
-refused-part : (a : Option Refusal) (q : Reading) (n x y : ℕ) (b : Bool) (part : Span) → q ≡ readingOf a n → q ≡ Refused x y → span 0 0 ≡ orEmpty a b part
+refused-part : (a : Option Refusal) (q : Reading) (n : ℕ) (x : Refusal) (b : Bool) (part : Span) → q ≡ readingOf a n → q ≡ Refused x → span 0 0 ≡ orEmpty a b part
 unfolding readingOf
-refused-part none q n x y b part e g = let z : _≡_ {A = ℕ} 0 1 = cc in absurd (omega arith)
-refused-part (some w) q n x y b part e g = refl
+refused-part none q n x b part e g = let z : _≡_ {A = ℕ} 0 1 = cc in absurd (omega arith)
+refused-part (some w) q n x b part e g = refl
 
-pub lines-refused : (text : List ℕ) (p : ℕ) (table : List ℕ) (q : Reading) (x y : ℕ) → Tabled (planRefusal text) text q table → q ≡ Refused x y → span 0 0 ≡ procText text p
+pub lines-refused : (text : List ℕ) (p : ℕ) (table : List ℕ) (q : Reading) (x : Refusal) → Tabled (planRefusal text) text q table → q ≡ Refused x → span 0 0 ≡ procText text p
 unfolding procText
-lines-refused text p table q x y t g = refused-part (planRefusal text) q (length (formsOf text)) x y _ _ (t .answer) g
+lines-refused text p table q x t g = refused-part (planRefusal text) q (length (formsOf text)) x _ _ (t .answer) g
 
 drop-forms : (k : ℕ) (ws : List ℕ) → tableForms (drop k ws) ≡ drop k (tableForms ws)
 drop-forms zero ws = refl

@@ -17,14 +17,15 @@ use Rattle.semantics.specs.Run.{start}
 use Rattle.semantics.specs.Stuck.{Schedule}
 use Rattle.semantics.proofs.Steps.{threadAt-some}
 use Rattle.semantics.proofs.Invariant.{run-length, start-length}
-use Rattle.plan.specs.Rules.{Refusal, refusal, refusedIf, readerRefusal, planRefusal, planOf, verdictRefusal, pairsRefusal}
+use Rattle.text.specs.declared.Refusal.{Refusal}
+use Rattle.plan.specs.Rules.{refusedIf, readerRefusal, planRefusal, planOf, verdictRefusal, pairsRefusal}
 use Rattle.plan.proofs.Sound.{accepted-settled}
 use Rattle.lockplan.specs.declared.Verdict.{Verdict}
 use Rattle.lockplan.specs.declared.Verdict.the-variants.{Free, Deadlock}
 use Rattle.lockplan.specs.declared.Verdict.the-variants as verdict
 use Rattle.lockplan.specs.declared.Listing.the-variants.{Pairs, Refused}
 use Rattle.lockplan.specs.Answers.{listingOf, answerNumber, listingNumber, verdictNumber, readListing, readVerdict}
-use Rattle.lockplan.specs.Judgement.{JudgedBytesAs}
+use Rattle.lockplan.specs.Judgement.{Judgement}
 use Rattle.lockplan.proofs.LineBounds.{Numbers, pairs-bounded, verdict-bounded}
 
 -- ---- a mask without members above
@@ -70,30 +71,30 @@ module _ (kind a b : ℕ) (h : kind < 256) (k : a < 256) where
   high-read = omega arith
 
 -- the verdict, by what holds of it
-pub verdict-read : (text before after : List ℕ) (v : Verdict) → JudgedBytesAs v text before after → readVerdict (verdictNumber v) ≡ v
-unfolding JudgedBytesAs verdictNumber readVerdict
-verdict-read text before after Free d = refl
-verdict-read text before after (Deadlock n S) d =
-    let small = schedule-below (planOf text) (d .1) S (few-threads text (length before / 2) (d .0)) (d .4) in
+pub verdict-read : (text : List ℕ) (lent : ℕ) (v : Verdict) (es : List ℕ) → Judgement (verdictRefusal text lent) (planOf text) v es → readVerdict (verdictNumber v) ≡ v
+unfolding Judgement verdictNumber readVerdict
+verdict-read text lent Free es j = refl
+verdict-read text lent (Deadlock n S) es j =
+    let small = schedule-below (planOf text) es S (few-threads text lent (j .0)) (j .2) in
     rw (kind-read 1 S n (omega arith) small, low-read 1 S n (omega arith) small, high-read 1 S n (omega arith) small)
-verdict-read text before after (verdict.Refused r l) d =
-    let small = verdict-bounded text (length before / 2) (refusal r l) (d .0) .rule in
-    rw (kind-read 2 r l (omega arith) small, low-read 2 r l (omega arith) small, high-read 2 r l (omega arith) small)
+verdict-read text lent (verdict.Refused x) es j =
+    let small = verdict-bounded text lent x (j .0) .rule in
+    rw (kind-read 2 (x .rule) (x .line) (omega arith) small, low-read 2 (x .rule) (x .line) (omega arith) small, high-read 2 (x .rule) (x .line) (omega arith) small)
 
 -- equal numbers, equal verdicts, whatever the texts and the buffers
-pub verdicts-equal : (text before after text′ before′ after′ : List ℕ) (v w : Verdict) → JudgedBytesAs v text before after → JudgedBytesAs w text′ before′ after′
-    → verdictNumber v ≡ verdictNumber w → v ≡ w
-verdicts-equal text before after text′ before′ after′ v w d e h =
-    sym (verdict-read text before after v d) ∙ ap readVerdict h ∙ verdict-read text′ before′ after′ w e
+pub verdicts-equal : (text text′ : List ℕ) (lent lent′ : ℕ) (v w : Verdict) (es es′ : List ℕ) → Judgement (verdictRefusal text lent) (planOf text) v es
+    → Judgement (verdictRefusal text′ lent′) (planOf text′) w es′ → verdictNumber v ≡ verdictNumber w → v ≡ w
+verdicts-equal text text′ lent lent′ v w es es′ j k h = sym (verdict-read text lent v es j) ∙ ap readVerdict h ∙ verdict-read text′ lent′ w es′ k
 
 -- the pair list
 pairs-read : (n : ℕ) → readListing (listingNumber (Pairs n)) ≡ Pairs n
 unfolding listingNumber readListing
 pairs-read n = rw (kind-read 0 0 n (omega arith) (omega arith), high-read 0 0 n (omega arith) (omega arith))
 
-refused-read : (r l : ℕ) → r < 256 → readListing (listingNumber (Refused r l)) ≡ Refused r l
+refused-read : (x : Refusal) → x .rule < 256 → readListing (listingNumber (Refused x)) ≡ Refused x
 unfolding listingNumber readListing
-refused-read r l h = rw (kind-read 2 r l (omega arith) h, low-read 2 r l (omega arith) h, high-read 2 r l (omega arith) h)
+refused-read x h =
+    rw (kind-read 2 (x .rule) (x .line) (omega arith) h, low-read 2 (x .rule) (x .line) (omega arith) h, high-read 2 (x .rule) (x .line) (omega arith) h)
 
 pub listing-read : (text : List ℕ) (p lent n : ℕ) → readListing (listingNumber (listingOf (pairsRefusal text p lent) n)) ≡ listingOf (pairsRefusal text p lent) n
 unfolding listingOf
@@ -101,7 +102,7 @@ listing-read text p lent n = go (pairsRefusal text p lent) (pairs-bounded text p
   where
     go : (o : Option Refusal) → ((w : Refusal) → o ≡ some w → Numbers w) → readListing (listingNumber (listingOf o n)) ≡ listingOf o n
     go none b = pairs-read n
-    go (some w) b = refused-read (w .rule) (w .line) (b w refl .rule)
+    go (some w) b = refused-read w (b w refl .rule)
 
 pub listings-equal : (text text′ : List ℕ) (p p′ lent lent′ n n′ : ℕ)
     → listingNumber (listingOf (pairsRefusal text p lent) n) ≡ listingNumber (listingOf (pairsRefusal text′ p′ lent′) n′)

@@ -1,7 +1,7 @@
 -- What each public call promises, of its answer and of the buffers that it was lent. 01, "Pairs, verdict, schedule" and "What a reader may rely on".
 use Prim.Native.Nat.{ℕ, _+_, _-_, _/_}
 use mathlib.Core.Bool.{Bool, true, false}
-use mathlib.Core.List.{List, _++_, List·Memᴰ}
+use mathlib.Core.List.{List, List·Memᴰ}
 use mathlib.Core.Logic.{_↔_}
 use mathlib.Core.Option.{Option, none, some}
 use mathlib.Core.Path.{_≡_}
@@ -10,19 +10,20 @@ use lib.ListN.{length, drop}
 use Rattle.laws.specs.Ascending.{Ascends}
 use Rattle.text.specs.Lines.{formsOf}
 use Rattle.semantics.specs.Pairs.{Critical, pairList}
-use Rattle.plan.specs.Rules.{Refusal, planOf, planRefusal, pairsRefusal, procLineFrom}
+use Rattle.text.specs.declared.Refusal.{Refusal}
+use Rattle.plan.specs.Rules.{planOf, planRefusal, pairsRefusal, procLineFrom}
 use Rattle.parts.specs.Parts.{Span, span, linesSpan, formsToClosing}
 use Rattle.buffers.specs.LittleEndian.{listBytes}
 use Rattle.lockplan.specs.declared.Listing.{Listing}
-use Rattle.lockplan.specs.Answers.{listingOf, listingNumber}
+use Rattle.lockplan.specs.Answers.{filled, listingOf, listingNumber}
 
 -- the words of the critical pairs of procedure p of a text's plan
 abbrev pub pairsOf : List ℕ → ℕ → List ℕ
 pairsOf text p = pairList (planOf text .procs) p
 
--- "A refusal .. writes nothing"; otherwise what is written fills the buffer's start and "the rest of the buffer" is "kept"
+-- "A refusal .. writes nothing"
 abbrev pub written : Option Refusal → List ℕ → List ℕ → List ℕ
-written none given before = given ++ drop (length given) before
+written none given before = filled given before
 written (some r) given before = before
 
 -- demand 2: "For each procedure the listed pairs are exactly the critical pairs of the published definition, none missing and none added", "ascending without

@@ -10,11 +10,9 @@ use lib.ListN.{length, take, drop}
 use Rattle.semantics.specs.Pairs.{pairList}
 use Rattle.plan.specs.Table.{tableForms}
 use Rattle.plan.specs.Settled.{tablePlan}
-use Rattle.plan.specs.Rules.{Refusal, refusedIf, pairsRefusal, procLineFrom}
+use Rattle.text.specs.declared.Refusal.{Refusal}
+use Rattle.plan.specs.Rules.{refusedIf, pairsRefusal, procLineFrom}
 use Rattle.parts.specs.Parts.{Span, span, linesSpan, formsBefore}
-use Rattle.plan.specs.declared.Reading.{Reading}
-use Rattle.plan.specs.declared.Reading.the-variants.{Accepted}
-use Rattle.plan.specs.declared.Reading.the-variants as plan
 use Rattle.deadlock.specs.declared.Finding.{Finding}
 use Rattle.deadlock.specs.declared.Finding.the-variants.{Never, Reached}
 use Rattle.lockplan.specs.declared.Verdict.{Verdict}
@@ -45,11 +43,7 @@ tableLines text ws p =
     let line = procLineFrom 1 p (tableForms ws) in
     cond (ltb p (length (tablePlan ws .procs))) (linesSpan text (line - 1) (line + formsBefore (tableForms (drop line ws)))) (span 0 0)
 
--- a refusal of the plan, and a finding over its table, in the verdict's answer
-abbrev pub refusedVerdict : Reading → Verdict
-refusedVerdict (Accepted n) = Free
-refusedVerdict (plan.Refused r l) = Refused r l
-
+-- a finding over the plan's table, in the verdict's answer
 abbrev pub verdictOf : Finding → Verdict
 verdictOf Never = Free
 verdictOf (Reached n S) = Deadlock n S
@@ -61,21 +55,10 @@ pub record Below (a b : ℕ) : Type 0 where
 
 unfoldable pub Carried : Listing → Type 0
 Carried (Pairs n) = Below 0 n
-Carried (listing.Refused r l) = Below r l
-
--- a refusal of the plan, in the pair list's answer
-abbrev pub handedOn : Reading → Listing
-handedOn (Accepted n) = Pairs 0
-handedOn (plan.Refused r l) = listing.Refused r l
+Carried (listing.Refused x) = Below (x .rule) (x .line)
 
 -- the part b of the answer, which has to be below 2 to the power 40
 unfoldable pub highPart : Verdict → ℕ
 highPart Free = 0
 highPart (Deadlock n S) = n
-highPart (Refused r l) = l
-
--- how many entries a verdict's schedule has
-unfoldable pub scheduleLength : Verdict → ℕ
-scheduleLength Free = 0
-scheduleLength (Deadlock n S) = n
-scheduleLength (Refused r l) = 0
+highPart (Refused x) = x .line

@@ -1,31 +1,32 @@
 // The library's calls: the verdict on a plan, the pair list of a procedure, a procedure's text, and the verdict and the pair list for C.
 ghost use mathlib.Core.Path.{_≡_};
 ghost use mathlib.Core.Option.{none};
-ghost use Prim.Native.Nat.{_/_, _^_, _<_, _≤_, min};
+ghost use Prim.Native.Nat.{_^_, _<_, _≤_};
 ghost use lib.ListN.{length};
 ghost use Rattle.plan.specs.Table.{tableForms};
 ghost use Rattle.plan.specs.Settled.{PlanTable};
 ghost use Rattle.plan.specs.Rules.{tooManyPairs};
 ghost use Rattle.parts.specs.Parts.{PartAt};
 ghost use Rattle.lockplan.specs.Answers.{listingNumber, verdictNumber};
-ghost use Rattle.lockplan.specs.Judgement.{JudgedIn, Judged, JudgedBytes};
+ghost use Rattle.lockplan.specs.Judgement.{Judged, JudgedBytes};
 ghost use Rattle.lockplan.specs.Promises.{Listed, ListedBytes, procText};
-ghost use Rattle.lockplan.specs.Steps.{PairsFound, TablePairs, tableLines, handedOn, Carried};
-ghost use Rattle.lockplan.specs.Steps.{refusedVerdict, verdictOf, highPart, scheduleLength};
+ghost use Rattle.lockplan.specs.Steps.{PairsFound, TablePairs, tableLines, Carried};
+ghost use Rattle.lockplan.specs.Steps.{verdictOf, highPart};
 use deadlock::Finding;
 use plan::Reading;
+use text::Refusal;
 
 // What listing the pairs of a procedure gives: how many there are, or the refusal.
 pub enum Listing {
     Pairs(usize),
-    Refused { rule: u8, line: usize },
+    Refused(Refusal),
 }
 
 // The verdict on a plan: no run of its gateway reaches a stuck set; a schedule of so many entries leads to one, the largest there (bit t for thread t); or the refusal.
 pub enum Verdict {
     Free,
     Deadlock { entries: usize, stuck: u8 },
-    Refused { rule: u8, line: usize },
+    Refused(Refusal),
 }
 
 // The pairs of a procedure of a table (rule 11 where it is not there).
@@ -35,20 +36,10 @@ fn table_pairs(table: &[u64], starts: &mut [u64], proc: usize, list: &mut [u64])
 {
     let procs = procs::find_procs(table, starts);
     if procs <= proc {
-        return Listing::Refused { rule: 11, line: 0 };
+        return Listing::Refused(Refusal { rule: 11, line: 0 });
     }
     let n = pairs::pair_words(table, starts, procs, proc, list);
     Listing::Pairs(n)
-}
-
-// A refusal of the plan, in the pair list's answer.
-fn handed_on(reading: Reading) -> Listing
-    ensures { λ r. ⌜ r ≡ handedOn reading ⌝ }
-{
-    match reading {
-        Reading::Accepted(_) => Listing::Pairs(0),
-        Reading::Refused { rule, line } => Listing::Refused { rule, line },
-    }
 }
 
 // The pairs of a procedure of a text, into a table of 129 words, where `lent` words are lent for them.
@@ -67,13 +58,13 @@ fn find_pairs(
     ensures { λ r. ⌜ PairsFound (now (text .entry)) proc lent r (now (list .exit)) ⌝ }
 {
     if lent < 128 {
-        return Listing::Refused { rule: 1, line: 0 };
+        return Listing::Refused(Refusal { rule: 1, line: 0 });
     }
     let checked = checked::check_text(text, table, stack, starts, sizes, scratch, list);
-    let Reading::Accepted(n) = checked else {
-        return handed_on(checked);
-    };
-    table_pairs(&table[0..n], starts, proc, list)
+    match checked {
+        Reading::Accepted(n) => table_pairs(&table[0..n], starts, proc, list),
+        Reading::Refused(refusal) => Listing::Refused(refusal),
+    }
 }
 
 // The same with tables of its own.
@@ -126,7 +117,9 @@ fn listing_number(listing: Listing) -> u64
 {
     match listing {
         Listing::Pairs(n) => 65536 * (n as u64),
-        Listing::Refused { rule, line } => 2 + 256 * (rule as u64) + 65536 * (line as u64),
+        Listing::Refused(refusal) => {
+            2 + 256 * (refusal.rule as u64) + 65536 * (refusal.line as u64)
+        },
     }
 }
 
@@ -205,16 +198,6 @@ pub fn proc_text(text: &[u8], proc: usize) -> &[u8]
     )
 }
 
-// A refusal of the plan, in the verdict's answer.
-fn refused_verdict(reading: Reading) -> Verdict
-    ensures { λ r. ⌜ r ≡ refusedVerdict reading ⌝ }
-{
-    match reading {
-        Reading::Accepted(_) => Verdict::Free,
-        Reading::Refused { rule, line } => Verdict::Refused { rule, line },
-    }
-}
-
 // A finding over the plan's table, in the verdict's answer.
 fn verdict_of(finding: Finding) -> Verdict
     ensures { λ r. ⌜ r ≡ verdictOf finding ⌝ }
@@ -225,10 +208,9 @@ fn verdict_of(finding: Finding) -> Verdict
     }
 }
 
-// The verdict on a text, where `lent` entries are lent for the schedule.
+// The verdict on a text, with the schedule at the start of the entries.
 fn find_verdict(
     text: &[u8],
-    lent: usize,
     entries: &mut [u16],
     table: &mut [u64],
     stack: &mut [u8],
@@ -237,23 +219,22 @@ fn find_verdict(
     scratch: &mut [u64],
     list: &mut [u64],
 ) -> Verdict
-    requires { ⌜ (lent ≤ length (now entries)) × (16384 ≤ length (now table)) × (16384 ≤ length (now stack)) × (64 ≤ length (now starts)) × (64 ≤ length (now sizes)) × (64 ≤ length (now scratch)) × (129 ≤ length (now list)) ⌝ }
-    ensures { λ r. ⌜ JudgedIn (now (text .entry)) lent (now (entries .entry)) r (now (entries .exit)) ⌝ }
+    requires { ⌜ (16384 ≤ length (now table)) × (16384 ≤ length (now stack)) × (64 ≤ length (now starts)) × (64 ≤ length (now sizes)) × (64 ≤ length (now scratch)) × (129 ≤ length (now list)) ⌝ }
+    ensures { λ r. ⌜ Judged (now (text .entry)) (now (entries .entry)) r (now (entries .exit)) ⌝ }
 {
-    if lent < 6144 {
-        return Verdict::Refused { rule: 1, line: 0 };
+    if entries.len() < 6144 {
+        return Verdict::Refused(Refusal { rule: 1, line: 0 });
     }
     let checked = checked::check_text(text, table, stack, starts, sizes, scratch, list);
-    let Reading::Accepted(n) = checked else {
-        return refused_verdict(checked);
-    };
-    verdict_of(deadlock::judge_table(&table[0..n], entries))
+    match checked {
+        Reading::Accepted(n) => verdict_of(deadlock::judge_table(&table[0..n], entries)),
+        Reading::Refused(refusal) => Verdict::Refused(refusal),
+    }
 }
 
-// The same with tables of its own.
-fn verdict_lent(text: &[u8], lent: usize, entries: &mut [u16]) -> Verdict
-    requires { ⌜ lent ≤ length (now entries) ⌝ }
-    ensures { λ r. ⌜ JudgedIn (now (text .entry)) lent (now (entries .entry)) r (now (entries .exit)) ⌝ }
+// The verdict on a plan text: whether its gateway can come to two or more threads stuck on each other, with a schedule at the start of `out` where it can.
+pub fn judge(text: &[u8], out: &mut [u16]) -> Verdict
+    ensures { λ r. ⌜ Judged (now (text .entry)) (now (out .entry)) r (now (out .exit)) ⌝ }
 {
     let mut table = [0u64; 16384];
     let mut stack = [0u8; 16384];
@@ -263,8 +244,7 @@ fn verdict_lent(text: &[u8], lent: usize, entries: &mut [u16]) -> Verdict
     let mut list = [0u64; 129];
     find_verdict(
         text,
-        lent,
-        entries,
+        out,
         &mut table,
         &mut stack,
         &mut starts,
@@ -272,14 +252,6 @@ fn verdict_lent(text: &[u8], lent: usize, entries: &mut [u16]) -> Verdict
         &mut scratch,
         &mut list,
     )
-}
-
-// The verdict on a plan text: whether its gateway can come to two or more threads stuck on each other, with a schedule at the start of `out` where it can.
-pub fn judge(text: &[u8], out: &mut [u16]) -> Verdict
-    ensures { λ r. ⌜ Judged (now (text .entry)) (now (out .entry)) r (now (out .exit)) ⌝ }
-{
-    let lent = out.len();
-    verdict_lent(text, lent, out)
 }
 
 // The answer as one number: kind + 256 × a + 65,536 × b.
@@ -290,25 +262,9 @@ fn verdict_number(verdict: Verdict) -> u64
     match verdict {
         Verdict::Free => 0,
         Verdict::Deadlock { entries, stuck } => 1 + 256 * (stuck as u64) + 65536 * (entries as u64),
-        Verdict::Refused { rule, line } => 2 + 256 * (rule as u64) + 65536 * (line as u64),
-    }
-}
-
-// At most as many entries as a schedule can have.
-fn at_most(lent: usize) -> usize
-    ensures { λ r. ⌜ r ≡ min 6144 lent ⌝ }
-{
-    if lent < 6144 { lent } else { 6144 }
-}
-
-// How many entries the schedule of a verdict has.
-fn schedule_length(verdict: Verdict) -> usize
-    ensures { λ r. ⌜ r ≡ scheduleLength verdict ⌝ }
-{
-    match verdict {
-        Verdict::Free => 0,
-        Verdict::Deadlock { entries, stuck: _ } => entries,
-        Verdict::Refused { rule: _, line: _ } => 0,
+        Verdict::Refused(refusal) => {
+            2 + 256 * (refusal.rule as u64) + 65536 * (refusal.line as u64)
+        },
     }
 }
 
@@ -316,8 +272,17 @@ fn verdict_bytes(text: &[u8], out: &mut [u8], entries: &mut [u16]) -> u64
     requires { ⌜ length (now entries) ≡ 6144 ⌝ }
     ensures { λ r. ⌜ JudgedBytes (now (text .entry)) (now (out .entry)) r (now (out .exit)) ⌝ }
 {
-    let verdict = verdict_lent(text, at_most(out.len() / 2), entries);
-    let n = schedule_length(verdict);
+    if out.len() / 2 < 6144 {
+        return verdict_number(Verdict::Refused(Refusal { rule: 1, line: 0 }));
+    }
+    let verdict = judge(text, entries);
+    let Verdict::Deadlock {
+        entries: n,
+        stuck: _,
+    } = verdict
+    else {
+        return verdict_number(verdict);
+    };
     buffers::put_entries(&entries[0..n], out);
     verdict_number(verdict)
 }

@@ -27,7 +27,9 @@ use Rattle.semantics.proofs.CaseTest.{written, soundFrom, all, sameList, wordsF
 use Rattle.plan.specs.Grammar.{inFront, behind, planIn}
 use Rattle.plan.specs.Structure.{among, only, closeBlock, onClose, advanceOf, misplaced, misplacedLine}
 use Rattle.plan.specs.Limits.{counted, overLimit, testedBy, leastBad, breaks, breaking, breakingLine}
-use Rattle.plan.specs.Rules.{Refusal, refusal, tooLong, formsRefusal, readerRefusal, planOf, procLineFrom}
+use Rattle.text.specs.declared.Refusal.{Refusal}
+use Rattle.text.specs.Lines.{refusal}
+use Rattle.plan.specs.Rules.{tooLong, formsRefusal, readerRefusal, planOf, procLineFrom}
 use Rattle.plan.specs.Rules.{lowestFrom, procRefusal, tooLarge, tooManyPairs, planRefusal}
 use Rattle.plan.specs.Examples.{Outcome, refusedBy, accepted, Example, Gives, copies, loops, eithers}
 use Rattle.plan.specs.Examples.{rule3, rule4, rule5, rule678, rule9, to8, to9, reference, limits}

@@ -10,17 +10,18 @@ use borrow.Author.Tests.{lt-ltb, le-ltb}
 use lib.ListN.{length, take, set, length-map, length-take}
 use lib.Seq.{length-take-le, take-suc-set, append-snoc}
 use Rattle.text.specs.declared.Form.{Form}
+use Rattle.text.specs.declared.Refusal.{Refusal}
 use Rattle.text.specs.declared.Line.{Line}
 use Rattle.text.specs.declared.Line.the-variants.{Read}
 use Rattle.text.specs.declared.Line.the-variants as line
-use Rattle.text.specs.Lines.{lineAt, formsOf, unreadableLine}
+use Rattle.text.specs.Lines.{refusal, lineAt, formsOf, unreadableLine}
 use Rattle.text.proofs.Splits.{few-forms}
 use Rattle.text.proofs.Reading.{formsFrom, unreadableFrom, next-forms, next-unreadable, next-later, next-within}
-use Rattle.text.proofs.Reading.{next-small, refused-rule, refused-line, ended-forms, ended-readable}
+use Rattle.text.proofs.Reading.{next-small, refused-answer, refused-line, ended-forms, ended-readable}
 use Rattle.plan.specs.declared.Reading.{Reading}
 use Rattle.plan.specs.declared.Reading.the-variants.{Accepted, Refused}
-use Rattle.plan.specs.Table.{codeOf, formAt, tableForms}
-use Rattle.plan.specs.Rules.{Refusal, refusedAt, tooLong, formsRefusal, readerRefusal, readingOf, handedOn, Tabled}
+use Rattle.plan.specs.Table.{codeOf, formAt, tableForms, withLine}
+use Rattle.plan.specs.Rules.{refusedAt, tooLong, formsRefusal, readerRefusal, readingOf, Tabled}
 use Rattle.plan.proofs.Codes.{form-of-code}
 use Rattle.plan.proofs.Laws.{first-refuses}
 
@@ -35,19 +36,27 @@ pub filling-none : (text table : List ℕ) → Filling text table 0 0
 unfolding formsOf unreadableLine
 filling-none text table = record { pace = omega arith; within = omega arith; read = refl; readable = refl }
 
+-- the line that was put into the table is the one that was read
+pub read-again : (q a r : Line) → q ≡ r → q ≡ a → r ≡ a
+read-again q a r g e = sym g ∙ e
+
+pub line-put : (f : Form) (w n : ℕ) (table : List ℕ) → w ≡ codeOf f → set table n w ≡ set table n (codeOf f)
+line-put f w n table k = ap (set table n) k
+
 map-append : (f : ℕ → Form) (xs ys : List ℕ) → map f (xs ++ ys) ≡ map f xs ++ map f ys
 map-append f [] ys = refl
 map-append f (x ∷ xs) ys = ap (λ l. f x ∷ l) (map-append f xs ys)
 
 module _ (text table : List ℕ) (at n : ℕ) (q : Line) (s : Filling text table at n) (e : q ≡ lineAt text at (n + 1)) where
-  pub filling-more : (f : Form) (next w : ℕ) (table₀ : List ℕ) → q ≡ Read f next → w ≡ codeOf f
+  pub filling-more : (f : Form) (next : ℕ) (table₀ table₁ : List ℕ) → q ≡ Read f next → table₁ ≡ withLine q n table
       → length text ≤ 32768 → 16384 ≤ length table₀ → length table ≡ length table₀
-      → at < length text → Filling text (set table n w) next (n + 1)
-  filling-more f next w table₀ g k a b c h =
+      → at < length text → Filling text table₁ next (n + 1)
+  filling-more f next table₀ table₁ g k a b c h =
       let room : n < length table = omega arith in
-      let form : formAt w ≡ f = ap formAt k ∙ form-of-code f (omega (arith, next-small text at (n + 1) q e f next g)) in
-      let one : tableForms (take (n + 1) (set table n w)) ≡ tableForms (take n table) ++ (f ∷ []) =
-      rw (add-one, take-suc-set table n w room, map-append formAt (take n table) (w ∷ []), form) in
+      let put : table₁ ≡ set table n (codeOf f) = rw g at k in
+      let form : formAt (codeOf f) ≡ f = form-of-code f (omega (arith, next-small text at (n + 1) q e f next g)) in
+      let one : tableForms (take (n + 1) table₁) ≡ tableForms (take n table) ++ (f ∷ []) =
+      rw (put, add-one, take-suc-set table n (codeOf f) room, map-append formAt (take n table) (codeOf f ∷ []), form) in
       record {
         pace = omega (arith, next-later text at (n + 1) q e f next g);
         within = next-within text at (n + 1) q e f next g;
@@ -56,13 +65,12 @@ module _ (text table : List ℕ) (at n : ℕ) (q : Line) (s : Filling text table
         readable = next-unreadable text at (n + 1) q e f next g (unreadableLine text) (s .readable);
       }
 
-  pub filling-refused : (r l : ℕ) (x : Reading) → at < length text → q ≡ line.Refused r l → x ≡ handedOn q → Tabled (refusedAt 3 (unreadableLine text)) text x table
+  pub filling-refused : (x : Refusal) (table₁ : List ℕ) → at < length text → q ≡ line.Refused x → Tabled (refusedAt 3 (unreadableLine text)) text (Refused x) table₁
   unfolding readingOf
-  filling-refused r l x h g k =
-      let u : some l ≡ unreadableLine text = refused-line text at (n + 1) q e r l h g (unreadableLine text) (s .readable) in
+  filling-refused x table₁ h g =
+      let u : some (n + 1) ≡ unreadableLine text = refused-line text at (n + 1) q e x h g (unreadableLine text) (s .readable) in
       record {
-        answer = k ∙ ap handedOn g ∙ ap (λ i. Refused i l) (refused-rule text at (n + 1) q e r l h g)
-            ∙ ap (λ o. readingOf (refusedAt 3 o) (length (formsOf text))) u;
+        answer = ap Refused (refused-answer text at (n + 1) q e x h g) ∙ ap (λ o. readingOf (refusedAt 3 o) (length (formsOf text))) u;
         forms = λ none-refused. absurd (Option·none-ne-some _ (sym (rw (← u) at none-refused)));
       }
 
@@ -90,7 +98,7 @@ accepted-count (some r) m n e = let z : _≡_ {A = ℕ} 0 1 = cc in absurd (omeg
 
 -- ---- the rules 2, 3, and then those over the table
 
-pub plan-long : (text table : List ℕ) → 32768 < length text → Tabled (readerRefusal text) text (Refused 2 0) table
+pub plan-long : (text table : List ℕ) → 32768 < length text → Tabled (readerRefusal text) text (Refused (refusal 2 0)) table
 unfolding readerRefusal tooLong orElse readingOf
 plan-long text table h = rw (lt-ltb 32768 (length text) h) (record { answer = refl; forms = λ e. absurd (Option·none-ne-some _ (sym e)) })
 
@@ -100,9 +108,9 @@ unfolding readerRefusal tooLong orElse
 from-rule-3 text h = rw (le-ltb 32768 (length text) h)
 
 module _ (text table : List ℕ) (q : Reading) (t : Tabled (refusedAt 3 (unreadableLine text)) text q table) (h : length text ≤ 32768) where
-  pub plan-unreadable : (x y : ℕ) → q ≡ Refused x y → Tabled (readerRefusal text) text q table
-  plan-unreadable x y g = record {
-    answer = rw (from-rule-3 text h) (first-refuses (refusedAt 3 (unreadableLine text)) (formsRefusal (formsOf text)) q (length (formsOf text)) x y (t .answer) g);
+  pub plan-unreadable : (x : Refusal) → q ≡ Refused x → Tabled (readerRefusal text) text q table
+  plan-unreadable x g = record {
+    answer = rw (from-rule-3 text h) (first-refuses (refusedAt 3 (unreadableLine text)) (formsRefusal (formsOf text)) q (length (formsOf text)) x (t .answer) g);
     forms = λ e. t .forms (first-none (refusedAt 3 (unreadableLine text)) (formsRefusal (formsOf text)) (sym (from-rule-3 text h) ∙ e) .0);
   }
 

@@ -13,7 +13,9 @@ use Rattle.text.specs.declared.Form.{Form}
 use Rattle.plan.specs.declared.Counts.{Counts}
 use Rattle.plan.specs.Limits.{counted, overLimit, breaks, lineIf, breaking, breakingLine, noCounts}
 use Rattle.plan.specs.Structure.{misplacedLine}
-use Rattle.plan.specs.Rules.{Refusal, refusal, refusedAt, formsRefusal}
+use Rattle.text.specs.declared.Refusal.{Refusal}
+use Rattle.text.specs.Lines.{refusal}
+use Rattle.plan.specs.Rules.{refusedAt, formsRefusal}
 
 -- no rule is broken by a form, where c counts what has been read, the form too
 pub record Keeps (c : Counts) (f : Form) : Type 0 where

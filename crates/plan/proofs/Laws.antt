@@ -23,7 +23,9 @@ use Rattle.plan.specs.declared.Reading.the-variants.{Accepted, Refused}
 use Rattle.plan.specs.declared.Counts.{Counts}
 use Rattle.plan.specs.Table.{codeOf, formAt}
 use Rattle.plan.specs.Structure.{innermost, stackOf, advanceOf, goOn, complete, misplaced}
-use Rattle.plan.specs.Rules.{Refusal, refusedAt, readingOf}
+use Rattle.text.specs.declared.Refusal.{Refusal}
+use Rattle.text.specs.Lines.{refusal}
+use Rattle.plan.specs.Rules.{refusedAt, readingOf}
 use Rattle.plan.specs.Limits.{Small, counts, noCounts, counted, testedBy, leastBad, breaks, lineIf, breaking}
 
 -- ---- a match on a form: what a definition says of it, by the case that was found
@@ -113,7 +115,7 @@ module _ (table : List ℕ) (mode d i : ℕ) (stack : List ℕ) (r : Option ℕ)
     pub pass-pop : (m n : ℕ) → q ≡ Pop m → n ≡ d - 1 → misplaced m (stackOf stack n) (i + 1 + 1) (map formAt (drop (i + 1) table)) ≡ r
     pass-pop m n a k = rw (k, stack-pop stack d) (went (Pop m) a)
 
-    pub pass-misplaced : (n : ℕ) → q ≡ Misplaced → Refused 4 (i + 1) ≡ readingOf (refusedAt 4 r) n
+    pub pass-misplaced : (n : ℕ) → q ≡ Misplaced → Refused (refusal 4 (i + 1)) ≡ readingOf (refusedAt 4 r) n
     unfolding readingOf
     pass-misplaced n a = ap (λ x. readingOf (refusedAt 4 x) n) (went Misplaced a)
 
@@ -130,7 +132,7 @@ module _ (table : List ℕ) (mode d i : ℕ) (stack : List ℕ) (r : Option ℕ)
       rw (← a, b)
 
   pub pass-early : (n : ℕ) → length table ≤ i → misplaced mode (stackOf stack d) (i + 1) (map formAt (drop i table)) ≡ r → (mode ≡ 4 → ⊥)
-      → Refused 4 (i + 1) ≡ readingOf (refusedAt 4 r) n
+      → Refused (refusal 4 (i + 1)) ≡ readingOf (refusedAt 4 r) n
   unfolding readingOf
   pass-early n h p e = let a : some (i + 1) ≡ r = rw (ne-eqb mode 4 e) at (at-end h p) in rw (← a)
 
@@ -170,7 +172,7 @@ module _ (table : List ℕ) (rule i : ℕ) (c d : Counts) (f : Form) (q : Bool) 
   pub rule-again : q ≡ false → breaking rule d (i + 1 + 1) (map formAt (drop (i + 1) table)) ≡ r
   rule-again z = rw z at tested
 
-  pub rule-broken : (n : ℕ) → q ≡ true → Refused rule (i + 1) ≡ readingOf (refusedAt rule r) n
+  pub rule-broken : (n : ℕ) → q ≡ true → Refused (refusal rule (i + 1)) ≡ readingOf (refusedAt rule r) n
   unfolding readingOf
   rule-broken n z = let a : some (i + 1) ≡ r = rw z at tested in rw (← a)
 
@@ -185,10 +187,10 @@ rule-kept table rule i c r h k p =
 
 -- ---- the rules one after the other
 
-pub first-refuses : (a b : Option Refusal) (q : Reading) (n x y : ℕ) → q ≡ readingOf a n → q ≡ Refused x y → q ≡ readingOf (orElse a b) n
+pub first-refuses : (a b : Option Refusal) (q : Reading) (n : ℕ) (x : Refusal) → q ≡ readingOf a n → q ≡ Refused x → q ≡ readingOf (orElse a b) n
 unfolding readingOf orElse
-first-refuses none b q n x y e g = let z : _≡_ {A = ℕ} 0 1 = cc in absurd (omega arith)
-first-refuses (some w) b q n x y e g = e
+first-refuses none b q n x e g = let z : _≡_ {A = ℕ} 0 1 = cc in absurd (omega arith)
+first-refuses (some w) b q n x e g = e
 
 pub first-passes : (a b : Option Refusal) (q r : Reading) (n m : ℕ) → q ≡ readingOf a n → q ≡ Accepted m → r ≡ readingOf b n → r ≡ readingOf (orElse a b) n
 unfolding readingOf orElse

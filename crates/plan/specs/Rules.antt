@@ -9,10 +9,8 @@ use lib.Dec.{ltb, leb, eqb}
 use lib.ListN.{length, take}
 use Rattle.text.specs.declared.Form.{Form}
 use Rattle.text.specs.declared.Form.the-variants.{Plan, Proc, Thread, Close, Skip, Call, Hold, Loop, Either, One, Two}
-use Rattle.text.specs.declared.Line.{Line}
-use Rattle.text.specs.declared.Line.the-variants as Line
-use Rattle.text.specs.declared.Line.the-variants.{Read}
-use Rattle.text.specs.Lines.{formsOf, unreadableLine}
+use Rattle.text.specs.declared.Refusal.{Refusal}
+use Rattle.text.specs.Lines.{refusal, formsOf, unreadableLine}
 use Rattle.semantics.specs.Plan.{LockPlan}
 use Rattle.semantics.specs.Sizes.{sizeOf}
 use Rattle.semantics.specs.Pairs.{pairList}
@@ -22,14 +20,6 @@ use Rattle.plan.specs.Table.{tableForms}
 use Rattle.plan.specs.Limits.{breakingLine}
 use Rattle.plan.specs.declared.Reading.{Reading}
 use Rattle.plan.specs.declared.Reading.the-variants.{Accepted, Refused}
-
--- the number of the rule broken, and the line
-pub record Refusal : Type 0 where
-  pub rule : ℕ
-  pub line : ℕ
-
-abbrev pub refusal : ℕ → ℕ → Refusal
-refusal r l = record { rule = r; line = l }
 
 -- a rule that names a line
 abbrev pub refusedAt : ℕ → Option ℕ → Option Refusal
@@ -111,12 +101,7 @@ pairsRefusal text p lent = orElse (refusedIf 1 (ltb lent 128)) (orElse (planRefu
 -- line.
 unfoldable pub readingOf : Option Refusal → ℕ → Reading
 readingOf none n = Accepted n
-readingOf (some r) n = Refused (r .rule) (r .line)
-
--- a refusal that was handed on from a line
-abbrev pub handedOn : Line → Reading
-handedOn (Read f next) = Accepted 0
-handedOn (Line.Refused r l) = Refused r l
+readingOf (some r) n = Refused r
 
 -- The promise of a call that reads a text into a table, where `refused` says whether and how the text is refused: the answer, and where it is accepted the table
 -- begins with the text's forms.

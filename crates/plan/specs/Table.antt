@@ -3,8 +3,11 @@ use mathlib.Core.Bool.{cond}
 use Prim.Native.Nat.{ℕ, _+_, _*_, _/_, _%_}
 use mathlib.Core.List.{List, map}
 use lib.Dec.{eqb}
+use lib.ListN.{set}
 use Rattle.text.specs.declared.Form.{Form}
 use Rattle.text.specs.declared.Form.the-variants.{Plan, Proc, Thread, Close, Skip, Call, Hold, Loop, Either, One, Two}
+use Rattle.text.specs.declared.Line.{Line}
+use Rattle.text.specs.declared.Line.the-variants.{Read, Refused}
 
 unfoldable pub codeOf : Form → ℕ
 codeOf Plan = 0
@@ -41,3 +44,8 @@ formAt w =
 -- the forms that a table holds
 abbrev pub tableForms : List ℕ → List Form
 tableForms ws = map formAt ws
+
+-- a table with the form of a line at place n; of a refused line nothing is written
+abbrev pub withLine : Line → ℕ → List ℕ → List ℕ
+withLine (Read f next) n table = set table n (codeOf f)
+withLine (Refused x) n table = table

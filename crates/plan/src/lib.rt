@@ -3,13 +3,14 @@ ghost use mathlib.Core.Path.{_≡_};
 ghost use Prim.Native.Nat.{_+_, _-_, _≤_, _<_};
 ghost use lib.ListN.{length};
 ghost use Rattle.text.specs.Forms.{numberIn};
-ghost use Rattle.text.specs.Lines.{formsOf, unreadableLine};
-ghost use Rattle.plan.specs.Table.{codeOf, formAt, tableForms};
+ghost use Rattle.text.specs.Lines.{lineAt, formsOf, unreadableLine};
+ghost use Rattle.plan.specs.Table.{codeOf, formAt, tableForms, withLine};
 ghost use Rattle.plan.specs.Structure.{only, among, closeBlock, onClose, advanceOf, misplacedLine, stackOf, innermost};
 ghost use Rattle.plan.specs.Limits.{Small, counted, overLimit, testedBy, leastBad, breaks, breakingLine};
-ghost use Rattle.plan.specs.Rules.{refusedAt, formsRefusal, readerRefusal, readingOf, handedOn, Tabled};
+ghost use Rattle.plan.specs.Rules.{refusedAt, formsRefusal, readerRefusal, readingOf, Tabled};
 use text::Form;
 use text::Line;
+use text::Refusal;
 
 // What a form does to the machine of rule 4: it goes on in a mode, opens a bracket, closes one and goes on in a mode, or has no place.
 pub enum Advance {
@@ -30,7 +31,7 @@ pub struct Counts {
 // What reading a plan gives: how many forms it has, or the refusal.
 pub enum Reading {
     Accepted(usize),
-    Refused { rule: u8, line: usize },
+    Refused(Refusal),
 }
 
 // The word of a form: its kind plus 16 times its number.
@@ -180,17 +181,17 @@ fn check_structure(table: &[u64], stack: &mut [u8]) -> Reading
                 mode = m;
             }
             Advance::Misplaced => {
-                return Reading::Refused { rule: 4, line: i };
+                return Reading::Refused(Refusal { rule: 4, line: i });
             }
         }
     }
     if mode == 4 {
         return Reading::Accepted(i);
     }
-    Reading::Refused {
+    Reading::Refused(Refusal {
         rule: 4,
         line: i + 1,
-    }
+    })
 }
 
 // One form more.
@@ -346,7 +347,7 @@ fn check_rule(table: &[u64], rule: u8) -> Reading
         i += 1;
         c = count(c, form);
         if breaks_rule(rule, c, form) {
-            return Reading::Refused { rule, line: i };
+            return Reading::Refused(Refusal { rule, line: i });
         }
     }
     Reading::Accepted(i)
@@ -376,14 +377,17 @@ fn check_forms(table: &[u64], stack: &mut [u8]) -> Reading
     check_rule(table, 8)
 }
 
-// The refusal of a line, in the reader's answer.
-fn handed_on(line: Line) -> Reading
-    ensures { λ r. ⌜ r ≡ handedOn line ⌝ }
+// The line that starts at the place `at`, its form into place n of the table.
+fn put_line(text: &[u8], at: usize, table: &mut [u64], n: usize) -> Line
+    requires { ⌜ n < length (now table) ⌝ }
+    ensures { λ r. ⌜ (r ≡ lineAt (now (text .entry)) at (n + 1)) × (now (table .exit) ≡ withLine r n (now (table .entry))) ⌝ }
 {
-    match line {
-        Line::Read { form: _, next: _ } => Reading::Accepted(0),
-        Line::Refused { rule, line } => Reading::Refused { rule, line },
-    }
+    let line = text::read_line(text, at, n + 1);
+    let Line::Read { form, next: _ } = line else {
+        return line;
+    };
+    table[n] = code_of(form);
+    line
 }
 
 // The text's forms into a table, line after line (rule 3). A form's line has two bytes at least, so a table of half the bytes has room.
@@ -394,13 +398,14 @@ fn fill(text: &[u8], table: &mut [u64]) -> Reading
     let mut at: usize = 0;
     let mut n: usize = 0;
     while at < text.len() {
-        let line = text::read_line(text, at, n + 1);
-        let Line::Read { form, next } = line else {
-            return handed_on(line);
-        };
-        table[n] = code_of(form);
-        n += 1;
-        at = next;
+        let line = put_line(text, at, table, n);
+        match line {
+            Line::Read { form: _, next } => {
+                n += 1;
+                at = next;
+            }
+            Line::Refused(refusal) => return Reading::Refused(refusal),
+        }
     }
     Reading::Accepted(n)
 }
@@ -411,7 +416,7 @@ pub fn read_plan(text: &[u8], table: &mut [u64], stack: &mut [u8]) -> Reading
     ensures { λ r. ⌜ Tabled (readerRefusal (now (text .entry))) (now (text .entry)) r (now (table .exit)) ⌝ }
 {
     if 32768 < text.len() {
-        return Reading::Refused { rule: 2, line: 0 };
+        return Reading::Refused(Refusal { rule: 2, line: 0 });
     }
     let filled = fill(text, table);
     let Reading::Accepted(n) = filled else {

@@ -20,7 +20,9 @@ use Rattle.plan.specs.declared.Reading.the-variants.{Accepted, Refused}
 use Rattle.plan.specs.Table.{formAt, tableForms}
 use Rattle.plan.specs.Settled.{PlanTable, tablePlan}
 use Rattle.plan.specs.Starts.{Starts}
-use Rattle.plan.specs.Rules.{Refusal, refusal, procLineFrom, lowestFrom, procRefusal, tooLarge, readingOf}
+use Rattle.text.specs.declared.Refusal.{Refusal}
+use Rattle.text.specs.Lines.{refusal}
+use Rattle.plan.specs.Rules.{procLineFrom, lowestFrom, procRefusal, tooLarge, readingOf}
 use Rattle.procs.specs.Passes.{isProc, isThread, consIf, placesFrom, threadsFrom, costOf, costFrom, entryOf, sizeFrom}
 use Rattle.procs.specs.Sized.{Sized}
 use Rattle.procs.proofs.Places.{table-places, table-threads, places-starts}
@@ -235,12 +237,12 @@ module _ (table sizes : List ℕ) (procs p : ℕ) (c : procs ≡ length (tablePl
   large-more h k = rw (le-ltb 1024 (sizeOf (tablePlan table .procs) p) (omega (arith, s .entries p (rw c at h)))) at (large-turn h)
 
   pub large-found : (starts : List ℕ) (n : ℕ) → Starts table starts → p < procs → 1024 < getD sizes p 0
-      → Refused 9 (getD starts p 0) ≡ readingOf (tooLarge (tableForms table)) n
+      → Refused (refusal 9 (getD starts p 0)) ≡ readingOf (tooLarge (tableForms table)) n
   unfolding readingOf
   large-found starts n k h g =
       let l : 1024 < sizeOf (tablePlan table .procs) p = omega (arith, s .entries p (rw c at h)) in
       let f : some p ≡ lowestFrom (large table) 0 procs = rw (lt-ltb 1024 (sizeOf (tablePlan table .procs) p) l) at (large-turn h) in
-      ap (Refused 9) (k .lines p (rw c at h)) ∙ ap (λ x. readingOf x n) (refused (some p) f)
+      ap (λ l. Refused (refusal 9 l)) (k .lines p (rw c at h)) ∙ ap (λ x. readingOf x n) (refused (some p) f)
 
   pub large-none : (n : ℕ) → procs ≤ p → Accepted n ≡ readingOf (tooLarge (tableForms table)) n
   unfolding readingOf lowestFrom

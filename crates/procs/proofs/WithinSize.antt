@@ -15,7 +15,9 @@ use Rattle.semantics.specs.Sizes.{sizeOf}
 use Rattle.plan.specs.Grammar.{planIn}
 use Rattle.plan.specs.Table.{tableForms}
 use Rattle.plan.specs.Settled.{tablePlan}
-use Rattle.plan.specs.Rules.{Refusal, refusal, procLineFrom, lowestFrom, procRefusal, tooLarge}
+use Rattle.text.specs.declared.Refusal.{Refusal}
+use Rattle.text.specs.Lines.{refusal}
+use Rattle.plan.specs.Rules.{procLineFrom, lowestFrom, procRefusal, tooLarge}
 use Rattle.procs.specs.Sized.{Sized}
 
 -- none of n numbers from p on passes a test

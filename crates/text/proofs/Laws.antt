@@ -17,7 +17,7 @@ use Rattle.text.specs.declared.Number.the-variants.{Is, Not}
 use Rattle.text.specs.declared.Line.{Line}
 use Rattle.text.specs.declared.Line.the-variants.{Read, Refused}
 use Rattle.text.specs.Kinds.{digitOf, leadingOf, appendDigit, numbered, kindOf}
-use Rattle.text.specs.Lines.{lineLength, lineAnswer, lineAt}
+use Rattle.text.specs.Lines.{refusal, lineLength, lineAnswer, lineAt}
 
 -- a digit other than 0
 pub leading-digit : (b : ℕ) (r : Number) → 49 ≤ b → r ≡ digitOf b → r ≡ leadingOf b
@@ -70,7 +70,7 @@ module _ (k : Kind) (next line : ℕ) (r : Line) where
   unfolding lineAnswer
   answer-known f e h = rw (e, h)
 
-  pub answer-unknown : k ≡ Unknown → r ≡ Refused 3 line → r ≡ lineAnswer k next line
+  pub answer-unknown : k ≡ Unknown → r ≡ Refused (refusal 3 line) → r ≡ lineAnswer k next line
   unfolding lineAnswer
   answer-unknown e h = rw (e, h)
 
@@ -92,12 +92,12 @@ module _ (s : List ℕ) (i r : ℕ) where
 
 -- the line that starts at a place
 module _ (text : List ℕ) (at line : ℕ) (r : Line) where
-  pub line-past : length text ≤ at → r ≡ Refused 3 line → r ≡ lineAt text at line
+  pub line-past : length text ≤ at → r ≡ Refused (refusal 3 line) → r ≡ lineAt text at line
   unfolding lineAt
   line-past h g = rw (g, le-ltb (at + lineLength (drop at text)) (length text) (omega arith))
 
   module _ (e : ℕ) (g : e ≡ at + lineLength (drop at text)) where
-    pub line-unended : length text ≤ e → r ≡ Refused 3 line → r ≡ lineAt text at line
+    pub line-unended : length text ≤ e → r ≡ Refused (refusal 3 line) → r ≡ lineAt text at line
     unfolding lineAt
     line-unended h k = rw (k, le-ltb (at + lineLength (drop at text)) (length text) (omega arith))
 

@@ -14,11 +14,12 @@ use borrow.Author.Tests.{ltb-true, ltb-false}
 use Rattle.text.specs.declared.Form.{Form}
 use Rattle.text.specs.declared.Kind.{Kind}
 use Rattle.text.specs.declared.Kind.the-variants.{Known, Unknown}
+use Rattle.text.specs.declared.Refusal.{Refusal}
 use Rattle.text.specs.declared.Line.{Line}
 use Rattle.text.specs.declared.Line.the-variants.{Read, Refused}
 use Rattle.text.specs.Forms.{numberIn}
 use Rattle.text.specs.Kinds.{kindOf}
-use Rattle.text.specs.Lines.{lineLength, lineAnswer, lineAt, Split, split, consForm, formsIn, formsOf, unknownOr, unreadable}
+use Rattle.text.specs.Lines.{refusal, lineLength, lineAnswer, lineAt, Split, split, consForm, formsIn, formsOf, unknownOr, unreadable}
 use Rattle.text.proofs.Written.{kind-written, write-some}
 use Rattle.text.proofs.Splits.{split-line, split-tail, few-forms}
 
@@ -38,9 +39,8 @@ pub record ReadForm (text : List ℕ) (at line : ℕ) (f : Form) (next : ℕ) : 
   pub small : numberIn f < 1000
 
 -- what a line that was refused says
-pub record ReadRefused (text : List ℕ) (at line r l : ℕ) : Type 0 where
-  pub rule : r ≡ 3
-  pub number : l ≡ line
+pub record ReadRefused (text : List ℕ) (at line : ℕ) (x : Refusal) : Type 0 where
+  pub answer : x ≡ refusal 3 line
   pub unreadable : unreadableFrom text at line ≡ some line
 
 -- the bytes of the line at a place, how many they are, and the place after its end
@@ -87,7 +87,7 @@ module _ (text : List ℕ) (at line : ℕ) where
   read-form f next = go (ltb (at + extent text at) (length text)) refl (kindOf (lineFrom text at)) refl
     where
       go : (t : Bool) → ltb (at + extent text at) (length text) ≡ t → (k : Kind) → kindOf (lineFrom text at) ≡ k
-          → cond t (lineAnswer k (after text at) line) (Refused 3 line) ≡ Read f next → ReadForm text at line f next
+          → cond t (lineAnswer k (after text at) line) (Refused (refusal 3 line)) ≡ Read f next → ReadForm text at line f next
       go false p k q e = let z : _≡_ {A = ℕ} 0 1 = cc in absurd (omega arith)
       go true p Unknown q e = let z : _≡_ {A = ℕ} 0 1 = cc in absurd (omega arith)
       go true p (Known g) q e =
@@ -95,14 +95,14 @@ module _ (text : List ℕ) (at line : ℕ) where
           let b : after text at ≡ next = cc in
           subst (λ x. ReadForm text at line x next) a (subst (ReadForm text at line g) b (known-line g (ltb-true (at + extent text at) (length text) p) q))
 
-  pub read-refused : (r l : ℕ) → at < length text → lineAt text at line ≡ Refused r l → ReadRefused text at line r l
+  pub read-refused : (x : Refusal) → at < length text → lineAt text at line ≡ Refused x → ReadRefused text at line x
   unfolding lineAt lineAnswer
-  read-refused r l h = go (ltb (at + extent text at) (length text)) refl (kindOf (lineFrom text at)) refl
+  read-refused x h = go (ltb (at + extent text at) (length text)) refl (kindOf (lineFrom text at)) refl
     where
       go : (t : Bool) → ltb (at + extent text at) (length text) ≡ t → (k : Kind) → kindOf (lineFrom text at) ≡ k
-          → cond t (lineAnswer k (after text at) line) (Refused 3 line) ≡ Refused r l → ReadRefused text at line r l
-      go false p k q e = record { rule = cc; number = cc; unreadable = unended-line h (ltb-false (at + extent text at) (length text) p) }
-      go true p Unknown q e = record { rule = cc; number = cc; unreadable = ended-line Unknown (ltb-true (at + extent text at) (length text) p) q .1 }
+          → cond t (lineAnswer k (after text at) line) (Refused (refusal 3 line)) ≡ Refused x → ReadRefused text at line x
+      go false p k q e = record { answer = cc; unreadable = unended-line h (ltb-false (at + extent text at) (length text) p) }
+      go true p Unknown q e = record { answer = cc; unreadable = ended-line Unknown (ltb-true (at + extent text at) (length text) p) q .1 }
       go true p (Known g) q e = let z : _≡_ {A = ℕ} 0 1 = cc in absurd (omega arith)
 
   pub read-end : length text ≤ at → split (drop at text) ≡ record { ended = []; tail = [] }
@@ -151,12 +151,12 @@ module _ (text : List ℕ) (at line : ℕ) (q : Line) (e : q ≡ lineAt text at 
     next-small = read-form text at line f next (sym e ∙ g) .small
 
   -- a line was refused
-  module _ (r l : ℕ) (h : at < length text) (g : q ≡ Refused r l) where
-    pub refused-rule : r ≡ 3
-    refused-rule = read-refused text at line r l h (sym e ∙ g) .rule
+  module _ (x : Refusal) (h : at < length text) (g : q ≡ Refused x) where
+    pub refused-answer : x ≡ refusal 3 line
+    refused-answer = read-refused text at line x h (sym e ∙ g) .answer
 
-    pub refused-line : (o : Option ℕ) → unreadableFrom text at line ≡ o → some l ≡ o
-    refused-line o p = let d = read-refused text at line r l h (sym e ∙ g) in cc (d .number, d .unreadable)
+    pub refused-line : (o : Option ℕ) → unreadableFrom text at line ≡ o → some line ≡ o
+    refused-line o p = sym (read-refused text at line x h (sym e ∙ g) .unreadable) ∙ p
 
 -- the text is at its end
 module _ (text : List ℕ) (at line : ℕ) (h : length text ≤ at) where

@@ -9,6 +9,7 @@ use lib.ListN.{length, take, drop}
 use Rattle.text.specs.declared.Form.{Form}
 use Rattle.text.specs.declared.Kind.{Kind}
 use Rattle.text.specs.declared.Kind.the-variants.{Known, Unknown}
+use Rattle.text.specs.declared.Refusal.{Refusal}
 use Rattle.text.specs.declared.Line.{Line}
 use Rattle.text.specs.declared.Line.the-variants.{Read, Refused}
 use Rattle.text.specs.Forms.{write, numberIn}
@@ -19,18 +20,22 @@ unfoldable pub lineLength : List ℕ → ℕ
 lineLength [] = 0
 lineLength (b ∷ bs) = cond (eqb b 10) 0 (suc (lineLength bs))
 
+-- the number of the rule broken, and the line
+abbrev pub refusal : ℕ → ℕ → Refusal
+refusal r l = record { rule = r; line = l }
+
 -- "Reading a line gives either a form with its number or the refusal, never both." The cases of the answer, with 01's numbers: the form and the place of the next
 -- line; rule 3, "Some line is none of the forms above", and the line's number
 unfoldable pub lineAnswer : Kind → ℕ → ℕ → Line
 lineAnswer (Known f) next line = Read f next
-lineAnswer Unknown next line = Refused 3 line
+lineAnswer Unknown next line = Refused (refusal 3 line)
 
 -- The line that starts at the place `at`. A line that is not ended is refused. At or past the end of the text there is no line, and the answer is the refusal too:
 -- the caller asks only before the end.
 unfoldable pub lineAt : List ℕ → ℕ → ℕ → Line
 lineAt text at line =
     let n = lineLength (drop at text) in
-    cond (ltb (at + n) (length text)) (lineAnswer (kindOf (take n (drop at text))) (at + n + 1) line) (Refused 3 line)
+    cond (ltb (at + n) (length text)) (lineAnswer (kindOf (take n (drop at text))) (at + n + 1) line) (Refused (refusal 3 line))
 
 -- A text cut at each byte 10: its ended lines, and what stands after the last of them.
 pub record Split : Type 0 where

@@ -16,35 +16,11 @@ abbrev μ-loop : tie.MeasureT-loop
 loop-holds : tie.Need-loop-holds Inv-loop μ-loop
 loop-holds c = search (filling-none, needs)
 
-add-read-line : tie.Need-add-read-line Inv-loop μ-loop
-add-read-line c = search needs
-
-read-line-requires : tie.Need-read-line-requires Inv-loop μ-loop
-read-line-requires c κs = search needs
+put-line-requires : tie.Need-put-line-requires Inv-loop μ-loop
+put-line-requires c κs = search needs
 
 enum-known-line : tie.Need-enum-known-line Inv-loop μ-loop
 enum-known-line c = search needs
-
-enum-told : tie.Need-enum-told Inv-loop μ-loop
-enum-told c = search needs
-
-handed-on-requires : tie.Need-handed-on-requires Inv-loop μ-loop
-handed-on-requires c κs = search needs
-
-same-length : tie.Need-same-length Inv-loop μ-loop
-same-length c = search needs
-
-returns : tie.Need-returns Inv-loop μ-loop
-returns c = search (filling-refused, needs)
-
-code-of-requires : tie.Need-code-of-requires Inv-loop μ-loop
-code-of-requires c κs = search needs
-
-mul-table : tie.Need-mul-table Inv-loop μ-loop
-mul-table c = search needs
-
-slice-write-table : tie.Need-slice-write-table Inv-loop μ-loop
-slice-write-table c = search needs
 
 add-n : tie.Need-add-n Inv-loop μ-loop
 add-n c = search needs
@@ -54,6 +30,15 @@ loop-less c = search (next-less, needs)
 
 loop-again : tie.Need-loop-again Inv-loop μ-loop
 loop-again c = search (filling-more, needs)
+
+enum-known-line-2 : tie.Need-enum-known-line-2 Inv-loop μ-loop
+enum-known-line-2 c = search needs
+
+same-length : tie.Need-same-length Inv-loop μ-loop
+same-length c = search needs
+
+returns : tie.Need-returns Inv-loop μ-loop
+returns c = search (filling-refused, needs)
 
 same-length-2 : tie.Need-same-length-2 Inv-loop μ-loop
 same-length-2 c = search needs
@@ -68,18 +53,13 @@ fill-spec =
     Inv-loop
     μ-loop
     loop-holds
-    add-read-line
-    read-line-requires
+    put-line-requires
     enum-known-line
-    enum-told
-    handed-on-requires
-    same-length
-    returns
-    code-of-requires
-    mul-table
-    slice-write-table
     add-n
     loop-less
     loop-again
+    enum-known-line-2
+    same-length
+    returns
     same-length-2
     returns-2)
