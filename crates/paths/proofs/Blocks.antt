@@ -2,32 +2,31 @@
 use Prim.Native.Nat.{ℕ, _+_, _<_, _≤_}
 use native.Mathlib.Numerals.{add-one}
 use native.Mathlib.Omega.{arith}
-use mathlib.Core.Bool.{Bool, true, false}
+use mathlib.Core.Bool.{not}
 use mathlib.Core.List.{List, [], _∷_}
 use mathlib.Core.Logic.{⊎-elim}
-use mathlib.Core.Path.{_≡_, ap}
+use mathlib.Core.Path.{_≡_, subst}
+use denote.Enum.Declared.{tagOf}
+use lib.Dec.{T}
 use lib.ListN.{length, drop, getD, drop-of-length-le}
 use lib.Seq.{drop-cons}
+use mir.Val.{hasKey}
+use types.Run.{OneOf, miss}
 use Rattle.laws.proofs.Tests.{lt-or-le}
+use Rattle.text.proofs.Form.{the-type}
 use Rattle.text.specs.declared.Form.{Form}
-use Rattle.text.specs.declared.Form.the-variants.{Plan, Proc, Thread, Close, Skip, Call, Hold, Loop, Either, One, Two}
+use Rattle.text.specs.declared.Form.the-variants.{Close, Skip, Call, Hold, Loop, Either, One, Two}
 use Rattle.semantics.specs.Plan.{Block, done, skip, call, hold, loop, either, end, Written}
 use Rattle.plan.specs.Grammar.{blockForms}
 use Rattle.plan.specs.Table.{formAt, tableForms}
 
--- whether a form begins a block, or ends one
-unfoldable pub inBlock : Form → Bool
-inBlock Plan = false
-inBlock Proc = false
-inBlock (Thread n) = false
-inBlock Close = true
-inBlock Skip = true
-inBlock (Call n) = true
-inBlock (Hold l) = true
-inBlock Loop = true
-inBlock Either = true
-inBlock One = false
-inBlock Two = false
+-- a form whose tag is one of some is none of the others
+pub other-form : (ks : List ℕ) (f g : Form) → OneOf ks (tagOf the-type f) → T (not (hasKey ks (tagOf the-type g))) → f ≡ g → ⊥
+other-form ks f g h n e = miss ks (tagOf the-type g) n (subst (λ x. OneOf ks (tagOf the-type x)) e h)
+
+-- the tags of the forms that begin no statement
+abbrev pub noStatement : List ℕ
+noStatement = 0 ∷ 1 ∷ 2 ∷ 3 ∷ 9 ∷ 10 ∷ []
 
 module _ (C : ℕ → Type 0) (later fs : List Form) where
   pub none-begins : (b : Block) → Written C b → [] ≡ blockForms b (Close ∷ later) → ⊥
@@ -40,15 +39,15 @@ module _ (C : ℕ → Type 0) (later fs : List Form) where
   none-begins (either a b r) v e = let z : _≡_ {A = ℕ} 0 1 = cc in absurd (omega arith)
   none-begins (end l r) v e = absurd v
 
-  pub begins-in : (f : Form) (b : Block) → Written C b → f ∷ fs ≡ blockForms b (Close ∷ later) → inBlock f ≡ true
-  unfolding Written blockForms inBlock
-  begins-in f done v e = let h : f ≡ Close = cc in ap inBlock h
-  begins-in f (skip r) v e = let h : f ≡ Skip = cc in ap inBlock h
-  begins-in f (call p r) v e = let h : f ≡ Call p = cc in ap inBlock h
-  begins-in f (hold l b r) v e = let h : f ≡ Hold l = cc in ap inBlock h
-  begins-in f (loop b r) v e = let h : f ≡ Loop = cc in ap inBlock h
-  begins-in f (either a b r) v e = let h : f ≡ Either = cc in ap inBlock h
-  begins-in f (end l r) v e = absurd v
+  pub statement-begins : (f : Form) → OneOf noStatement (tagOf the-type f) → (f ≡ Close → ⊥) → (b : Block) → Written C b → f ∷ fs ≡ blockForms b (Close ∷ later) → ⊥
+  unfolding Written blockForms
+  statement-begins f h n done v e = n (cc)
+  statement-begins f h n (skip r) v e = other-form noStatement f Skip h tt (cc)
+  statement-begins f h n (call p r) v e = other-form noStatement f (Call p) h tt (cc)
+  statement-begins f h n (hold l b r) v e = other-form noStatement f (Hold l) h tt (cc)
+  statement-begins f h n (loop b r) v e = other-form noStatement f Loop h tt (cc)
+  statement-begins f h n (either a b r) v e = other-form noStatement f Either h tt (cc)
+  statement-begins f h n (end l r) v e = absurd v
 
   pub close-only : (P : Block → Type 0) → (fs ≡ later → P done)
       → (b : Block) → Written C b → Close ∷ fs ≡ blockForms b (Close ∷ later) → P b

@@ -4,13 +4,12 @@ use native.Mathlib.Omega.{arith}
 use mathlib.Core.Bool.{Bool, true, false}
 use mathlib.Core.List.{List, []}
 use mathlib.Core.Path.{_≡_, sym, ap, _∙_}
-use lib.ListN.{length, take, drop, getD}
+use lib.ListN.{length, take, getD}
 use lib.Seq.{length-take-le}
 use Rattle.semantics.specs.Plan.{bodyIn}
 use Rattle.semantics.specs.Sizes.{sizeOf}
 use Rattle.semantics.proofs.Remainders.{body-below}
 use Rattle.semantics.proofs.Paths.{found, path-found}
-use Rattle.plan.specs.Table.{tableForms}
 use Rattle.paths.specs.declared.Stop.{Stop}
 use Rattle.paths.specs.Walks.{procsIn, outcomeOf, Walks, BlockWalked, Asked, PathWritten}
 use Rattle.paths.proofs.Walking.{one-deeper, size-deeper}
@@ -20,8 +19,8 @@ found-is true a b e = cc
 found-is false a b e = let z : _≡_ {A = ℕ} 0 1 = cc in absurd (omega arith)
 
 module _ {ws starts s s₁ : List ℕ} {procs p word : ℕ} {r : Stop} (a : Asked ws starts procs p word s)
-    (i : Walks ws (procs - 1) (tableForms (drop (getD starts p 0) ws)) (getD starts p 0) 0 word s 0 r s₁) where
-  proc-walked : (later : _) × BlockWalked ws (length (procsIn ws) - 1) 0 word s 0 (bodyIn (procsIn ws) p) later r s₁
+    (i : Walks ws (record { depth = procs - 1; mask = 0; word = word }) (getD starts p 0) s 0 (take 0 s) 0 r s₁) where
+  proc-walked : (later : _) × BlockWalked ws (record { depth = length (procsIn ws) - 1; mask = 0; word = word }) (take 0 s) 0 (bodyIn (procsIn ws) p) later r s₁
   unfolding sizeOf
   proc-walked =
       let here : p < length (procsIn ws) = rw (← a .count) (a .present) in

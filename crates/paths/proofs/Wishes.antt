@@ -1,11 +1,13 @@
 -- The block of a procedure begins with a hold just if the form at its place is one.
 use Prim.Native.Nat.{ℕ, _+_, _^_, _<_, _≤_}
 use native.Mathlib.Omega.{arith}
-use mathlib.Core.List.{List, _∷_}
-use mathlib.Core.Logic.{_⊎_, inl, inr}
+use mathlib.Core.List.{List, [], _∷_}
 use mathlib.Core.Path.{_≡_, refl, sym, _∙_}
+use denote.Enum.Declared.{tagOf}
 use lib.ListN.{length, drop, getD}
+use types.Run.{OneOf}
 use Rattle.text.specs.declared.Form.{Form}
+use Rattle.text.proofs.Form.{the-type}
 use Rattle.text.specs.declared.Form.the-variants.{Close, Hold}
 use Rattle.semantics.specs.Plan.{Block, done, skip, call, hold, loop, either, end, bodyIn}
 use Rattle.semantics.proofs.Remainders.{body-below}
@@ -15,7 +17,7 @@ use Rattle.plan.specs.Table.{formAt, tableForms}
 use Rattle.plan.specs.Settled.{tablePlan, PlanTable}
 use Rattle.paths.specs.Walks.{Within, Inside}
 use Rattle.paths.specs.Wishes.{WishAt}
-use Rattle.paths.proofs.Blocks.{none-begins, hold-only, table-more, table-none}
+use Rattle.paths.proofs.Blocks.{other-form, none-begins, hold-only, table-more, table-none}
 
 within : (ws : List ℕ) → PlanTable ws → (p : ℕ) → p < length (tablePlan ws .procs) → Inside ws (bodyIn (tablePlan ws .procs) p)
 within ws t p h = body-below (tablePlan ws .procs) (λ q. q) (t .settled .sound) (length (tablePlan ws .procs)) p (omega arith)
@@ -31,22 +33,6 @@ wish-none f fs later (loop b r) n e = refl
 wish-none f fs later (either a b r) n e = refl
 wish-none f fs later (end l r) n e = refl
 
--- the tag of a hold is none of the others
-abbrev SixIs : ℕ → Type 0
-SixIs k = 6 ≡ k
-
-pub other-tags : SixIs 0 ⊎ (SixIs 1 ⊎ (SixIs 2 ⊎ (SixIs 3 ⊎ (SixIs 4 ⊎ (SixIs 5 ⊎ (SixIs 7 ⊎ (SixIs 8 ⊎ (SixIs 9 ⊎ SixIs 10)))))))) → ⊥
-other-tags (inl e) = absurd (omega arith)
-other-tags (inr (inl e)) = absurd (omega arith)
-other-tags (inr (inr (inl e))) = absurd (omega arith)
-other-tags (inr (inr (inr (inl e)))) = absurd (omega arith)
-other-tags (inr (inr (inr (inr (inl e))))) = absurd (omega arith)
-other-tags (inr (inr (inr (inr (inr (inl e)))))) = absurd (omega arith)
-other-tags (inr (inr (inr (inr (inr (inr (inl e))))))) = absurd (omega arith)
-other-tags (inr (inr (inr (inr (inr (inr (inr (inl e)))))))) = absurd (omega arith)
-other-tags (inr (inr (inr (inr (inr (inr (inr (inr (inl e))))))))) = absurd (omega arith)
-other-tags (inr (inr (inr (inr (inr (inr (inr (inr (inr e))))))))) = absurd (omega arith)
-
 module _ (ws : List ℕ) (start : ℕ) where
   pub wish-ended : length ws ≤ start → WishAt ws start 0
   wish-ended h t p k st = absurd (none-begins (Within ws) (st .later) (st .later) _ (within ws t p k) (sym (table-none ws start h) ∙ st .written))
@@ -57,6 +43,8 @@ module _ (ws : List ℕ) (start : ℕ) where
       hold-only (Within ws) (st .later) (tableForms (drop (start + 1) ws)) l (λ b. r ≡ wishOf b) (λ b x c v v′ q. u .1 c)
       (bodyIn (tablePlan ws .procs) p) (within ws t p k) (let m = table-more ws start h in let w = st .written in cc)
 
-  pub wish-other : (f : Form) → start < length ws → f ≡ formAt (getD ws start 0) → ((l : ℕ) → f ≡ Hold l → ⊥) → WishAt ws start 0
+  pub wish-other : (f : Form) → start < length ws → f ≡ formAt (getD ws start 0) → OneOf (0 ∷ 1 ∷ 2 ∷ 3 ∷ 4 ∷ 5 ∷ 7 ∷ 8 ∷ 9 ∷ 10 ∷ []) (tagOf the-type f)
+      → WishAt ws start 0
   wish-other f h e n t p k st =
-      wish-none f (tableForms (drop (start + 1) ws)) (st .later) (bodyIn (tablePlan ws .procs) p) n (let m = table-more ws start h in let w = st .written in cc)
+      wish-none f (tableForms (drop (start + 1) ws)) (st .later) (bodyIn (tablePlan ws .procs) p)
+      (λ l. other-form (0 ∷ 1 ∷ 2 ∷ 3 ∷ 4 ∷ 5 ∷ 7 ∷ 8 ∷ 9 ∷ 10 ∷ []) f (Hold l) n tt) (let m = table-more ws start h in let w = st .written in cc)

@@ -15,6 +15,7 @@ use Rattle.plan.specs.Table.{tableForms}
 use Rattle.plan.specs.Settled.{tablePlan, PlanTable}
 use Rattle.plan.specs.Starts.{Starts}
 use Rattle.paths.specs.declared.Stop.{Stop}
+use Rattle.paths.specs.declared.Way.{Way}
 
 -- the procedures of a plan's table
 abbrev pub procsIn : List ℕ → List Block
@@ -31,12 +32,12 @@ Within ws q = q < length (procsIn ws)
 abbrev pub Inside : List ℕ → Block → Type 0
 Inside ws b = Written (Within ws) b
 
--- the size of a block, and its walk for the word w with the locks of m, where calls go less than d deep
-abbrev pub sizeIn : List ℕ → ℕ → Block → ℕ
-sizeIn ws d b = sizeWith (sizeAt d (procsIn ws)) b
+-- the size of a block, and its walk behind a path, as a way says: for its word, with the locks of its mask, where calls go less than its depth
+abbrev pub sizeIn : List ℕ → Way → Block → ℕ
+sizeIn ws way b = sizeWith (sizeAt (way .depth) (procsIn ws)) b
 
-abbrev pub walkIn : List ℕ → ℕ → ℕ → ℕ → List ℕ → Block → Walked
-walkIn ws d w m path b = walkWith (walkAt d (procsIn ws) w) w m path b
+abbrev pub walkIn : List ℕ → Way → List ℕ → Block → Walked
+walkIn ws way path b = walkWith (walkAt (way .depth) (procsIn ws) (way .word)) (way .word) (way .mask) path b
 
 -- A buffer that goes on from its first n entries to its first k: those n stay.
 pub record Kept (before : List ℕ) (n : ℕ) (after : List ℕ) (k : ℕ) : Type 0 where
@@ -52,10 +53,10 @@ pub record PutAt (before : List ℕ) (n e : ℕ) (k : ℕ) (after : List ℕ) : 
   pub put : n < length before → take k after ≡ take n before ++ (e ∷ [])
 
 -- what a walk asks: a plan's table with the places of its procedures, a mask of locks, and a place in the buffer
-pub record Ready (ws starts : List ℕ) (mask : ℕ) (steps : List ℕ) (n : ℕ) : Type 0 where
+pub record Ready (ws starts : List ℕ) (way : Way) (steps : List ℕ) (n : ℕ) : Type 0 where
   pub plan : PlanTable ws
   pub begins : Starts ws starts
-  pub locks : mask < 2 ^ 32
+  pub locks : way .mask < 2 ^ 32
   pub room : n ≤ length steps
 
 abbrev pub stopped : Bool → ℕ → ℕ → Stop
@@ -66,19 +67,46 @@ abbrev pub outcomeOf : Bool → List ℕ → Walked
 outcomeOf true path = found path
 outcomeOf false path = passed path
 
--- The walk of block b for the word w, with calls less than d deep, the locks of m held, and the first n entries as the path so far, stopped at r. Where it
--- passed the block, the forms behind it are those of `later`.
-pub record BlockWalked (ws : List ℕ) (d m w : ℕ) (before : List ℕ) (n : ℕ) (b : Block) (later : List Form) (r : Stop) (after : List ℕ) : Type 0 where
-  pub outcome : walkIn ws d w m (take n before) b ≡ outcomeOf (r .reached) (take (r .count) after)
-  pub next : r .reached ≡ false → formsFrom ws (r .next) ≡ later
-  pub short : r .count ≤ n + sizeIn ws d b
+-- ---- a block
 
--- The walk of the forms fs, which end in a table behind the place `at`: of the block that they begin with, if they do with one, and there is room for its size.
-pub record Walks (ws : List ℕ) (d : ℕ) (fs : List Form) (at m w : ℕ) (before : List ℕ) (n : ℕ) (r : Stop) (after : List ℕ) : Type 0 where
+-- The walk of block b behind a path of n steps stopped at r. Where it passed the block, the forms behind it are those of `later`.
+pub record BlockWalked (ws : List ℕ) (way : Way) (path : List ℕ) (n : ℕ) (b : Block) (later : List Form) (r : Stop) (after : List ℕ) : Type 0 where
+  pub outcome : walkIn ws way path b ≡ outcomeOf (r .reached) (take (r .count) after)
+  pub next : r .reached ≡ false → formsFrom ws (r .next) ≡ later
+  pub short : r .count ≤ n + sizeIn ws way b
+
+-- The walk of the forms from a place on, behind a path of k steps: of the block that they begin with, if they do with one, and there is room for its size. The first
+-- n entries of the buffer stay.
+pub record Walks (ws : List ℕ) (way : Way) (at : ℕ) (before : List ℕ) (n : ℕ) (path : List ℕ) (k : ℕ) (r : Stop) (after : List ℕ) : Type 0 where
   pub buffer : Kept before n after (r .count)
   pub forward : r .reached ≡ false → at ≤ r .next
-  pub walked : (b : Block) (later : List Form) → fs ≡ blockForms b (Close ∷ later) → Inside ws b
-      → n + sizeIn ws d b ≤ length before → BlockWalked ws d m w before n b later r after
+  pub walked : (b : Block) (later : List Form) → formsFrom ws at ≡ blockForms b (Close ∷ later) → Inside ws b
+      → k + sizeIn ws way b ≤ length before → BlockWalked ws way path k b later r after
+
+-- ---- a statement
+
+-- What is left of block b at place i, behind the first `count` entries: its walk is that of b behind the path of n steps.
+pub record Left (ws : List ℕ) (way : Way) (path : List ℕ) (n : ℕ) (b : Block) (later : List Form) (i count : ℕ) (after : List ℕ) : Type 0 where
+  pub rest : Block
+  pub forms : formsFrom ws i ≡ blockForms rest (Close ∷ later)
+  pub inside : Inside ws rest
+  pub same : walkIn ws way path b ≡ walkIn ws way (take count after) rest
+  pub short : count + sizeIn ws way rest ≤ n + sizeIn ws way b
+
+-- The walk of block b's first statement stopped at r: the hold was reached, or the rest of b is left.
+pub record StatementWalked (ws : List ℕ) (way : Way) (path : List ℕ) (n : ℕ) (b : Block) (later : List Form) (r : Stop) (after : List ℕ) : Type 0 where
+  pub reached : r .reached ≡ true → walkIn ws way path b ≡ found (take (r .count) after)
+  pub left : r .reached ≡ false → Left ws way path n b later (r .next) (r .count) after
+  pub short : r .count ≤ n + sizeIn ws way b
+
+-- The walk of the statement whose first form is f and whose other forms stand from a place on: of the block that begins with it, if one does.
+pub record Passes (ws : List ℕ) (way : Way) (f : Form) (at : ℕ) (before : List ℕ) (n : ℕ) (r : Stop) (after : List ℕ) : Type 0 where
+  pub buffer : Kept before n after (r .count)
+  pub forward : r .reached ≡ false → at ≤ r .next
+  pub walked : (b : Block) (later : List Form) → (f ≡ Close → ⊥) → f ∷ formsFrom ws at ≡ blockForms b (Close ∷ later) → Inside ws b
+      → n + sizeIn ws way b ≤ length before → StatementWalked ws way (take n before) n b later r after
+
+-- ---- the path
 
 -- what the path to a word asks: the word is one of the pairs of procedure p, whose size is within rule 9, and the buffer has room for it
 pub record Asked (ws starts : List ℕ) (procs p word : ℕ) (steps : List ℕ) : Type 0 where

@@ -1,12 +1,11 @@
 // The path to a critical pair: the walk of a procedure, with its steps written down as it goes.
 ghost use mathlib.Core.Path.{_≡_};
 ghost use mathlib.Core.Bool.{false};
-ghost use mathlib.Core.List.{_∷_};
 ghost use Prim.Native.Nat.{_+_, _*_, _^_, _<_, _≤_};
-ghost use lib.ListN.{length, getD};
-ghost use Rattle.text.specs.declared.Form.the-variants.{Close, Skip, Call, Hold, Loop, Either, One};
-ghost use Rattle.semantics.proofs.Paths.{stepOf, gives, holding};
-ghost use Rattle.paths.specs.Walks.{formsFrom, stopped, PutAt, Ready, Walks, Asked, PathWritten};
+ghost use lib.ListN.{length, getD, take};
+ghost use Rattle.text.specs.declared.Form.the-variants.{Call, Hold, Loop, Either};
+ghost use Rattle.semantics.proofs.Paths.{stepOf, gives, holding, put as putStep};
+ghost use Rattle.paths.specs.Walks.{stopped, PutAt, Ready, Walks, Passes, Asked, PathWritten};
 ghost use Rattle.paths.specs.Wishes.{WishAt};
 use text::Form;
 
@@ -15,6 +14,13 @@ pub struct Stop {
     pub reached: bool,
     pub next: usize,
     pub count: usize,
+}
+
+// How a walk goes: how deep calls may go, the locks that are held, and the word that is looked for.
+pub struct Way {
+    pub depth: usize,
+    pub mask: u64,
+    pub word: u64,
 }
 
 // The mask of one lock: none for a number that no lock has.
@@ -79,7 +85,7 @@ fn start_of(starts: &[u64], p: u16) -> usize
     0
 }
 
-// A walk that has passed its block.
+// A walk that goes on at a place.
 fn passed(next: usize, count: usize) -> Stop
     ensures { λ r. ⌜ r ≡ stopped false next count ⌝ }
 {
@@ -90,200 +96,173 @@ fn passed(next: usize, count: usize) -> Stop
     }
 }
 
-// The walk of the block at a place, up to the hold that gives the word, or to the block's end.
-fn walk(
+// The walk of the block at a place, along its statements, up to the hold that gives the word, or to the block's end.
+fn walk(table: &[u64], starts: &[u64], way: Way, at: usize, steps: &mut [u64], n: usize) -> Stop
+    requires { ⌜ Ready (now table) (now starts) way (now steps) n ⌝ }
+    ensures { λ r. ⌜ Walks (now (table .entry)) way at (now (steps .entry)) n (take n (now (steps .entry))) n r (now (steps .exit)) ⌝ }
+{
+    let mut i = at;
+    let mut count = n;
+    while i < table.len() {
+        let form = plan::form_at(table[i]);
+        i += 1;
+        if let Form::Close = form {
+            return passed(i, count);
+        }
+        let stop = walk_statement(table, starts, way, i, form, steps, count);
+        if stop.reached {
+            return stop;
+        }
+        i = stop.next;
+        count = stop.count;
+    }
+    passed(i, count)
+}
+
+// A step with this choice, and the walk of the block at a place behind it.
+fn enter(
     table: &[u64],
     starts: &[u64],
-    depth: usize,
+    way: Way,
     at: usize,
-    mask: u64,
-    word: u64,
+    choice: u64,
     steps: &mut [u64],
     n: usize,
 ) -> Stop
-    requires { ⌜ Ready (now table) (now starts) mask (now steps) n ⌝ }
-    ensures { λ r. ⌜ Walks (now (table .entry)) depth (formsFrom (now (table .entry)) at) at mask word (now (steps .entry)) n r (now (steps .exit)) ⌝ }
+    requires { ⌜ Ready (now table) (now starts) way (now steps) n × (choice < 4) ⌝ }
+    ensures { λ r. ⌜ Walks (now (table .entry)) way at (now (steps .entry)) n (putStep (take n (now (steps .entry))) choice (way .mask)) (n + 1) r (now (steps .exit)) ⌝ }
 {
-    if table.len() <= at {
-        return passed(at, n);
-    }
-    let form = plan::form_at(table[at]);
-    let next = at + 1;
+    let k = put(steps, n, choice, way.mask);
+    walk(table, starts, way, at, steps, k)
+}
+
+// One statement: that of a form, with its other forms from a place on.
+fn walk_statement(
+    table: &[u64],
+    starts: &[u64],
+    way: Way,
+    at: usize,
+    form: Form,
+    steps: &mut [u64],
+    n: usize,
+) -> Stop
+    requires { ⌜ Ready (now table) (now starts) way (now steps) n ⌝ }
+    ensures { λ r. ⌜ Passes (now (table .entry)) way form at (now (steps .entry)) n r (now (steps .exit)) ⌝ }
+{
     match form {
-        Form::Plan => passed(next, n),
-        Form::Proc => passed(next, n),
-        Form::Thread(_) => passed(next, n),
-        Form::Close => passed(next, n),
-        Form::Skip => walk_skip(table, starts, depth, next, mask, word, steps, n),
-        Form::Call(p) => walk_call(table, starts, depth, next, p, mask, word, steps, n),
-        Form::Hold(l) => walk_hold(table, starts, depth, next, l, mask, word, steps, n),
-        Form::Loop => walk_loop(table, starts, depth, next, mask, word, steps, n),
-        Form::Either => walk_either(table, starts, depth, next, mask, word, steps, n),
-        Form::One => passed(next, n),
-        Form::Two => passed(next, n),
+        Form::Skip => passed(at, put(steps, n, 0, way.mask)),
+        Form::Call(p) => walk_call(table, starts, way, at, p, steps, n),
+        Form::Hold(l) => walk_hold(table, starts, way, at, l, steps, n),
+        Form::Loop => walk_loop(table, starts, way, at, steps, n),
+        Form::Either => walk_either(table, starts, way, at, steps, n),
+        _ => passed(at, n),
     }
 }
 
-// A skip, and what follows it.
-fn walk_skip(
-    table: &[u64],
-    starts: &[u64],
-    depth: usize,
-    at: usize,
-    mask: u64,
-    word: u64,
-    steps: &mut [u64],
-    n: usize,
-) -> Stop
-    requires { ⌜ Ready (now table) (now starts) mask (now steps) n ⌝ }
-    ensures { λ r. ⌜ Walks (now (table .entry)) depth (Skip ∷ formsFrom (now (table .entry)) at) at mask word (now (steps .entry)) n r (now (steps .exit)) ⌝ }
-{
-    let k = put(steps, n, 0, mask);
-    walk(table, starts, depth, at, mask, word, steps, k)
-}
-
-// A call of procedure p, and what follows it.
+// A call of procedure p.
 fn walk_call(
     table: &[u64],
     starts: &[u64],
-    depth: usize,
+    way: Way,
     at: usize,
     p: u16,
-    mask: u64,
-    word: u64,
     steps: &mut [u64],
     n: usize,
 ) -> Stop
-    requires { ⌜ Ready (now table) (now starts) mask (now steps) n ⌝ }
-    ensures { λ r. ⌜ Walks (now (table .entry)) depth (Call p ∷ formsFrom (now (table .entry)) at) at mask word (now (steps .entry)) n r (now (steps .exit)) ⌝ }
+    requires { ⌜ Ready (now table) (now starts) way (now steps) n ⌝ }
+    ensures { λ r. ⌜ Passes (now (table .entry)) way (Call p) at (now (steps .entry)) n r (now (steps .exit)) ⌝ }
 {
-    let k = put(steps, n, 0, mask);
-    if depth == 0 {
-        return walk(table, starts, depth, at, mask, word, steps, k);
+    if way.depth == 0 {
+        return passed(at, put(steps, n, 0, way.mask));
     }
-    let inside = walk(
-        table,
-        starts,
-        depth - 1,
-        start_of(starts, p),
-        mask,
-        word,
-        steps,
-        k,
-    );
-    if inside.reached {
-        return inside;
+    let deeper = Way {
+        depth: way.depth - 1,
+        mask: way.mask,
+        word: way.word,
+    };
+    let inside = enter(table, starts, deeper, start_of(starts, p), 0, steps, n);
+    Stop {
+        reached: inside.reached,
+        next: at,
+        count: inside.count,
     }
-    walk(table, starts, depth, at, mask, word, steps, inside.count)
 }
 
-// A hold of l, unless it gives the word, and what follows it.
+// A hold of l, unless it gives the word.
 fn walk_hold(
     table: &[u64],
     starts: &[u64],
-    depth: usize,
+    way: Way,
     at: usize,
     l: u16,
-    mask: u64,
-    word: u64,
     steps: &mut [u64],
     n: usize,
 ) -> Stop
-    requires { ⌜ Ready (now table) (now starts) mask (now steps) n ⌝ }
-    ensures { λ r. ⌜ Walks (now (table .entry)) depth (Hold l ∷ formsFrom (now (table .entry)) at) at mask word (now (steps .entry)) n r (now (steps .exit)) ⌝ }
+    requires { ⌜ Ready (now table) (now starts) way (now steps) n ⌝ }
+    ensures { λ r. ⌜ Passes (now (table .entry)) way (Hold l) at (now (steps .entry)) n r (now (steps .exit)) ⌝ }
 {
-    if gives_word(mask, l, word) {
+    if gives_word(way.mask, l, way.word) {
         return Stop {
             reached: true,
             next: at,
             count: n,
         };
     }
-    let held = with_lock(mask, l);
-    let k = put(steps, n, 0, held);
-    let inside = walk(table, starts, depth, at, held, word, steps, k);
+    let held = Way {
+        depth: way.depth,
+        mask: with_lock(way.mask, l),
+        word: way.word,
+    };
+    let inside = enter(table, starts, held, at, 0, steps, n);
     if inside.reached {
         return inside;
     }
-    let j = put(steps, inside.count, 0, mask);
-    walk(table, starts, depth, inside.next, mask, word, steps, j)
+    let j = put(steps, inside.count, 0, way.mask);
+    passed(inside.next, j)
 }
 
-// A loop: its block, and then, from where it began, what follows it.
+// A loop: its block, and then it is left from where it began.
 fn walk_loop(
     table: &[u64],
     starts: &[u64],
-    depth: usize,
+    way: Way,
     at: usize,
-    mask: u64,
-    word: u64,
     steps: &mut [u64],
     n: usize,
 ) -> Stop
-    requires { ⌜ Ready (now table) (now starts) mask (now steps) n ⌝ }
-    ensures { λ r. ⌜ Walks (now (table .entry)) depth (Loop ∷ formsFrom (now (table .entry)) at) at mask word (now (steps .entry)) n r (now (steps .exit)) ⌝ }
+    requires { ⌜ Ready (now table) (now starts) way (now steps) n ⌝ }
+    ensures { λ r. ⌜ Passes (now (table .entry)) way Loop at (now (steps .entry)) n r (now (steps .exit)) ⌝ }
 {
-    let k = put(steps, n, 1, mask);
-    let inside = walk(table, starts, depth, at, mask, word, steps, k);
+    let inside = enter(table, starts, way, at, 1, steps, n);
     if inside.reached {
         return inside;
     }
-    let j = put(steps, n, 2, mask);
-    walk(table, starts, depth, inside.next, mask, word, steps, j)
+    let j = put(steps, n, 2, way.mask);
+    passed(inside.next, j)
 }
 
-// An either: the block of one, and then, from where it began, that of two and what follows.
+// An either: the block of one, and then, from where it began, that of two.
 fn walk_either(
     table: &[u64],
     starts: &[u64],
-    depth: usize,
+    way: Way,
     at: usize,
-    mask: u64,
-    word: u64,
     steps: &mut [u64],
     n: usize,
 ) -> Stop
-    requires { ⌜ Ready (now table) (now starts) mask (now steps) n ⌝ }
-    ensures { λ r. ⌜ Walks (now (table .entry)) depth (Either ∷ formsFrom (now (table .entry)) at) at mask word (now (steps .entry)) n r (now (steps .exit)) ⌝ }
+    requires { ⌜ Ready (now table) (now starts) way (now steps) n ⌝ }
+    ensures { λ r. ⌜ Passes (now (table .entry)) way Either at (now (steps .entry)) n r (now (steps .exit)) ⌝ }
 {
-    let k = put(steps, n, 1, mask);
-    let one = walk(table, starts, depth, after(table, at), mask, word, steps, k);
+    let one = enter(table, starts, way, after(table, at), 1, steps, n);
     if one.reached {
         return one;
     }
-    walk_two(table, starts, depth, one.next, mask, word, steps, n)
-}
-
-// The second block of an either, and what follows: as if the first were empty.
-fn walk_two(
-    table: &[u64],
-    starts: &[u64],
-    depth: usize,
-    at: usize,
-    mask: u64,
-    word: u64,
-    steps: &mut [u64],
-    n: usize,
-) -> Stop
-    requires { ⌜ Ready (now table) (now starts) mask (now steps) n ⌝ }
-    ensures { λ r. ⌜ Walks (now (table .entry)) depth (Either ∷ One ∷ Close ∷ formsFrom (now (table .entry)) at)
-        at mask word (now (steps .entry)) n r (now (steps .exit)) ⌝ }
-{
-    let k = put(steps, n, 2, mask);
-    let two = walk(table, starts, depth, after(table, at), mask, word, steps, k);
-    if two.reached {
-        return two;
+    let two = enter(table, starts, way, after(table, one.next), 2, steps, n);
+    Stop {
+        reached: two.reached,
+        next: after(table, two.next),
+        count: two.count,
     }
-    walk(
-        table,
-        starts,
-        depth,
-        after(table, two.next),
-        mask,
-        word,
-        steps,
-        two.count,
-    )
 }
 
 // The path to the hold of procedure p that gives the word, into the start of `steps`: each step is its choice plus 4 times the mask after it. What stands
@@ -300,7 +279,12 @@ pub fn path_to(
     ensures { λ r. ⌜ PathWritten (now (table .entry)) p word r (now (steps .exit)) ⌝ }
 {
     let start = starts[p] as usize;
-    let stop = walk(table, starts, procs - 1, start, 0, word, steps, 0);
+    let way = Way {
+        depth: procs - 1,
+        mask: 0,
+        word,
+    };
+    let stop = walk(table, starts, way, start, steps, 0);
     stop.count
 }
 

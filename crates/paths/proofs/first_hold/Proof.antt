@@ -1,6 +1,5 @@
 -- The form at the place is the first of the procedure's block.
-use native.Mathlib.Omega.{arith}
-use Rattle.paths.proofs.Wishes.{wish-ended, wish-hold, wish-other, other-tags}
+use Rattle.paths.proofs.Wishes.{wish-ended, wish-hold, wish-other}
 use borrow.Author.Needs.{needs}
 use Rattle.paths.proofs.first_hold.Statement.{statement}
 use Rattle.paths.proofs.first_hold.Tie as tie
@@ -21,7 +20,7 @@ enum-known-form : tie.Need-enum-known-form
 enum-known-form c = search needs
 
 returns-2 : tie.Need-returns-2
-returns-2 c = wish-other _ _ _ (omega arith) (c .before .form-at .ensures) (λ l e. other-tags (rw e at (c .match .keys2)))
+returns-2 c = search (wish-other, needs)
 
 mask-of-requires : tie.Need-mask-of-requires
 mask-of-requires c κs = search needs

@@ -10,8 +10,8 @@ mul-start c = search needs
 shared-slice-read-start : tie.Need-shared-slice-read-start
 shared-slice-read-start c = search needs
 
-sub-walk : tie.Need-sub-walk
-sub-walk c = search needs
+sub-t10 : tie.Need-sub-t10
+sub-t10 c = search needs
 
 walk-requires : tie.Need-walk-requires
 walk-requires c κs = search needs
@@ -25,4 +25,4 @@ returns c = search (path-written, needs)
 pub path-to-spec : {M : Type 1} → statement M
 path-to-spec =
     tie.close
-    (tie.spec mul-start shared-slice-read-start sub-walk walk-requires same-length returns)
+    (tie.spec mul-start shared-slice-read-start sub-t10 walk-requires same-length returns)
