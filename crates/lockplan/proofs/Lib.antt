@@ -1,5 +1,5 @@
--- The numbers of a refusal, and that an answer can be read back from its number; the pairs found and handed to the caller; the text of a procedure; the verdict, and that
--- it is exact.
+-- The numbers of a refusal, and that an answer can be read back from its number; the pairs found and handed to the caller; the text of a procedure; the verdict; the
+-- three demands.
 pub mod LineBounds
 pub mod ReadBack
 pub mod Found

@@ -13,6 +13,7 @@ use Rattle.text.specs.declared.Form.the-variants.{Plan, Proc, Thread, Close, Sk
 use Rattle.semantics.specs.Plan.{Block, done, skip, call, hold, loop, either, LockPlan, bodyIn, WellFormed}
 use Rattle.plan.specs.Grammar.{blockForms, procForms, threadForms, forms, Grammatical, planIn}
 use Rattle.plan.specs.Structure.{misplaced, misplacedLine}
+use Rattle.plan.specs.Places.{IsPlan}
 use Rattle.plan.proofs.Trees.{plan-of-forms}
 use Rattle.plan.proofs.States.{Bracket, statement, one, two}
 use Rattle.plan.proofs.States.{State, initial, first-proc, next-proc, next-thread, finished, in-block, needs-one, needs-two, ends-either}
@@ -186,12 +187,6 @@ accepted-rest (f ∷ fs) s line h =
     (λ (no-place : (line : ℕ) (fs : List Form) → misplacedFrom s line (f ∷ fs) ≡ some line).
     absurd (Option·some-ne-none line (sym (no-place line fs) ∙ h)))
     (step-or-refused s f)
-
--- forms that are those of a plan
-pub record IsPlan (fs : List Form) : Type 0 where
-  pub plan : LockPlan
-  pub grammatical : Grammatical plan
-  pub written : fs ≡ forms plan
 
 pub accepted-plan : (fs : List Form) → misplacedLine fs ≡ none → IsPlan fs
 unfolding misplacedLine Rest modeOf stackOf forms

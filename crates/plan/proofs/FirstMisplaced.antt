@@ -13,30 +13,14 @@ use lib.Dec.{eqb}
 use Rattle.laws.proofs.Tests.{lt-or-le}
 use Rattle.text.specs.declared.Form.{Form}
 use Rattle.plan.specs.Structure.{complete, misplaced, misplacedLine}
+use Rattle.plan.specs.Places.{IsPlan, Begins, NoPlace, EndsEarly}
 use Rattle.plan.proofs.States.{Bracket, statement, one, two}
 use Rattle.plan.proofs.States.{State, initial, first-proc, next-proc, next-thread, finished, in-block, needs-one, needs-two, ends-either}
 use Rattle.plan.proofs.States.{modeOf, stackOf, misplacedFrom, after-step, step-or-refused}
 use Rattle.plan.proofs.States.{Step, begins-plan, first, first-thread, ends-plan, skips}
 use Rattle.plan.proofs.States.{begins-one, begins-two, ends-proc, ends-statement, ends-one, ends-two, ends-choice}
 use Rattle.plan.proofs.Accepts.{Accepts, accepts-step}
-use Rattle.plan.proofs.Denotes.{IsPlan, accepted-plan, plan-accepted}
-
--- forms with which a plan begins
-abbrev pub Begins : List Form → Type 0
-Begins fs = (gs : List Form) × IsPlan (fs ++ gs)
-
--- "A line stands where the text's structure has no place for it (first such line)": with the lines before it a plan begins, with it none
-pub record NoPlace (fs : List Form) (n : ℕ) : Type 0 where
-  pub from-one : 1 ≤ n
-  pub present : n ≤ length fs
-  pub before : Begins (take (n - 1) fs)
-  pub with-it : Begins (take n fs) → ⊥
-
--- "or the text ends too early (one more than the last line)": a plan begins so, and the lines are none
-pub record EndsEarly (fs : List Form) (n : ℕ) : Type 0 where
-  pub line : n ≡ length fs + 1
-  pub begun : Begins fs
-  pub incomplete : IsPlan fs → ⊥
+use Rattle.plan.proofs.Denotes.{accepted-plan, plan-accepted}
 
 -- forms that lead to acceptance
 Completion : State → Type 0

@@ -1,0 +1,118 @@
+-- No rule refuses a text exactly when it is short and the written text of a plan that keeps what the rules say (`accepted-exactly`); then the plan is the one that is read
+-- (`accepted-plan`), and the listed words of its procedures are the critical ones of source 000 (`published-exactly`).
+use Prim.Native.Nat.{ℕ, _<_, _≤_}
+use mathlib.Core.List.{List, List·Memᴰ}
+use mathlib.Core.Logic.{_↔_}
+use mathlib.Core.Option.{none, orElse}
+use mathlib.Core.Path.{_≡_, sym, ap, subst, _∙_}
+use native.Mathlib.Omega.{arith}
+use lib.Dec.{ltb, leb}
+use lib.ListN.{length}
+use borrow.Author.Tests.{le-ltb, lt-leb, ltb-false, leb-false}
+use Rattle.laws.proofs.Tests.{first-none}
+use Rattle.text.specs.Lines.{formsOf, unreadableLine, IsText}
+use Rattle.text.proofs.Splits.{readable-written, text-written}
+use Rattle.semantics.specs.Plan.{LockPlan}
+use Rattle.semantics.specs.Sizes.{sizeOf}
+use Rattle.semantics.specs.Pairs.{pairList}
+use Rattle.semantics.specs.Language.{PublishedCritical}
+use Rattle.semantics.proofs.PairList.{pair-list-critical}
+use Rattle.semantics.proofs.CriticalLanguage.{critical-is-published}
+use Rattle.plan.specs.Grammar.{forms, planIn}
+use Rattle.plan.specs.Settled.{Settled}
+use Rattle.plan.specs.Rules.{refusedIf, tooLong, formsRefusal, readerRefusal, tooLarge, tooManyPairs, planOf, planRefusal, verdictRefusal, pairsRefusal}
+use Rattle.plan.proofs.Sound.{accepted-text}
+use Rattle.plan.proofs.Allowed.{rules-plan}
+use Rattle.demands.specs.Broken.{TooLarge, TooManyPairs, AcceptedText}
+use Rattle.demands.proofs.Lowest.{none-lowest, lowest-none}
+use Rattle.demands.proofs.Pairs.{many-pairs}
+use Rattle.demands.proofs.Refusals.{unflagged, below, read}
+
+not-above : (n : ℕ) → (1024 < n → ⊥) → n ≤ 1024
+not-above n h = omega arith
+
+module _ (text : List ℕ) where
+  accepted : planRefusal text ≡ none → AcceptedText text
+  unfolding planRefusal readerRefusal tooLong planOf tooLarge tooManyPairs
+  accepted e =
+      let fs = formsOf text in
+      let ps = planIn fs .procs in
+      let reader = first-none (readerRefusal text) (orElse (tooLarge fs) (tooManyPairs fs)) e in
+      let large = first-none (tooLarge fs) (tooManyPairs fs) (reader .1) in
+      let x = read text (reader .0) in
+      let written = accepted-text text (reader .0) in
+      record {
+        short = ltb-false 32768 (length text) (unflagged 2 (ltb 32768 (length text)) (first-none (tooLong text) _ (reader .0) .0));
+        plan = planOf text;
+        written = subst (IsText text) written (readable-written text (x .readable));
+        settled = x .settled;
+        sizes = λ p h. not-above (sizeOf ps p) (none-lowest fs written (λ p. ltb 1024 (sizeOf ps p)) TooLarge (λ p h. below 1024 (sizeOf ps p)) 9 (large .0) p h);
+        pairs = none-lowest fs written (λ p. ltb 128 (length (pairList ps p))) TooManyPairs (many-pairs ps (x .settled .sound)) 10 (large .1);
+      }
+
+  module _ (x : AcceptedText text) where
+    same-forms : (unreadableLine text ≡ none) × (formsOf text ≡ forms (x .plan))
+    same-forms = text-written text (forms (x .plan)) .1 (x .written)
+
+    kept-rules : (formsRefusal (formsOf text) ≡ none) × (planIn (formsOf text) ≡ x .plan)
+    kept-rules = rules-plan (formsOf text) (x .plan) .1 (x .settled, same-forms .1)
+
+    -- the plan is the one that is read
+    pub accepted-plan : planOf text ≡ x .plan
+    unfolding planOf
+    accepted-plan = kept-rules .1
+
+    unrefused : planRefusal text ≡ none
+    unfolding planRefusal readerRefusal tooLong tooLarge tooManyPairs orElse
+    unrefused =
+        let fs = formsOf text in
+        let ps = planIn fs .procs in
+        let same = kept-rules .1 in
+        let written : fs ≡ forms (planIn fs) = same-forms .1 ∙ ap forms (sym same) in
+        let settled : Settled (planIn fs) = subst Settled (sym same) (x .settled) in
+        let sizes : (p : ℕ) → p < length ps → sizeOf ps p ≤ 1024 =
+        subst (λ (q : LockPlan). (p : ℕ) → p < length (q .procs) → sizeOf (q .procs) p ≤ 1024) (sym same) (x .sizes) in
+        let pairs : (p : ℕ) → p < length ps → TooManyPairs ps p → ⊥ =
+        subst (λ (q : LockPlan). (p : ℕ) → p < length (q .procs) → TooManyPairs (q .procs) p → ⊥) (sym same) (x .pairs) in
+        rw (
+          le-ltb 32768 (length text) (x .short),
+          same-forms .0,
+          kept-rules .0,
+          lowest-none fs written (λ p. ltb 1024 (sizeOf ps p)) TooLarge (λ p h. below 1024 (sizeOf ps p)) 9 (λ p h k. omega (arith, sizes p h)),
+          lowest-none fs written (λ p. ltb 128 (length (pairList ps p))) TooManyPairs (many-pairs ps (settled .sound)) 10 pairs,
+        )
+
+    -- demand 2, of the listed words
+    pub published-exactly : (p : ℕ) → p < length (x .plan .procs) → (w : ℕ) → List·Memᴰ w (pairList (planOf text .procs) p) ↔ PublishedCritical (x .plan .procs) p w
+    published-exactly p h w =
+        let ps = x .plan .procs in
+        let listed = pair-list-critical ps (λ q. q) (x .settled .sound) p h w in
+        let published = critical-is-published ps (λ q. q) (x .settled .sound) p w in
+        rw accepted-plan (λ m. published .0 (listed .0 m), λ k. listed .1 (published .1 k))
+
+  pub accepted-exactly : (planRefusal text ≡ none) ↔ AcceptedText text
+  accepted-exactly = (accepted, unrefused)
+
+  -- with rule 1
+  pub verdict-accepted-exactly : (lent : ℕ) → (verdictRefusal text lent ≡ none) ↔ ((6144 ≤ lent) × AcceptedText text)
+  unfolding verdictRefusal orElse
+  verdict-accepted-exactly lent = (
+    λ e. let x = first-none (refusedIf 1 (ltb lent 6144)) (planRefusal text) e in (ltb-false lent 6144 (unflagged 1 (ltb lent 6144) (x .0)), accepted (x .1)),
+    λ x. rw (le-ltb lent 6144 (x .0)) (unrefused (x .1)),
+  )
+
+  -- with rules 1 and 11
+  pub pairs-accepted-exactly : (p lent : ℕ) → (pairsRefusal text p lent ≡ none) ↔ ((128 ≤ lent) × (x : AcceptedText text) × (p < length (x .plan .procs)))
+  unfolding pairsRefusal orElse
+  pairs-accepted-exactly p lent =
+      let absent = refusedIf 11 (leb (length (planOf text .procs)) p) in (
+        λ e.
+        let y = first-none (refusedIf 1 (ltb lent 128)) (orElse (planRefusal text) absent) e in
+        let z = first-none (planRefusal text) absent (y .1) in
+        let x = accepted (z .0) in (
+          ltb-false lent 128 (unflagged 1 (ltb lent 128) (y .0)),
+          x,
+          subst (λ (q : LockPlan). p < length (q .procs)) (accepted-plan x) (leb-false (length (planOf text .procs)) p (unflagged 11 _ (z .1))),
+        ),
+        λ y. rw (le-ltb lent 128 (y .0), unrefused (y .1), accepted-plan (y .1), lt-leb (length (y .1 .plan .procs)) p (y .2)),
+      )

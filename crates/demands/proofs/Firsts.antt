@@ -1,0 +1,29 @@
+-- The first number of which something holds: there is at most one, so a search that finds such a number names it (`names-scanned`).
+use Prim.Native.Nat.{ℕ, _<_, _≤_}
+use mathlib.Core.Bool.{Bool, true, false}
+use mathlib.Core.Logic.{_⊎_, ⊎-elim}
+use mathlib.Core.Option.{Option, none, some, Option·none-ne-some, Option·some-injective}
+use mathlib.Core.Path.{_≡_, ap, subst}
+use native.Mathlib.Omega.{arith}
+use Rattle.laws.proofs.Tests.{lt-or-le}
+use Rattle.demands.specs.Lines.{First}
+use Rattle.demands.proofs.Order.{Names}
+
+pub first-unique : (P : ℕ → Type 0) (m n : ℕ) → First P m → First P n → m ≡ n
+first-unique P m n x y =
+    ⊎-elim (λ (h : m < n). absurd (y .none-before m h (x .here)))
+    (λ (h : n ≤ m). ⊎-elim (λ (k : n < m). absurd (x .none-before n k (y .here))) (λ (k : m ≤ n). omega arith) (lt-or-le n m))
+    (lt-or-le m n)
+
+-- a test says whether P
+abbrev pub Decides : Bool → Type 0 → Type 0
+Decides b P = ((b ≡ true) × P) ⊎ ((b ≡ false) × (P → ⊥))
+
+-- what a search says by its answer: the first number of which P holds, or that there is none
+abbrev pub Scanned : (ℕ → Type 0) → Option ℕ → Type 0
+Scanned P none = (n : ℕ) → P n → ⊥
+Scanned P (some n) = First P n
+
+pub names-scanned : (o : Option ℕ) (P : ℕ → Type 0) → Scanned P o → Names o (First P)
+names-scanned none P s n = (λ e. absurd (Option·none-ne-some n e), λ f. absurd (s n (f .here)))
+names-scanned (some m) P s n = (λ e. subst (First P) (Option·some-injective m n e) s, λ f. ap {B = Option ℕ} some (first-unique P m n s f))

@@ -1,0 +1,45 @@
+-- Rule 10: a procedure has more than 128 different critical words exactly when its list has more than 128. An ascending list is no longer than one that has all its
+-- members (`ascends-length`).
+use Prim.Native.Nat.{ℕ, _<_, _≤_}
+use mathlib.Core.List.{List, [], _∷_, List·Memᴰ, List·Memᴰ·head, List·Memᴰ·tail, List·Memᴰ·not-nil, List·Memᴰ·cases-cons}
+use mathlib.Core.Logic.{inl, inr, ⊎-elim}
+use mathlib.Core.Path.{_≡_, refl}
+use native.Mathlib.Omega.{arith}
+use lib.Dec.{ltb}
+use lib.ListN.{length}
+use borrow.Author.Tests.{lt-ltb, le-ltb}
+use Rattle.laws.specs.Ascending.{Ascends}
+use Rattle.laws.proofs.Ascending.{least}
+use Rattle.laws.proofs.Tests.{lt-or-le}
+use Rattle.semantics.specs.Plan.{Block, Sound}
+use Rattle.semantics.specs.Pairs.{pairList}
+use Rattle.semantics.proofs.PairList.{pair-list-ascends, pair-list-critical}
+use Rattle.demands.specs.Broken.{TooManyPairs}
+use Rattle.demands.proofs.Firsts.{Decides}
+
+beyond : (y : ℕ) (ys : List ℕ) (v : ℕ) → y < v → List·Memᴰ v (y ∷ ys) → List·Memᴰ v ys
+beyond y ys v h m = ⊎-elim (λ (e : v ≡ y). absurd (omega arith)) (λ k. k) (List·Memᴰ·cases-cons m)
+
+ascends-length : (ys xs : List ℕ) → Ascends xs → Ascends ys → ((v : ℕ) → List·Memᴰ v xs → List·Memᴰ v ys) → length xs ≤ length ys
+unfolding Ascends
+ascends-length ys [] a b f = omega arith
+ascends-length [] (x ∷ xs) a b f = absurd (List·Memᴰ·not-nil (f x (List·Memᴰ·head refl)))
+ascends-length (y ∷ ys) (x ∷ xs) a b f =
+    ⊎-elim (λ (e : x ≡ y). omega (arith, ascends-length ys xs (a .1) (b .1) (λ v m. beyond y ys v (omega (arith, a .0 v m)) (f v (List·Memᴰ·tail m)))))
+    (λ (k : List·Memᴰ x ys).
+    omega (arith, ascends-length ys (x ∷ xs) a (b .1) (λ v m. beyond y ys v (omega (arith, b .0 x k, least x xs a v m)) (f v m))))
+    (List·Memᴰ·cases-cons (f x (List·Memᴰ·head refl)))
+
+pub many-pairs : (ps : List Block) → Sound ps (λ p. p) → (p : ℕ) → p < length ps → Decides (ltb 128 (length (pairList ps p))) (TooManyPairs ps p)
+many-pairs ps s p h =
+    let listed = pair-list-critical ps (λ q. q) s p h in
+    ⊎-elim
+    (λ (k : 128 < length (pairList ps p)). inl (
+      lt-ltb 128 (length (pairList ps p)) k,
+      record { words = pairList ps p; many = k; different = pair-list-ascends ps p; critical = λ w m. listed w .0 m },
+    ))
+    (λ (k : length (pairList ps p) ≤ 128). inr (
+      le-ltb 128 (length (pairList ps p)) k,
+      λ x. omega (arith, x .many, ascends-length (pairList ps p) (x .words) (x .different) (pair-list-ascends ps p) (λ v m. listed v .1 (x .critical v m))),
+    ))
+    (lt-or-le 128 (length (pairList ps p)))

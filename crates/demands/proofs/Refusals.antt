@@ -1,0 +1,181 @@
+-- The refusals are those by the first rule broken: the plan's (`refused-exactly`), the verdict's and the pair list's.
+use Prim.Native.Nat.{ℕ, _<_, _≤_}
+use mathlib.Core.Bool.{Bool, true, false, cond}
+use mathlib.Core.List.{List, [], _∷_, _++_}
+use mathlib.Core.Logic.{inl, inr, ⊎-elim, _↔_}
+use mathlib.Core.Option.{Option, none, some, Option·none-ne-some, Option·some-ne-none, Option·some-injective}
+use mathlib.Core.Path.{_≡_, refl, sym, ap, subst, _∙_}
+use native.Mathlib.Omega.{arith}
+use lib.Dec.{ltb, leb}
+use lib.ListN.{length}
+use borrow.Author.Tests.{lt-ltb, le-ltb, le-leb, lt-leb}
+use Rattle.laws.proofs.Tests.{lt-or-le, first-none}
+use Rattle.text.specs.declared.Form.{Form}
+use Rattle.text.specs.Lines.{refusal, formsOf, unreadableLine, IsText}
+use Rattle.text.proofs.Splits.{readable-written, text-written}
+use Rattle.semantics.specs.Plan.{Block, LockPlan}
+use Rattle.semantics.specs.Sizes.{sizeOf}
+use Rattle.semantics.specs.Pairs.{pairList}
+use Rattle.plan.specs.Grammar.{forms, planIn}
+use Rattle.plan.specs.Structure.{misplacedLine}
+use Rattle.plan.specs.Limits.{breakingLine}
+use Rattle.plan.specs.Settled.{Settled}
+use Rattle.plan.specs.Rules.{refusedAt, refusedIf, tooLong, formsRefusal, readerRefusal, lowestFrom, procRefusal, tooLarge, tooManyPairs, planOf, planRefusal, verdictRefusal, pairsRefusal}
+use Rattle.plan.proofs.Trees.{plan-of-forms}
+use Rattle.plan.proofs.Denotes.{accepted-denotes}
+use Rattle.plan.proofs.FirstMisplaced.{structure-first}
+use Rattle.plan.proofs.Kept.{kept}
+use Rattle.plan.proofs.Sound.{forms-settled}
+use Rattle.demands.specs.Lines.{First, LineWhere}
+use Rattle.demands.specs.Broken.{TooShort, TooLong, Unreadable, OfForms, FirstLine, Misplaced, PastLimit, HighLock, LateCall, AbsentProc, OfPlan, LowestProc, TooLarge, TooManyPairs, AbsentRequest}
+use Rattle.demands.specs.Broken.{Rule, rule, planRules, verdictRules, pairsRules, FirstBroken}
+use Rattle.demands.proofs.Order.{Names, RefusesBy, by-rule, then}
+use Rattle.demands.proofs.Firsts.{Decides}
+use Rattle.demands.proofs.Readable.{readable-names}
+use Rattle.demands.proofs.Limits.{limits-names, locks-names, calls-names, threads-names}
+use Rattle.demands.proofs.Lowest.{namedProc, proc-refusal, lowest-names}
+use Rattle.demands.proofs.Pairs.{many-pairs}
+
+pub no-line : (rule : ℕ) (o : Option ℕ) → refusedAt rule o ≡ none → o ≡ none
+no-line rule none h = refl
+no-line rule (some line) h = absurd (Option·some-ne-none (refusal rule line) h)
+
+pub unflagged : (rule : ℕ) (b : Bool) → refusedIf rule b ≡ none → b ≡ false
+unflagged rule true h = absurd (Option·some-ne-none (refusal rule 0) h)
+unflagged rule false h = refl
+
+-- a rule that names no line
+flag-names : (b : Bool) (P : Type 0) → Decides b P → Names (cond b (some 0) none) (λ n. P × (n ≡ 0))
+flag-names b P (inl x) n = rw (x .0) (λ e. (x .1, sym (Option·some-injective 0 n e)), λ y. ap {B = Option ℕ} some (sym (y .1)))
+flag-names b P (inr x) n = rw (x .0) (λ e. absurd (Option·none-ne-some n e), λ y. absurd (x .1 (y .0)))
+
+by-flag : (q : Rule) (b : Bool) → Names (cond b (some 0) none) (q .broken) → RefusesBy (q ∷ []) (refusedIf (q .number) b)
+by-flag q true h = by-rule q (some 0) h
+by-flag q false h = by-rule q none h
+
+pub below : (m n : ℕ) → Decides (ltb m n) (m < n)
+below m n = ⊎-elim (λ (h : m < n). inl (lt-ltb m n h, h)) (λ (h : n ≤ m). inr (le-ltb m n h, λ k. omega arith)) (lt-or-le m n)
+
+at-most : (m n : ℕ) → Decides (leb m n) (m ≤ n)
+at-most m n = ⊎-elim (λ (h : n < m). inr (lt-leb m n h, λ k. omega arith)) (λ (h : m ≤ n). inl (le-leb m n h, h)) (lt-or-le n m)
+
+-- ---- rule by rule
+
+rule-1 : (needed lent : ℕ) → RefusesBy (rule 1 (TooShort needed lent) ∷ []) (refusedIf 1 (ltb lent needed))
+rule-1 needed lent = by-flag (rule 1 (TooShort needed lent)) (ltb lent needed) (flag-names (ltb lent needed) (lent < needed) (below lent needed))
+
+module _ (text : List ℕ) where
+  rule-2 : RefusesBy (rule 2 (TooLong text) ∷ []) (tooLong text)
+  unfolding tooLong
+  rule-2 = let b = ltb 32768 (length text) in by-flag (rule 2 (TooLong text)) b (flag-names b (32768 < length text) (below 32768 (length text)))
+
+  rule-3 : RefusesBy (rule 3 (First (Unreadable text)) ∷ []) (refusedAt 3 (unreadableLine text))
+  rule-3 = by-rule (rule 3 (First (Unreadable text))) (unreadableLine text) (readable-names text)
+
+  -- the forms that the text is written of are those that are read
+  module _ (readable : unreadableLine text ≡ none) where
+    same-forms : (fs : List Form) → IsText text fs → formsOf text ≡ fs
+    same-forms fs w = text-written text fs .1 w .1
+
+    of-forms : (number : ℕ) (P : List Form → ℕ → Type 0) (o : Option ℕ) → Names o (P (formsOf text))
+        → RefusesBy (rule number (OfForms P text) ∷ []) (refusedAt number o)
+    of-forms number P o h = by-rule (rule number (OfForms P text)) o (λ n. (
+      λ e. record { forms = formsOf text; written = readable-written text readable; broken = h n .0 e },
+      λ x. h n .1 (subst (λ fs. P fs n) (sym (same-forms (x .forms) (x .written))) (x .broken)),
+    ))
+
+    rule-4 : RefusesBy (rule 4 (OfForms Misplaced text) ∷ []) (refusedAt 4 (misplacedLine (formsOf text)))
+    rule-4 = of-forms 4 Misplaced (misplacedLine (formsOf text)) (structure-first (formsOf text))
+
+    -- of rules 5 to 8
+    by-line : (number : ℕ) (P : List Form → List Form → Form → Type 0) → Names (breakingLine number (formsOf text)) (First (LineWhere (P (formsOf text)) (formsOf text)))
+        → RefusesBy (rule number (FirstLine P text) ∷ []) (refusedAt number (breakingLine number (formsOf text)))
+    by-line number P h = of-forms number (λ fs. First (LineWhere (P fs) fs)) (breakingLine number (formsOf text)) h
+
+  -- what the reader's rules settle
+  pub record Read : Type 0 where
+    pub readable : unreadableLine text ≡ none
+    pub structured : misplacedLine (formsOf text) ≡ none
+    pub settled : Settled (planIn (formsOf text))
+
+  pub read : readerRefusal text ≡ none → Read
+  unfolding readerRefusal
+  read e =
+      let x = first-none (refusedAt 3 (unreadableLine text)) (formsRefusal (formsOf text)) (first-none (tooLong text) _ e .1) in
+      record { readable = no-line 3 (unreadableLine text) (x .0); structured = kept (formsOf text) (x .1) .0; settled = forms-settled (formsOf text) (x .1) }
+
+  -- the plan that the text is written of is the one that is read
+  module _ (x : Read) where
+    plan : LockPlan
+    plan = planIn (formsOf text)
+
+    of-plan : (P : LockPlan → ℕ → Type 0) (o : Option ℕ) → Names o (P plan) → Names o (OfPlan P text)
+    unfolding plan
+    of-plan P o h n =
+        let d = accepted-denotes (formsOf text) (x .structured) in (
+          λ e. record { plan = plan; grammatical = d .0; written = subst (IsText text) (d .1) (readable-written text (x .readable)); broken = h n .0 e },
+          λ y.
+          let same : plan ≡ y .plan = ap planIn (same-forms (x .readable) (forms (y .plan)) (y .written)) ∙ plan-of-forms (y .plan) (y .grammatical) in
+          h n .1 (subst (λ q. P q n) (sym same) (y .broken)),
+        )
+
+    by-proc : (number : ℕ) (P : List Block → ℕ → Type 0) (test : ℕ → Bool) → ((p : ℕ) → p < length (plan .procs) → Decides (test p) (P (plan .procs) p))
+        → RefusesBy (rule number (OfPlan (LowestProc P) text) ∷ []) (procRefusal number (formsOf text) test)
+    unfolding plan
+    by-proc number P test decide =
+        let fs = formsOf text in
+        let o = namedProc fs (lowestFrom test 0 (length (plan .procs))) in
+        rw proc-refusal
+        (by-rule (rule number (OfPlan (LowestProc P) text)) o (of-plan (LowestProc P) o (lowest-names fs (accepted-denotes fs (x .structured) .1) test P decide)))
+
+    rule-9 : RefusesBy (rule 9 (OfPlan (LowestProc TooLarge) text) ∷ []) (tooLarge (formsOf text))
+    unfolding tooLarge plan
+    rule-9 = by-proc 9 TooLarge (λ p. ltb 1024 (sizeOf (plan .procs) p)) (λ p h. below 1024 (sizeOf (plan .procs) p))
+
+    rule-10 : RefusesBy (rule 10 (OfPlan (LowestProc TooManyPairs) text) ∷ []) (tooManyPairs (formsOf text))
+    unfolding tooManyPairs plan
+    rule-10 = by-proc 10 TooManyPairs (λ p. ltb 128 (length (pairList (plan .procs) p))) (many-pairs (plan .procs) (x .settled .sound))
+
+    rule-11 : (p : ℕ) → RefusesBy (rule 11 (OfPlan (AbsentRequest p) text) ∷ []) (refusedIf 11 (leb (length (planOf text .procs)) p))
+    unfolding planOf plan
+    rule-11 p =
+        let n = length (plan .procs) in
+        by-flag (rule 11 (OfPlan (AbsentRequest p) text)) (leb n p)
+        (of-plan (AbsentRequest p) (cond (leb n p) (some 0) none) (flag-names (leb n p) (n ≤ p) (at-most n p)))
+
+-- ---- the rules, one after the other
+
+module _ (text : List ℕ) where
+  pub plan-refuses : RefusesBy (planRules text) (planRefusal text)
+  unfolding planRules planRefusal readerRefusal formsRefusal
+  plan-refuses =
+      let fs = formsOf text in
+      then
+      (then (rule-2 text)
+      (λ _. then (rule-3 text)
+      (λ e. let readable = no-line 3 (unreadableLine text) e in then (rule-4 text readable)
+      (λ e. let structured = no-line 4 (misplacedLine fs) e in then (by-line text readable 5 (λ fs before f. PastLimit (before ++ f ∷ [])) (limits-names fs structured))
+      (λ _. then (by-line text readable 6 (λ fs before f. HighLock f) (locks-names fs structured))
+      (λ _. then (by-line text readable 7 (λ fs before f. LateCall before f) (calls-names fs structured))
+      (λ _. by-line text readable 8 (λ fs before f. AbsentProc fs f) (threads-names fs structured))))))))
+      (λ e. let x = read text e in then (rule-9 text x)
+      (λ _. rule-10 text x))
+
+  pub verdict-refuses : (lent : ℕ) → RefusesBy (verdictRules text lent) (verdictRefusal text lent)
+  unfolding verdictRules verdictRefusal
+  verdict-refuses lent = then (rule-1 6144 lent) (λ _. plan-refuses)
+
+  pub pairs-refuses : (p lent : ℕ) → RefusesBy (pairsRules text p lent) (pairsRefusal text p lent)
+  unfolding pairsRules pairsRefusal planRefusal
+  pairs-refuses p lent = then (rule-1 128 lent) (λ _. then plan-refuses (λ e. rule-11 text (read text (first-none (readerRefusal text) _ e .0)) p))
+
+-- (r, l) is the refusal exactly when rule r is the first one broken, at line l
+module _ (text : List ℕ) (r l : ℕ) where
+  pub refused-exactly : (planRefusal text ≡ some (refusal r l)) ↔ FirstBroken (planRules text) r l
+  refused-exactly = plan-refuses text .refused r l
+
+  pub verdict-refused-exactly : (lent : ℕ) → (verdictRefusal text lent ≡ some (refusal r l)) ↔ FirstBroken (verdictRules text lent) r l
+  verdict-refused-exactly lent = verdict-refuses text lent .refused r l
+
+  pub pairs-refused-exactly : (p lent : ℕ) → (pairsRefusal text p lent ≡ some (refusal r l)) ↔ FirstBroken (pairsRules text p lent) r l
+  pairs-refused-exactly p lent = pairs-refuses text p lent .refused r l

@@ -1,0 +1,184 @@
+-- What it means that a text breaks a rule, and at which line: said of the text, and of the forms or the plan that it is the written text of. A text keeps all rules
+-- exactly when no call refuses its plan (theorem `accepted-exactly`), and (r, l) is the refusal exactly when rule r is the first one broken, at line l
+-- (`refused-exactly`). 01, "Rules, in checking order".
+use Prim.Native.Nat.{ℕ, _+_, _-_, _<_, _≤_}
+use mathlib.Core.List.{List, [], _∷_, _++_, List·Memᴰ}
+use mathlib.Core.Logic.{_⊎_}
+use mathlib.Core.Path.{_≡_}
+use lib.ListN.{length, getD}
+use Rattle.laws.specs.Ascending.{Ascends}
+use Rattle.text.specs.declared.Form.{Form}
+use Rattle.text.specs.declared.Form.the-variants.{Proc, Thread, Call, Hold}
+use Rattle.text.specs.Forms.{IsForm}
+use Rattle.text.specs.Lines.{split, IsText}
+use Rattle.semantics.specs.Plan.{Block, LockPlan}
+use Rattle.semantics.specs.Sizes.{sizeOf}
+use Rattle.semantics.specs.Pairs.{Critical}
+use Rattle.plan.specs.Grammar.{forms, Grammatical}
+use Rattle.plan.specs.Places.{NoPlace, EndsEarly}
+use Rattle.plan.specs.Settled.{Settled}
+use Rattle.demands.specs.Lines.{First, LineWhere, count, isProc, isThread, isStatement, isBracket, isClose}
+
+-- ---- of the lent buffer and the bytes
+
+-- 1: "The lent buffer is shorter than 6,144 entries for a schedule or 128 words for pairs (line 0)."
+abbrev pub TooShort : ℕ → ℕ → ℕ → Type 0
+TooShort needed lent n = (lent < needed) × (n ≡ 0)
+
+-- 2: "The text has more than 32,768 bytes (line 0)."
+abbrev pub TooLong : List ℕ → ℕ → Type 0
+TooLong text n = (32768 < length text) × (n ≡ 0)
+
+-- ---- of the lines
+
+-- 3: "Some line is none of the forms above"
+pub record NoForm (text : List ℕ) (n : ℕ) : Type 0 where
+  pub from-one : 1 ≤ n
+  pub present : n ≤ length (split text .ended)
+  pub unknown : (f : Form) → IsForm (getD (split text .ended) (n - 1) []) f → ⊥
+
+-- "or the last is not ended"
+pub record NotEnded (text : List ℕ) (n : ℕ) : Type 0 where
+  pub last : n ≡ length (split text .ended) + 1
+  pub bytes : 0 < length (split text .tail)
+
+abbrev pub Unreadable : List ℕ → ℕ → Type 0
+Unreadable text n = NoForm text n ⊎ NotEnded text n
+
+-- ---- of the forms
+
+-- P, of the forms that the text is written of, and a line
+pub record OfForms (P : List Form → ℕ → Type 0) (text : List ℕ) (n : ℕ) : Type 0 where
+  pub forms : List Form
+  pub written : IsText text forms
+  pub broken : P forms n
+
+-- "first such line", of the forms that the text is written of: P says something of all of them, of those before the line, and of the line's own
+abbrev pub FirstLine : (List Form → List Form → Form → Type 0) → List ℕ → ℕ → Type 0
+FirstLine P text n = OfForms (λ fs. First (LineWhere (P fs) fs)) text n
+
+-- 4: "A line stands where the text's structure has no place for it (first such line), or the text ends too early (one more than the last line)."
+abbrev pub Misplaced : List Form → ℕ → Type 0
+Misplaced fs n = NoPlace fs n ⊎ EndsEarly fs n
+
+-- "16 brackets of hold, loop, either, one and two open together in a procedure": of those opened behind the last `(proc`, more than 16 are not closed again
+pub record TooDeep (fs : List Form) : Type 0 where
+  pub earlier : List Form
+  pub inside : List Form
+  pub split : fs ≡ earlier ++ Proc ∷ inside
+  pub last : count isProc inside ≡ 0
+  pub unclosed : count isClose inside + 16 < count isBracket inside
+
+-- 5: "There are more than 64 procedures, 1,024 statements, 6 threads, or 16 brackets .. (first line past a limit)", among the forms up to a line
+pub data PastLimit (fs : List Form) : Type 0 where
+  procedures : 64 < count isProc fs → PastLimit fs
+  statements : 1024 < count isStatement fs → PastLimit fs
+  threads : 6 < count isThread fs → PastLimit fs
+  brackets : TooDeep fs → PastLimit fs
+
+-- 6: "A hold names a lock above 31 (first such line)."
+pub record HighLock (f : Form) : Type 0 where
+  pub lock : ℕ
+  pub hold : f ≡ Hold lock
+  pub above : 31 < lock
+
+-- 7: "A call names a procedure whose number is not smaller than the caller's own (first such line)." The caller is the last procedure begun, "numbered from 0"
+pub record LateCall (before : List Form) (f : Form) : Type 0 where
+  pub callee : ℕ
+  pub caller : ℕ
+  pub call : f ≡ Call callee
+  pub last-begun : count isProc before ≡ caller + 1
+  pub not-smaller : caller ≤ callee
+
+-- 8: "A thread names a procedure that is not there (first such line)."
+pub record AbsentProc (fs : List Form) (f : Form) : Type 0 where
+  pub proc : ℕ
+  pub thread : f ≡ Thread proc
+  pub absent : count isProc fs ≤ proc
+
+-- ---- of the plan
+
+-- P, of the plan that the text is written of, and a line
+pub record OfPlan (P : LockPlan → ℕ → Type 0) (text : List ℕ) (n : ℕ) : Type 0 where
+  pub plan : LockPlan
+  pub grammatical : Grammatical plan
+  pub written : IsText text (forms plan)
+  pub broken : P plan n
+
+-- the `(proc` line of procedure p: "Procedures are numbered from 0 in text order"
+abbrev pub BeginsProc : ℕ → List Form → Form → Type 0
+BeginsProc p before f = (f ≡ Proc) × (count isProc before ≡ p)
+
+-- "`(proc` line of the lowest such", of the procedures of which P holds
+pub record LowestProc (P : List Block → ℕ → Type 0) (plan : LockPlan) (n : ℕ) : Type 0 where
+  pub proc : ℕ
+  pub present : proc < length (plan .procs)
+  pub lowest : First (P (plan .procs)) proc
+  pub line : LineWhere (BeginsProc proc) (forms plan) n
+
+-- 9: "Some procedure's size exceeds 1,024"
+abbrev pub TooLarge : List Block → ℕ → Type 0
+TooLarge ps p = 1024 < sizeOf ps p
+
+-- 10: "Some procedure has more than 128 critical pairs": more than 128 different words of critical pairs
+pub record TooManyPairs (ps : List Block) (p : ℕ) : Type 0 where
+  pub words : List ℕ
+  pub many : 128 < length words
+  pub different : Ascends words
+  pub critical : (w : ℕ) → List·Memᴰ w words → Critical ps p w
+
+-- 11: "The pairs of a procedure that is not there are requested (line 0)."
+abbrev pub AbsentRequest : ℕ → LockPlan → ℕ → Type 0
+AbsentRequest p plan n = (length (plan .procs) ≤ p) × (n ≡ 0)
+
+-- ---- the rules in checking order
+
+-- a rule: its number, and that it is broken at a line
+pub record Rule : Type 1 where
+  pub number : ℕ
+  pub broken : ℕ → Type 0
+
+abbrev pub rule : ℕ → (ℕ → Type 0) → Rule
+rule n broken = record { number = n; broken = broken }
+
+-- the plan's rules
+unfoldable pub planRules : List ℕ → List Rule
+planRules text =
+    rule 2 (TooLong text) ∷
+    rule 3 (First (Unreadable text)) ∷
+    rule 4 (OfForms Misplaced text) ∷
+    rule 5 (FirstLine (λ fs before f. PastLimit (before ++ f ∷ [])) text) ∷
+    rule 6 (FirstLine (λ fs before f. HighLock f) text) ∷
+    rule 7 (FirstLine (λ fs before f. LateCall before f) text) ∷
+    rule 8 (FirstLine (λ fs before f. AbsentProc fs f) text) ∷
+    rule 9 (OfPlan (LowestProc TooLarge) text) ∷
+    rule 10 (OfPlan (LowestProc TooManyPairs) text) ∷
+    []
+
+-- the verdict's, where so many entries are lent
+unfoldable pub verdictRules : List ℕ → ℕ → List Rule
+verdictRules text lent = rule 1 (TooShort 6144 lent) ∷ planRules text
+
+-- the pair list's, of procedure p, where so many words are lent
+unfoldable pub pairsRules : List ℕ → ℕ → ℕ → List Rule
+pairsRules text p lent = rule 1 (TooShort 128 lent) ∷ (planRules text ++ rule 11 (OfPlan (AbsentRequest p) text) ∷ [])
+
+-- a rule that no line breaks
+abbrev pub Unbroken : Rule → Type 0
+Unbroken q = (n : ℕ) → q .broken n → ⊥
+
+-- "Each rule is tested over the whole text before the next": the rule r is broken at line l, and none before it is broken
+unfoldable pub FirstBroken : List Rule → ℕ → ℕ → Type 0
+FirstBroken [] r l = ⊥
+FirstBroken (q ∷ qs) r l = ((q .number ≡ r) × q .broken l) ⊎ (Unbroken q × FirstBroken qs r l)
+
+-- ---- a text that keeps the rules
+
+-- The text is short and the written text of a plan that keeps what the rules say: `Settled` has those of 4 to 8, then 9 and 10.
+pub record AcceptedText (text : List ℕ) : Type 0 where
+  pub short : length text ≤ 32768
+  pub plan : LockPlan
+  pub written : IsText text (forms plan)
+  pub settled : Settled plan
+  pub sizes : (p : ℕ) → p < length (plan .procs) → sizeOf (plan .procs) p ≤ 1024
+  pub pairs : (p : ℕ) → p < length (plan .procs) → TooManyPairs (plan .procs) p → ⊥

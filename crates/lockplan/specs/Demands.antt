@@ -1,0 +1,84 @@
+-- The three demands, of a call's answer and of what it leaves in the lent buffer: said of the text, of its plan, and of all runs of the plan's gateway. Each is a
+-- theorem, `demand-1`, `demand-2` and `demand-3`, about whatever the promises of the calls let them answer; of a call for C it is about the answer that its number carries.
+use Prim.Native.Nat.{ℕ, _/_, _<_, _≤_}
+use mathlib.Core.Bool.{Bool}
+use mathlib.Core.List.{List, List·Memᴰ}
+use mathlib.Core.Logic.{_↔_}
+use mathlib.Core.Option.{some}
+use mathlib.Core.Path.{_≡_}
+use lib.ListN.{length}
+use Rattle.laws.specs.Mask.{inMask}
+use Rattle.laws.specs.Ascending.{Ascends}
+use Rattle.text.specs.declared.Refusal.{Refusal}
+use Rattle.text.specs.Lines.{refusal}
+use Rattle.semantics.specs.Plan.{Block, LockPlan}
+use Rattle.semantics.specs.Run.{ThreadState, run, start}
+use Rattle.semantics.specs.Stuck.{Stuck, DeadlockFree, Schedule}
+use Rattle.semantics.specs.Language.{PublishedCritical}
+use Rattle.buffers.specs.LittleEndian.{listBytes}
+use Rattle.demands.specs.Broken.{Rule, FirstBroken, verdictRules, pairsRules, AcceptedText}
+use Rattle.lockplan.specs.declared.Verdict.{Verdict}
+use Rattle.lockplan.specs.declared.Verdict.the-variants.{Free, Deadlock, Refused}
+use Rattle.lockplan.specs.declared.Listing.{Listing}
+use Rattle.lockplan.specs.declared.Listing.the-variants.{Pairs}
+use Rattle.lockplan.specs.declared.Listing.the-variants as listing
+use Rattle.lockplan.specs.Answers.{filled, readListing, readVerdict}
+use Rattle.lockplan.specs.Promises.{Listed, ListedBytes}
+use Rattle.lockplan.specs.Judgement.{Judged, JudgedBytes}
+
+-- the answer is a refusal exactly by the first rule broken, in checking order, and by its line; it is none exactly where the rules are kept; a refusal writes nothing.
+-- `Refuses x` says that the answer is the refusal x, `Kept` that the rules are kept
+pub record RefusesExactly (rules : List Rule) (Kept : Type 0) (Refuses : Refusal → Type 0) (before after : List ℕ) : Type 0 where
+  pub first-broken : (r l : ℕ) → Refuses (refusal r l) ↔ FirstBroken rules r l
+  pub accepted : ((x : Refusal) → Refuses x → ⊥) ↔ Kept
+  pub nothing-written : (x : Refusal) → Refuses x → after ≡ before
+
+-- of the verdict, where so many entries are lent
+abbrev pub VerdictRefuses : List ℕ → ℕ → Verdict → List ℕ → List ℕ → Type 0
+VerdictRefuses text lent v before after = RefusesExactly (verdictRules text lent) ((6144 ≤ lent) × AcceptedText text) (λ x. v ≡ Refused x) before after
+
+-- of the pair list of procedure p, where so many words are lent
+abbrev pub PairsRefuse : List ℕ → ℕ → ℕ → Listing → List ℕ → List ℕ → Type 0
+PairsRefuse text p lent r before after =
+    RefusesExactly (pairsRules text p lent) ((128 ≤ lent) × (x : AcceptedText text) × (p < length (x .plan .procs))) (λ x. r ≡ listing.Refused x) before after
+
+-- Demand 1: each text that keeps the rules is accepted, and each other is refused with the number of the first rule broken and its line, and nothing is written.
+pub record Demand1 (text before after : List ℕ) : Type 0 where
+  pub judge : (v : Verdict) → Judged text before v after → VerdictRefuses text (length before) v before after
+  pub lockplan-verdict : (n : ℕ) → JudgedBytes text before n after → VerdictRefuses text (length before / 2) (readVerdict n) before after
+  pub pair-list : (p : ℕ) (r : Listing) → Listed text p before r after → PairsRefuse text p (length before) r before after
+  pub lockplan-pairs : (p n : ℕ) → ListedBytes text p before n after → PairsRefuse text p (length before / 8) (readListing n) before after
+
+-- so many words are listed, ascending without repeats, and a word is listed exactly when it is that of a critical pair of procedure p by source 000's Definition 4.1
+pub record ListsExactly (ps : List Block) (p : ℕ) (r : Listing) (words : List ℕ) : Type 0 where
+  pub number : r ≡ Pairs (length words)
+  pub exact : (w : ℕ) → List·Memᴰ w words ↔ PublishedCritical ps p w
+  pub ascending : Ascends words
+
+-- Demand 2: for each procedure of an accepted text the listed pairs are exactly its critical pairs, none missing and none added; their words fill the buffer's start.
+pub record Demand2 (text before after : List ℕ) : Type 0 where
+  pub pair-list : (p : ℕ) (r : Listing) → Listed text p before r after → (x : AcceptedText text) → p < length (x .plan .procs) → 128 ≤ length before
+      → (words : List ℕ) × ListsExactly (x .plan .procs) p r words × (after ≡ filled words before)
+  pub lockplan-pairs : (p n : ℕ) → ListedBytes text p before n after → (x : AcceptedText text) → p < length (x .plan .procs) → 128 ≤ length before / 8
+      → (words : List ℕ) × ListsExactly (x .plan .procs) p (readListing n) words × (after ≡ filled (listBytes 8 words) before)
+
+-- some run of the plan's gateway reaches a stuck set
+pub record StuckReached (plan : LockPlan) : Type 0 where
+  pub entries : List ℕ
+  pub there : List ThreadState
+  pub set : ℕ → Bool
+  pub reached : run (plan .procs) (start (plan .procs) (plan .threads)) entries ≡ some there
+  pub stuck : Stuck (plan .procs) there set
+
+-- the verdict is free exactly when no run reaches a stuck set, and deadlock exactly when some run does, then with a schedule and the largest stuck set at its end
+pub record JudgesExactly (plan : LockPlan) (v : Verdict) (schedule : List ℕ) : Type 0 where
+  pub free : (v ≡ Free) ↔ DeadlockFree (plan .procs) (plan .threads)
+  pub deadlock : ((n : ℕ) × (S : ℕ) × (v ≡ Deadlock n S)) ↔ StuckReached plan
+  pub scheduled : (n S : ℕ) → v ≡ Deadlock n S → (length schedule ≡ n) × Schedule plan schedule (inMask S)
+
+-- Demand 3: of an accepted text the verdict is exact, and the entries of its schedule fill the buffer's start.
+pub record Demand3 (text before after : List ℕ) : Type 0 where
+  pub judge : (v : Verdict) → Judged text before v after → (x : AcceptedText text) → 6144 ≤ length before
+      → (schedule : List ℕ) × JudgesExactly (x .plan) v schedule × (after ≡ filled schedule before)
+  pub lockplan-verdict : (n : ℕ) → JudgedBytes text before n after → (x : AcceptedText text) → 6144 ≤ length before / 2
+      → (schedule : List ℕ) × JudgesExactly (x .plan) (readVerdict n) schedule × (after ≡ filled (listBytes 2 schedule) before)
