@@ -23,10 +23,10 @@ use Rattle.plan.specs.Settled.{Settled}
 use Rattle.plan.specs.Rules.{refusedIf, tooLong, formsRefusal, readerRefusal, tooLarge, tooManyPairs, planOf, planRefusal, verdictRefusal, pairsRefusal}
 use Rattle.plan.proofs.Sound.{accepted-text}
 use Rattle.plan.proofs.Allowed.{rules-plan}
-use Rattle.demands.specs.Broken.{TooLarge, TooManyPairs, AcceptedText}
+use Rattle.demands.specs.Broken.{TooLarge, TooManyPairs, planRules, AllUnbroken, AcceptedText}
 use Rattle.demands.proofs.Lowest.{none-lowest, lowest-none}
 use Rattle.demands.proofs.Pairs.{many-pairs}
-use Rattle.demands.proofs.Refusals.{unflagged, below, read}
+use Rattle.demands.proofs.Refusals.{unflagged, below, read, plan-refuses}
 
 not-above : (n : ℕ) → (1024 < n → ⊥) → n ≤ 1024
 not-above n h = omega arith
@@ -92,6 +92,9 @@ module _ (text : List ℕ) where
 
   pub accepted-exactly : (planRefusal text ≡ none) ↔ AcceptedText text
   accepted-exactly = (accepted, unrefused)
+
+  pub unbroken-exactly : AllUnbroken (planRules text) ↔ AcceptedText text
+  unbroken-exactly = let k = plan-refuses text .kept in (λ u. accepted (k .1 u), λ x. k .0 (unrefused x))
 
   -- with rule 1
   pub verdict-accepted-exactly : (lent : ℕ) → (verdictRefusal text lent ≡ none) ↔ ((6144 ≤ lent) × AcceptedText text)

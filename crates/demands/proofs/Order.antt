@@ -7,7 +7,7 @@ use mathlib.Core.Path.{_≡_, refl, sym, ap, subst, _∙_}
 use Rattle.text.specs.declared.Refusal.{Refusal}
 use Rattle.text.specs.Lines.{refusal}
 use Rattle.plan.specs.Rules.{refusedAt}
-use Rattle.demands.specs.Broken.{Rule, Unbroken, FirstBroken}
+use Rattle.demands.specs.Broken.{Rule, Unbroken, AllUnbroken, FirstBroken}
 
 -- o is the line of which P holds, or none
 abbrev pub Names : Option ℕ → (ℕ → Type 0) → Type 0
@@ -15,11 +15,6 @@ Names o P = (n : ℕ) → (o ≡ some n) ↔ P n
 
 pub unnamed : (o : Option ℕ) (P : ℕ → Type 0) → Names o P → o ≡ none → (n : ℕ) → P n → ⊥
 unnamed o P h e n p = Option·none-ne-some n (sym e ∙ h n .1 p)
-
--- no rule of a list is broken
-unfoldable pub AllUnbroken : List Rule → Type 0
-AllUnbroken [] = Unit {0}
-AllUnbroken (q ∷ qs) = Unbroken q × AllUnbroken qs
 
 -- a is the refusal by the first of the rules that is broken, or none
 pub record RefusesBy (qs : List Rule) (a : Option Refusal) : Type 0 where

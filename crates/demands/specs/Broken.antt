@@ -1,6 +1,7 @@
--- What it means that a text breaks a rule, and at which line: said of the text, and of the forms or the plan that it is the written text of. A text keeps all rules
--- exactly when no call refuses its plan (theorem `accepted-exactly`), and (r, l) is the refusal exactly when rule r is the first one broken, at line l
--- (`refused-exactly`). 01, "Rules, in checking order".
+-- What it means that a text breaks a rule, and at which line: said of the text, and of the forms or the plan that it is the written text of. A text keeps the rules 2 to
+-- 10 exactly when its plan is not refused (theorems `accepted-exactly`, `unbroken-exactly`), and (r, l) is the refusal exactly when rule r is the first one broken, at line
+-- l (`refused-exactly`). Each rule is stated for texts that break none before it, as `FirstBroken` asks: the numbers of brackets and of the caller count on rule 4, sizes
+-- on rule 7, words of pairs on rule 6. 01, "Rules, in checking order".
 use Prim.Native.Nat.{ℕ, _+_, _-_, _<_, _≤_}
 use mathlib.Core.List.{List, [], _∷_, _++_, List·Memᴰ}
 use mathlib.Core.Logic.{_⊎_}
@@ -159,13 +160,18 @@ planRules text =
 unfoldable pub verdictRules : List ℕ → ℕ → List Rule
 verdictRules text lent = rule 1 (TooShort 6144 lent) ∷ planRules text
 
--- the pair list's, of procedure p, where so many words are lent
+-- the pair list's, of procedure p, where so many words are lent: "Rule 11 is for the pair list only."
 unfoldable pub pairsRules : List ℕ → ℕ → ℕ → List Rule
 pairsRules text p lent = rule 1 (TooShort 128 lent) ∷ (planRules text ++ rule 11 (OfPlan (AbsentRequest p) text) ∷ [])
 
--- a rule that no line breaks
+-- a rule that no line breaks. One that speaks of forms or of a plan is so kept by a text that is written of none: an earlier rule is broken there
 abbrev pub Unbroken : Rule → Type 0
 Unbroken q = (n : ℕ) → q .broken n → ⊥
+
+-- no rule of a list is broken
+unfoldable pub AllUnbroken : List Rule → Type 0
+AllUnbroken [] = Unit {0}
+AllUnbroken (q ∷ qs) = Unbroken q × AllUnbroken qs
 
 -- "Each rule is tested over the whole text before the next": the rule r is broken at line l, and none before it is broken
 unfoldable pub FirstBroken : List Rule → ℕ → ℕ → Type 0

@@ -24,7 +24,7 @@ pub record NoPlace (fs : List Form) (n : ℕ) : Type 0 where
   pub before : Begins (take (n - 1) fs)
   pub with-it : Begins (take n fs) → ⊥
 
--- "or the text ends too early (one more than the last line)": a plan begins so, and the lines are none
+-- "or the text ends too early (one more than the last line)": a plan begins so, and the lines are no plan yet
 pub record EndsEarly (fs : List Form) (n : ℕ) : Type 0 where
   pub line : n ≡ length fs + 1
   pub begun : Begins fs

@@ -8,7 +8,7 @@ use lib.ListN.{length, take, drop}
 use Rattle.laws.specs.Bytes.{bytes}
 use Rattle.laws.specs.Mask.{inMask}
 
--- "Numbers .. are decimal": the digits of n, highest first, without a leading zero, if there are no more than k
+-- "Numbers in plan texts are decimal", and so are those of the report, as case B has them: the digits of n, highest first, without a leading zero, if there are no more than k
 unfoldable pub digitsIn : ℕ → ℕ → List ℕ
 digitsIn zero n = []
 digitsIn (suc k) n = cond (ltb n 10) ((48 + n) ∷ []) (digitsIn k (n / 10) ++ ((48 + n % 10) ∷ []))
@@ -48,7 +48,7 @@ procOpen p = bytes "(proc " ++ digits p ++ bytes "\n"
 unfoldable pub refusedLine : ℕ → ℕ → List ℕ
 refusedLine r l = bytes "(refused " ++ digits r ++ (bytes " " ++ digits l) ++ bytes ")\n"
 
--- "A pair line is `(pair L` with the wanted lock. The held locks follow, lowest number first": the word has the wanted lock in its 5 lowest digits, the mask of the
+-- "A pair line is `(pair L` with the wanted lock. The held locks follow, lowest number first": the word has the wanted lock in its 5 lowest bits, the mask of the
 -- held locks above them
 unfoldable pub pairLine : ℕ → List ℕ
 pairLine w = bytes "(pair " ++ digits (w % 32) ++ listed (members 64 (w / 32)) ++ bytes ")\n"

@@ -8,6 +8,7 @@ use mathlib.Core.List.{List, [], _∷_}
 use lib.ListN.{length, take, drop, getD, length-take}
 use lib.Seq.{take-at}
 use Rattle.laws.specs.Bytes.{bytes}
+use Rattle.text.specs.declared.Refusal.{Refusal}
 use Rattle.semantics.specs.Plan.{Block}
 use Rattle.semantics.specs.Pairs.{pairList}
 use Rattle.plan.specs.Rules.{planOf}
@@ -19,10 +20,10 @@ use Rattle.deadlock.specs.Findings.{Within}
 use Rattle.report_lines.specs.Lines.{reportOpen, freeLine, closing, procLines, deadlockLines, refusedLine, procLinesRoom, deadlockRoom, Wrote}
 use Rattle.report_lines.proofs.Writing.{wrote-none}
 use Rattle.report_text.specs.declared.Judged.{Judged}
-use Rattle.report_text.specs.declared.Verdict.{Verdict}
-use Rattle.report_text.specs.declared.Verdict.the-variants.{Free, Deadlock, Refused}
+use Rattle.lockplan.specs.declared.Verdict.{Verdict}
+use Rattle.lockplan.specs.declared.Verdict.the-variants.{Free, Deadlock, Refused}
 use Rattle.report_text.specs.Report.{procedures, procParts, verdictPart, partsOf, partOf}
-use Rattle.report_text.specs.Tables.{entryRoom, partRoom, scheduleLength, ProcTables, Prepared}
+use Rattle.report_text.specs.Tables.{entryRoom, partRoom, scheduleLength, scheduleIn, ProcTables, Prepared}
 
 -- ---- a procedure
 
@@ -61,14 +62,15 @@ module _ (j : Judged) (table : List ℕ) (t : ProcTables j table) where
 
 -- ---- the verdict
 
-pub free-part : (v : Verdict) (entries out out′ : List ℕ) (i : ℕ) → v ≡ Free → Wrote out out′ 0 i (bytes "(free)\n") → Wrote out out′ 0 i (verdictPart v entries)
+pub free-part : (v : Verdict) (entries out out′ : List ℕ) (i : ℕ) → v ≡ Free → Wrote out out′ 0 i (bytes "(free)\n")
+    → Wrote out out′ 0 i (verdictPart v (scheduleIn v entries))
 unfolding verdictPart freeLine
 free-part v entries out out′ i g w = rw g w
 
-pub refused-part : (v : Verdict) (r l : ℕ) (entries out out′ : List ℕ) (i : ℕ) → v ≡ Refused r l → Wrote out out′ 0 i (refusedLine r l)
-    → Wrote out out′ 0 i (verdictPart v entries)
+pub refused-part : (v : Verdict) (x : Refusal) (entries out out′ : List ℕ) (i : ℕ) → v ≡ Refused x → Wrote out out′ 0 i (refusedLine (x .rule) (x .line))
+    → Wrote out out′ 0 i (verdictPart v (scheduleIn v entries))
 unfolding verdictPart
-refused-part v r l entries out out′ i g w = rw g w
+refused-part v x entries out out′ i g w = rw g w
 
 module _ (v : Verdict) (n S : ℕ) (entries : List ℕ) (g : v ≡ Deadlock n S) where
   pub schedule-within : scheduleLength v ≤ length entries → n ≤ length entries
@@ -78,8 +80,8 @@ module _ (v : Verdict) (n S : ℕ) (entries : List ℕ) (g : v ≡ Deadlock n S)
   pub schedule-room : (out : List ℕ) → length entries ≤ entryRoom → partRoom ≤ length out → 0 + deadlockRoom (length (take (n - 0) entries)) ≤ length out
   schedule-room out h k = rw length-take (omega arith)
 
-  pub deadlock-part : (out out′ : List ℕ) (i : ℕ) → Wrote out out′ 0 i (deadlockLines S (take (n - 0) entries)) → Wrote out out′ 0 i (verdictPart v entries)
-  unfolding verdictPart
+  pub deadlock-part : (out out′ : List ℕ) (i : ℕ) → Wrote out out′ 0 i (deadlockLines S (take (n - 0) entries)) → Wrote out out′ 0 i (verdictPart v (scheduleIn v entries))
+  unfolding verdictPart scheduleIn scheduleLength
   deadlock-part out out′ i w = let e : n - 0 ≡ n = omega arith in rw g (rw e at w)
 
 -- ---- the parts by their places
@@ -102,41 +104,41 @@ module _ (ps : List Block) (rest : List (List ℕ)) where
 far : (k n : ℕ) → n < k → (k ≡ n + 1 → ⊥) → (k ≡ n + 2 → ⊥) → k ≡ n + 1 + suc (suc (k - (n + 3)))
 far k n b c d = let e : n + 3 ≤ k = omega (arith, c, d) in omega arith
 
-pub part-open : (text entries out out′ : List ℕ) (v : Verdict) (k i : ℕ) → k ≡ 0 → Wrote out out′ 0 i (bytes "(report\n") → Wrote out out′ 0 i (partOf text v entries k)
+pub part-open : (text schedule out out′ : List ℕ) (v : Verdict) (k i : ℕ) → k ≡ 0 → Wrote out out′ 0 i (bytes "(report\n") → Wrote out out′ 0 i (partOf text v schedule k)
 unfolding partsOf reportOpen
-part-open text entries out out′ v k i e w = rw e w
+part-open text schedule out out′ v k i e w = rw e w
 
 module _ (text : List ℕ) (j : Judged) (table entries : List ℕ) (x : Prepared text j table entries) (out out′ : List ℕ) (k i : ℕ) where
   pub part-procedure : (k ≡ 0 → ⊥) → k ≤ j .procs
-      → Wrote out out′ 0 i (procLines (k - 1) (pairList (tablePlan (take (j .forms) table) .procs) (k - 1))) → Wrote out out′ 0 i (partOf text (j .verdict) entries k)
+      → Wrote out out′ 0 i (procLines (k - 1) (pairList (tablePlan (take (j .forms) table) .procs) (k - 1))) → Wrote out out′ 0 i (partOf text (j .verdict) (scheduleIn (j .verdict) entries) k)
   unfolding partsOf
   part-procedure h b w = go k h b w
     where
       go : (k : ℕ) → (k ≡ 0 → ⊥) → k ≤ j .procs → Wrote out out′ 0 i (procLines (k - 1) (pairList (tablePlan (take (j .forms) table) .procs) (k - 1)))
-          → Wrote out out′ 0 i (partOf text (j .verdict) entries k)
+          → Wrote out out′ 0 i (partOf text (j .verdict) (scheduleIn (j .verdict) entries) k)
       go zero h b w = absurd (h refl)
       go (suc m) h b w =
           let p : tablePlan (take (j .forms) table) ≡ planOf text = x .tables (omega arith) .1 in
           let c : suc m - 1 ≡ 0 + m = omega arith in
-          let e : partOf text (j .verdict) entries (suc m) ≡ procLines (0 + m) (pairList (planOf text .procs) (0 + m)) =
-          place-procedure (planOf text .procs) (verdictPart (j .verdict) entries ∷ closing ∷ []) (procedures (j .verdict) (planOf text)) 0 m (omega (arith, x .reported)) in
+          let e : partOf text (j .verdict) (scheduleIn (j .verdict) entries) (suc m) ≡ procLines (0 + m) (pairList (planOf text .procs) (0 + m)) =
+          place-procedure (planOf text .procs) (verdictPart (j .verdict) (scheduleIn (j .verdict) entries) ∷ closing ∷ []) (procedures (j .verdict) (planOf text)) 0 m (omega (arith, x .reported)) in
           rw e (rw (c, p) at w)
 
-  behind : (m : ℕ) → k ≡ j .procs + 1 + m → partOf text (j .verdict) entries k ≡ getD (verdictPart (j .verdict) entries ∷ closing ∷ []) m []
+  behind : (m : ℕ) → k ≡ j .procs + 1 + m → partOf text (j .verdict) (scheduleIn (j .verdict) entries) k ≡ getD (verdictPart (j .verdict) (scheduleIn (j .verdict) entries) ∷ closing ∷ []) m []
   unfolding partsOf
   behind m e =
       let f : k ≡ suc (procedures (j .verdict) (planOf text) + m) = omega (arith, x .reported) in
-      rw f (place-behind (planOf text .procs) (verdictPart (j .verdict) entries ∷ closing ∷ []) (procedures (j .verdict) (planOf text)) 0 m)
+      rw f (place-behind (planOf text .procs) (verdictPart (j .verdict) (scheduleIn (j .verdict) entries) ∷ closing ∷ []) (procedures (j .verdict) (planOf text)) 0 m)
 
-  pub part-verdict : k ≡ j .procs + 1 → Wrote out out′ 0 i (verdictPart (j .verdict) entries) → Wrote out out′ 0 i (partOf text (j .verdict) entries k)
+  pub part-verdict : k ≡ j .procs + 1 → Wrote out out′ 0 i (verdictPart (j .verdict) (scheduleIn (j .verdict) entries)) → Wrote out out′ 0 i (partOf text (j .verdict) (scheduleIn (j .verdict) entries) k)
   part-verdict e w = subst (Wrote out out′ 0 i) (sym (behind 0 (omega arith))) w
 
-  pub part-closing : k ≡ j .procs + 2 → Wrote out out′ 0 i (bytes ")\n") → Wrote out out′ 0 i (partOf text (j .verdict) entries k)
+  pub part-closing : k ≡ j .procs + 2 → Wrote out out′ 0 i (bytes ")\n") → Wrote out out′ 0 i (partOf text (j .verdict) (scheduleIn (j .verdict) entries) k)
   unfolding closing
   part-closing e w = subst (Wrote out out′ 0 i) (sym (behind 1 (omega arith))) w
 
-  pub part-none : (k ≡ 0 → ⊥) → j .procs < k → (k ≡ j .procs + 1 → ⊥) → (k ≡ j .procs + 2 → ⊥) → Wrote out out 0 0 (partOf text (j .verdict) entries k)
+  pub part-none : (k ≡ 0 → ⊥) → j .procs < k → (k ≡ j .procs + 1 → ⊥) → (k ≡ j .procs + 2 → ⊥) → Wrote out out 0 0 (partOf text (j .verdict) (scheduleIn (j .verdict) entries) k)
   part-none a b c d =
       let m = k - (j .procs + 3) in
-      let e : partOf text (j .verdict) entries k ≡ getD (verdictPart (j .verdict) entries ∷ closing ∷ []) (suc (suc m)) [] = behind (suc (suc m)) (far k (j .procs) b c d) in
+      let e : partOf text (j .verdict) (scheduleIn (j .verdict) entries) k ≡ getD (verdictPart (j .verdict) (scheduleIn (j .verdict) entries) ∷ closing ∷ []) (suc (suc m)) [] = behind (suc (suc m)) (far k (j .procs) b c d) in
       rw e (wrote-none out 0 (omega arith))

@@ -3,45 +3,41 @@ use Prim.Native.Nat.{ℕ, _-_, _<_, _≤_}
 use native.Mathlib.Omega.{arith}
 use mathlib.Core.Path.{_≡_, refl, sym, ap, subst, _∙_}
 use mathlib.Core.List.{List}
-use mathlib.Core.Option.{Option, none, some}
-use lib.ListN.{length, take}
+use mathlib.Core.Option.{Option, none, some, Option·none-ne-some}
+use lib.ListN.{length, take, length-take}
 use lib.Seq.{length-take-le}
 use Rattle.semantics.specs.Plan.{LockPlan}
 use Rattle.plan.specs.declared.Reading.{Reading}
 use Rattle.plan.specs.declared.Reading.the-variants.{Accepted}
 use Rattle.plan.specs.declared.Reading.the-variants as plan
 use Rattle.plan.specs.Grammar.{planIn}
-use Rattle.plan.specs.Rules.{Refusal, refusal, planRefusal, planOf, readingOf, Tabled}
+use Rattle.text.specs.declared.Refusal.{Refusal}
+use Rattle.plan.specs.Rules.{planRefusal, planOf, readingOf, Tabled}
 use Rattle.plan.specs.Settled.{tablePlan}
 use Rattle.checked.proofs.Checked.{plan-kept, plan-forms, plan-room, plan-table, plan-sizes, plan-few}
 use Rattle.deadlock.specs.declared.Finding.{Finding}
 use Rattle.deadlock.specs.declared.Finding.the-variants.{Never, Reached}
 use Rattle.deadlock.specs.Findings.{Within, Found}
 use Rattle.report_text.specs.declared.Judged.{Judged}
-use Rattle.report_text.specs.declared.Verdict.{Verdict}
-use Rattle.report_text.specs.declared.Verdict.the-variants.{Free, Deadlock, Refused}
-use Rattle.report_text.specs.Report.{Judgement, procedures}
-use Rattle.report_text.specs.Tables.{tableRoom, verdictOf, scheduleLength, PlanJudged, PlanPrepared, Prepared, ProcTables}
+use Rattle.lockplan.specs.declared.Verdict.{Verdict}
+use Rattle.lockplan.specs.declared.Verdict.the-variants.{Free, Deadlock, Refused}
+use Rattle.lockplan.specs.Judgement.{Judgement}
+use Rattle.report_text.specs.Report.{procedures}
+use Rattle.report_text.specs.Tables.{tableRoom, verdictOf, scheduleLength, scheduleIn, PlanPrepared, Prepared, ProcTables}
 
-pub found-judged : (ws before after : List ℕ) (f : Finding) (v : Verdict) → v ≡ verdictOf f → Found ws before f after → PlanJudged ws v after
-unfolding Found PlanJudged
-found-judged ws before after Never v e d = rw e (d .0)
-found-judged ws before after (Reached n S) v e d = rw e (d .1, d .0)
+pub found-judged : (ws before after : List ℕ) (f : Finding) (v : Verdict) → v ≡ verdictOf f → Found ws before f after
+    → Judgement none (tablePlan ws) v (scheduleIn v after)
+unfolding Found Judgement scheduleIn scheduleLength
+found-judged ws before after Never v e d = rw e (refl, refl, d .0)
+found-judged ws before after (Reached n S) v e d = rw e (refl, length-take-le n after (d .1), d .0)
 
 -- ---- an accepted text
 
-module _ (text : List ℕ) (ws entries : List ℕ) (kept : planRefusal text ≡ none) (same : tablePlan ws ≡ planOf text) where
-  plan-judgement : (v : Verdict) → PlanJudged ws v entries → Judgement text v entries
-  unfolding PlanJudged Judgement
-  plan-judgement Free d = (kept, rw same at d)
-  plan-judgement (Deadlock n S) d = (kept, d .0, rw same at (d .1))
-  plan-judgement (Refused r l) d = absurd d
-
-  plan-procedures : (v : Verdict) → PlanJudged ws v entries → length (tablePlan ws .procs) ≡ procedures v (planOf text)
-  unfolding PlanJudged procedures
-  plan-procedures Free d = ap (λ (p : LockPlan). length (p .procs)) same
-  plan-procedures (Deadlock n S) d = ap (λ (p : LockPlan). length (p .procs)) same
-  plan-procedures (Refused r l) d = absurd d
+no-refusal-procedures : (plan : LockPlan) (v : Verdict) (schedule : List ℕ) → Judgement none plan v schedule → length (plan .procs) ≡ procedures v plan
+unfolding Judgement procedures
+no-refusal-procedures plan Free schedule d = refl
+no-refusal-procedures plan (Deadlock n S) schedule d = refl
+no-refusal-procedures plan (Refused x) schedule d = absurd (Option·none-ne-some x (d .0))
 
 module _ (text table : List ℕ) (q : Reading) (n : ℕ) (t : Tabled (planRefusal text) text q table) (g : q ≡ Accepted n) where
   pub plan-within : Within (take (n - 0) table)
@@ -55,38 +51,39 @@ module _ (text table : List ℕ) (q : Reading) (n : ℕ) (t : Tabled (planRefusa
       let kept = plan-kept text table q n t g in
       let fits : n ≤ length table = plan-room text table q n t g table₀ a b in
       let e : j .forms ≡ n - 0 = x .forms ∙ length-take-le (n - 0) table (omega arith) in
+      let judged = rw same at (x .judged) in
       record {
-        judged = plan-judgement text (take (n - 0) table) entries kept same (j .verdict) (x .judged);
-        reported = x .procs ∙ plan-procedures text (take (n - 0) table) entries kept same (j .verdict) (x .judged);
+        judged = rw kept judged;
+        reported = x .procs ∙ rw (← same) (no-refusal-procedures (tablePlan (take (n - 0) table)) (j .verdict) _ (x .judged));
         tables = λ _. (rw e (record { room = omega arith; within = plan-within; procs = x .procs; starts = x .starts; full = x .full }), rw e same);
       }
 
 -- ---- a refused text
 
-refused-is : (o : Option Refusal) (m r l : ℕ) → readingOf o m ≡ plan.Refused r l → o ≡ some (refusal r l)
+refused-is : (o : Option Refusal) (m : ℕ) (x : Refusal) → readingOf o m ≡ plan.Refused x → o ≡ some x
 unfolding readingOf
-refused-is none m r l e = let z : _≡_ {A = ℕ} 1 0 = cc in absurd (omega arith)
-refused-is (some w) m r l e = let x : w .rule ≡ r = cc in let y : w .line ≡ l = cc in rw (← x, ← y)
+refused-is none m x e = let z : _≡_ {A = ℕ} 1 0 = cc in absurd (omega arith)
+refused-is (some w) m x e = let k : w ≡ x = cc in ap {B = Option Refusal} some k
 
-pub refused-prepared : (text table entries : List ℕ) (q : Reading) (r l : ℕ) (j : Judged) → Tabled (planRefusal text) text q table → q ≡ plan.Refused r l
-    → j .verdict ≡ Refused r l → j .procs ≡ 0 → Prepared text j table entries
-unfolding Judgement procedures
-refused-prepared text table entries q r l j t g v p = record {
-  judged = rw v (refused-is (planRefusal text) _ r l (sym (t .answer) ∙ g));
+pub refused-prepared : (text table entries : List ℕ) (q : Reading) (x : Refusal) (j : Judged) → Tabled (planRefusal text) text q table → q ≡ plan.Refused x
+    → j .verdict ≡ Refused x → j .procs ≡ 0 → Prepared text j table entries
+unfolding Judgement procedures scheduleIn scheduleLength
+refused-prepared text table entries q x j t g v p = record {
+  judged = rw v (refused-is (planRefusal text) _ x (sym (t .answer) ∙ g), refl);
   reported = rw (v, p);
   tables = λ h. absurd (omega arith);
 }
 
 -- ---- what the parts ask of a judged text
 
+schedule-fits : (o : Option Refusal) (plan : LockPlan) (v : Verdict) (entries : List ℕ) → Judgement o plan v (scheduleIn v entries) → scheduleLength v ≤ length entries
+unfolding Judgement scheduleIn scheduleLength
+schedule-fits o plan Free entries d = omega arith
+schedule-fits o plan (Deadlock n S) entries d = let e : length (take n entries) ≡ n = d .1 in omega (arith, rw length-take at e)
+schedule-fits o plan (Refused x) entries d = omega arith
+
 pub judged-schedule : (text table entries : List ℕ) (j : Judged) (v : Verdict) → v ≡ j .verdict → Prepared text j table entries → scheduleLength v ≤ length entries
-unfolding Judgement scheduleLength
-judged-schedule text table entries j v e x = rw e (go (j .verdict) (x .judged))
-  where
-    go : (v : Verdict) → Judgement text v entries → scheduleLength v ≤ length entries
-    go Free d = omega arith
-    go (Deadlock n S) d = d .1
-    go (Refused r l) d = omega arith
+judged-schedule text table entries j v e x = rw e (schedule-fits (planRefusal text) (planOf text) (j .verdict) entries (x .judged))
 
 module _ (text table entries : List ℕ) (j : Judged) (k : ℕ) (x : Prepared text j table entries) (h : k ≡ 0 → ⊥) (b : k ≤ j .procs) where
   pub judged-tables : ProcTables j table

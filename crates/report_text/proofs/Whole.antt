@@ -13,13 +13,15 @@ use Rattle.plan.specs.Rules.{planRefusal, planOf, readerRefusal}
 use Rattle.plan.proofs.Sound.{accepted-settled}
 use Rattle.report_lines.specs.Lines.{reportOpen, freeLine, closing, procOpen, procLines, deadlockOpen, deadlockLines, refusedLine}
 use Rattle.report_text.specs.declared.Judged.{Judged}
-use Rattle.report_text.specs.declared.Verdict.{Verdict}
-use Rattle.report_text.specs.declared.Verdict.the-variants.{Free, Deadlock, Refused}
-use Rattle.report_text.specs.Report.{Judgement, procedures, procParts, verdictPart, partsOf, partOf, Report}
-use Rattle.report_text.specs.Tables.{mostParts, Prepared}
+use Rattle.lockplan.specs.declared.Verdict.{Verdict}
+use Rattle.lockplan.specs.declared.Verdict.the-variants.{Free, Deadlock, Refused}
+use Rattle.lockplan.specs.Judgement.{Judgement}
+use Rattle.report_text.specs.Report.{procedures, procParts, verdictPart, partsOf, partOf, Report}
+use Rattle.report_text.specs.Tables.{mostParts, scheduleIn, Prepared}
 
-pub parts-report : (text table entries : List ℕ) (j : Judged) → Prepared text j table entries → Report text (flatten (partsOf text (j .verdict) entries))
-parts-report text table entries j x = record { verdict = j .verdict; entries = entries; judged = x .judged; joined = refl }
+pub parts-report : (text table entries : List ℕ) (j : Judged) → Prepared text j table entries
+    → Report text (flatten (partsOf text (j .verdict) (scheduleIn (j .verdict) entries)))
+parts-report text table entries j x = record { verdict = j .verdict; schedule = scheduleIn (j .verdict) entries; judged = x .judged; joined = refl }
 
 -- ---- every part has a byte
 
@@ -39,29 +41,29 @@ procedure-bytes : (p : ℕ) (ws : List ℕ) → 0 < length (procLines p ws)
 unfolding procLines procOpen
 procedure-bytes p ws = omega arith
 
-verdict-bytes : (v : Verdict) (entries : List ℕ) → 0 < length (verdictPart v entries)
+verdict-bytes : (v : Verdict) (schedule : List ℕ) → 0 < length (verdictPart v schedule)
 unfolding verdictPart freeLine deadlockLines deadlockOpen refusedLine
-verdict-bytes Free entries = omega arith
-verdict-bytes (Deadlock n S) entries = omega arith
-verdict-bytes (Refused r l) entries = omega arith
+verdict-bytes Free schedule = omega arith
+verdict-bytes (Deadlock n S) schedule = omega arith
+verdict-bytes (Refused x) schedule = omega arith
 
 procedures-bytes : (ps : List Block) (rest : List (List ℕ)) (n p : ℕ) → NonEmpty rest → NonEmpty (procParts ps p n rest)
 unfolding procParts
 procedures-bytes ps rest zero p f = f
 procedures-bytes ps rest (suc n) p f = one-more _ _ (procedure-bytes p _) (procedures-bytes ps rest n (suc p) f)
 
-module _ (text : List ℕ) (v : Verdict) (entries : List ℕ) where
-  parts-bytes : NonEmpty (partsOf text v entries)
+module _ (text : List ℕ) (v : Verdict) (schedule : List ℕ) where
+  parts-bytes : NonEmpty (partsOf text v schedule)
   unfolding partsOf reportOpen closing
   parts-bytes =
       one-more _ _ (omega arith)
-      (procedures-bytes _ _ (procedures v (planOf text)) 0 (one-more _ _ (verdict-bytes v entries) (one-more _ _ (omega arith) none-yet)))
+      (procedures-bytes _ _ (procedures v (planOf text)) 0 (one-more _ _ (verdict-bytes v schedule) (one-more _ _ (omega arith) none-yet)))
 
-  pub last-part : (k : ℕ) → (length (partsOf text v entries) ≤ k) ↔ (length (partOf text v entries k) ≡ 0)
+  pub last-part : (k : ℕ) → (length (partsOf text v schedule) ≤ k) ↔ (length (partOf text v schedule k) ≡ 0)
   unfolding NonEmpty
   last-part k = (
-    λ h. ap length (List·getD-eq-default (partsOf text v entries) [] h),
-    λ e. ⊎-elim (λ (h : k < length (partsOf text v entries)). absurd (omega (arith, parts-bytes k h))) (λ h. h) (lt-or-le k (length (partsOf text v entries))),
+    λ h. ap length (List·getD-eq-default (partsOf text v schedule) [] h),
+    λ e. ⊎-elim (λ (h : k < length (partsOf text v schedule)). absurd (omega (arith, parts-bytes k h))) (λ h. h) (lt-or-le k (length (partsOf text v schedule))),
   )
 
 -- ---- how many there are
@@ -71,12 +73,12 @@ unfolding procParts
 procedures-length ps rest zero p = omega arith
 procedures-length ps rest (suc n) p = omega (arith, procedures-length ps rest n (suc p))
 
-few-procedures : (text : List ℕ) (v : Verdict) (entries : List ℕ) → Judgement text v entries → procedures v (planOf text) ≤ 64
+few-procedures : (text : List ℕ) (v : Verdict) (schedule : List ℕ) → Judgement (planRefusal text) (planOf text) v schedule → procedures v (planOf text) ≤ 64
 unfolding Judgement procedures planRefusal
-few-procedures text Free entries d = accepted-settled text (first-none (readerRefusal text) _ (d .0) .0) .few-procs
-few-procedures text (Deadlock n S) entries d = accepted-settled text (first-none (readerRefusal text) _ (d .0) .0) .few-procs
-few-procedures text (Refused r l) entries d = omega arith
+few-procedures text Free schedule d = accepted-settled text (first-none (readerRefusal text) _ (d .0) .0) .few-procs
+few-procedures text (Deadlock n S) schedule d = accepted-settled text (first-none (readerRefusal text) _ (d .0) .0) .few-procs
+few-procedures text (Refused x) schedule d = omega arith
 
-pub few-parts : (text : List ℕ) (v : Verdict) (entries : List ℕ) → Judgement text v entries → length (partsOf text v entries) ≤ mostParts
+pub few-parts : (text : List ℕ) (v : Verdict) (schedule : List ℕ) → Judgement (planRefusal text) (planOf text) v schedule → length (partsOf text v schedule) ≤ mostParts
 unfolding partsOf
-few-parts text v entries d = omega (arith, procedures-length (planOf text .procs) (verdictPart v entries ∷ closing ∷ []) (procedures v (planOf text)) 0, few-procedures text v entries d)
+few-parts text v schedule d = omega (arith, procedures-length (planOf text .procs) (verdictPart v schedule ∷ closing ∷ []) (procedures v (planOf text)) 0, few-procedures text v schedule d)

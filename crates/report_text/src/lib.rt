@@ -9,8 +9,9 @@ ghost use Rattle.plan.specs.Starts.{Starts};
 ghost use Rattle.deadlock.specs.Findings.{Within};
 ghost use Rattle.report_lines.specs.Lines.{procLines, Wrote};
 ghost use Rattle.report_text.specs.Report.{verdictPart, partOf};
-ghost use Rattle.report_text.specs.Tables.{tableRoom, entryRoom, partRoom, verdictOf, scheduleLength, PlanPrepared, Prepared, ProcTables};
+ghost use Rattle.report_text.specs.Tables.{tableRoom, entryRoom, partRoom, verdictOf, scheduleLength, scheduleIn, PlanPrepared, Prepared, ProcTables};
 use deadlock::Finding;
+use lockplan::Verdict;
 use plan::Reading;
 
 // The room of the lent tables: the forms of a text, the entries of a schedule, a part of the report.
@@ -22,13 +23,6 @@ pub const PART_ROOM: usize = 86228;
 
 // No report has more parts.
 pub const MOST_PARTS: usize = 67;
-
-// The verdict on a plan: no run of its gateway reaches a stuck set; a schedule of so many entries leads to one, the largest there (bit t for thread t); or the refusal.
-pub enum Verdict {
-    Free,
-    Deadlock { entries: usize, stuck: u8 },
-    Refused { rule: u8, line: usize },
-}
 
 // What was found of a text: how many forms of it the table has, how many procedures are reported, where they begin in the table, and the verdict.
 pub struct Judged {
@@ -93,11 +87,11 @@ pub fn judge_text(text: &[u8], table: &mut [u64], entries: &mut [u16]) -> Judged
     let reading = read_text(text, table);
     match reading {
         Reading::Accepted(n) => judge_plan(&table[0..n], entries),
-        Reading::Refused { rule, line } => Judged {
+        Reading::Refused(refusal) => Judged {
             forms: 0,
             procs: 0,
             starts: [0u64; 64],
-            verdict: Verdict::Refused { rule, line },
+            verdict: Verdict::Refused(refusal),
         },
     }
 }
@@ -132,14 +126,14 @@ fn put_procedure(judged: Judged, table: &[u64], p: usize, out: &mut [u8]) -> usi
 // The part of the verdict.
 fn put_verdict(verdict: Verdict, entries: &[u16], out: &mut [u8]) -> usize
     requires { ⌜ (scheduleLength verdict ≤ length (now entries)) × (length (now entries) ≤ entryRoom) × (partRoom ≤ length (now out)) ⌝ }
-    ensures { λ r. ⌜ Wrote (now (out .entry)) (now (out .exit)) 0 r (verdictPart verdict (now (entries .entry))) ⌝ }
+    ensures { λ r. ⌜ Wrote (now (out .entry)) (now (out .exit)) 0 r (verdictPart verdict (scheduleIn verdict (now (entries .entry)))) ⌝ }
 {
     match verdict {
         Verdict::Free => report_lines::put_text(out, 0, b"(free)\n"),
         Verdict::Deadlock { entries: n, stuck } => {
             report_lines::put_deadlock(out, 0, stuck, &entries[0..n])
         }
-        Verdict::Refused { rule, line } => report_lines::put_refused(out, 0, rule, line),
+        Verdict::Refused(refusal) => report_lines::put_refused(out, 0, refusal.rule, refusal.line),
     }
 }
 
@@ -153,7 +147,7 @@ pub fn put_part(
     out: &mut [u8],
 ) -> usize
     requires { ⌜ Prepared (now text) judged (now table) (now entries) × (length (now entries) ≤ entryRoom) × (partRoom ≤ length (now out)) ⌝ }
-    ensures { λ r. ⌜ Wrote (now (out .entry)) (now (out .exit)) 0 r (partOf (now (text .entry)) (judged .verdict) (now (entries .entry)) k) ⌝ }
+    ensures { λ r. ⌜ Wrote (now (out .entry)) (now (out .exit)) 0 r (partOf (now (text .entry)) (judged .verdict) (scheduleIn (judged .verdict) (now (entries .entry))) k) ⌝ }
 {
     let procs = judged.procs;
     let verdict = judged.verdict;
