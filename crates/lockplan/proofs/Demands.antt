@@ -18,15 +18,16 @@ use Rattle.buffers.specs.LittleEndian.{listBytes}
 use Rattle.demands.specs.Broken.{Rule, FirstBroken, AcceptedText}
 use Rattle.demands.proofs.Refusals.{verdict-refused-exactly, pairs-refused-exactly}
 use Rattle.demands.proofs.Accepted.{accepted-plan, verdict-accepted-exactly, pairs-accepted-exactly, published-exactly}
-use Rattle.lockplan.specs.declared.Verdict.{Verdict}
-use Rattle.lockplan.specs.declared.Verdict.the-variants.{Free, Deadlock, Refused}
-use Rattle.lockplan.specs.declared.Listing.{Listing}
-use Rattle.lockplan.specs.declared.Listing.the-variants as listing
-use Rattle.lockplan.specs.Answers.{listingOf, readListing, readVerdict}
-use Rattle.lockplan.specs.Promises.{pairsOf, written, ListedBytes}
-use Rattle.lockplan.specs.Judgement.{Judgement, JudgedBytes}
+use Rattle.answers.specs.declared.Verdict.{Verdict}
+use Rattle.answers.specs.declared.Verdict.the-variants.{Free, Deadlock, Refused}
+use Rattle.answers.specs.declared.Listing.{Listing}
+use Rattle.answers.specs.declared.Listing.the-variants as listing
+use Rattle.answers.specs.Answers.{listingOf, readListing, readVerdict}
+use Rattle.listing.specs.Listed.{pairsOf, written, ListedBytes}
+use Rattle.answers.specs.Judgement.{Judgement}
+use Rattle.verdict.specs.Judged.{JudgedBytes}
 use Rattle.lockplan.specs.Demands.{RefusesExactly, VerdictRefuses, PairsRefuse, Demand1, ListsExactly, Demand2, JudgesExactly, Demand3}
-use Rattle.lockplan.proofs.ReadBack.{verdict-read, listing-read}
+use Rattle.answers.proofs.ReadBack.{verdict-read, listing-read}
 
 -- ---- demand 1
 

@@ -17,14 +17,14 @@ use Rattle.semantics.specs.Stuck.{Stuck, DeadlockFree, Schedule}
 use Rattle.semantics.specs.Language.{PublishedCritical}
 use Rattle.buffers.specs.LittleEndian.{listBytes}
 use Rattle.demands.specs.Broken.{Rule, FirstBroken, verdictRules, pairsRules, AcceptedText}
-use Rattle.lockplan.specs.declared.Verdict.{Verdict}
-use Rattle.lockplan.specs.declared.Verdict.the-variants.{Free, Deadlock, Refused}
-use Rattle.lockplan.specs.declared.Listing.{Listing}
-use Rattle.lockplan.specs.declared.Listing.the-variants.{Pairs}
-use Rattle.lockplan.specs.declared.Listing.the-variants as listing
-use Rattle.lockplan.specs.Answers.{filled, readListing, readVerdict}
-use Rattle.lockplan.specs.Promises.{Listed, ListedBytes}
-use Rattle.lockplan.specs.Judgement.{Judged, JudgedBytes}
+use Rattle.answers.specs.declared.Verdict.{Verdict}
+use Rattle.answers.specs.declared.Verdict.the-variants.{Free, Deadlock, Refused}
+use Rattle.answers.specs.declared.Listing.{Listing}
+use Rattle.answers.specs.declared.Listing.the-variants.{Pairs}
+use Rattle.answers.specs.declared.Listing.the-variants as listing
+use Rattle.answers.specs.Answers.{filled, readListing, readVerdict}
+use Rattle.listing.specs.Listed.{Listed, ListedBytes}
+use Rattle.verdict.specs.Judged.{Judged, JudgedBytes}
 
 -- the answer is a refusal exactly by the first rule broken, in checking order, and by its line; it is none exactly where the rules are kept; a refusal writes nothing.
 -- `Refuses x` says that the answer is the refusal x, `Kept` that the rules are kept

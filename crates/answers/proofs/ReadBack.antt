@@ -1,0 +1,110 @@
+-- The 64-bit answer can be read back: `readVerdict` and `readListing` give the answer of its number, for every answer that a call can give. Kind and part a are below 256:
+-- a rule is, and a stuck set has no members but the plan's threads, of which there are six at most.
+use Prim.Native.Nat.{ℕ, _/_, _%_, _^_, _<_, _≤_}
+use native.Mathlib.Omega.{arith}
+use mathlib.Core.Path.{_≡_, refl, sym, ap, subst, _∙_}
+use mathlib.Core.List.{List}
+use mathlib.Core.Logic.{_≢_, ⊎-elim}
+use mathlib.Core.Option.{Option, none, some}
+use lib.Dec.{T, ltb}
+use lib.ListN.{length}
+use Rattle.laws.specs.Mask.{bit, inMask, maskOf}
+use Rattle.laws.proofs.Bits.{bit-lt, bit-ext}
+use Rattle.laws.proofs.Masks.{digit-test, mask-lt, mask-out, mask-digit}
+use Rattle.laws.proofs.Tests.{eq→eqb, lt-or-le, eq-or-ne, first-none}
+use Rattle.semantics.specs.Plan.{LockPlan}
+use Rattle.semantics.specs.Run.{start}
+use Rattle.semantics.specs.Stuck.{Schedule}
+use Rattle.semantics.proofs.Steps.{threadAt-some}
+use Rattle.semantics.proofs.Invariant.{run-length, start-length}
+use Rattle.text.specs.declared.Refusal.{Refusal}
+use Rattle.plan.specs.Rules.{refusedIf, readerRefusal, planRefusal, planOf, verdictRefusal, pairsRefusal}
+use Rattle.plan.proofs.Sound.{accepted-settled}
+use Rattle.answers.specs.declared.Verdict.{Verdict}
+use Rattle.answers.specs.declared.Verdict.the-variants.{Free, Deadlock}
+use Rattle.answers.specs.declared.Verdict.the-variants as verdict
+use Rattle.answers.specs.declared.Listing.the-variants.{Pairs, Refused}
+use Rattle.answers.specs.Answers.{listingOf, answerNumber, listingNumber, verdictNumber, readListing, readVerdict}
+use Rattle.answers.specs.Judgement.{Judgement}
+use Rattle.answers.proofs.LineBounds.{Numbers, pairs-bounded, verdict-bounded}
+
+-- ---- a mask without members above
+
+module _ (m n : ℕ) (below : (k : ℕ) → T (inMask m k) → k < n) where
+  above : (k : ℕ) → n ≤ k → bit m k ≡ 0
+  above k h =
+      ⊎-elim (λ (e : bit m k ≡ 1). absurd (omega (arith, below k (eq→eqb (bit m k) 1 e)))) (λ (e : bit m k ≢ 1). one-or-none (bit m k) (bit-lt m k) e) (eq-or-ne (bit m k) 1)
+    where
+      one-or-none : (d : ℕ) → d < 2 → d ≢ 1 → d ≡ 0
+      one-or-none d a b = omega arith
+
+  same-digits : (k : ℕ) → bit (maskOf n (inMask m)) k ≡ bit m k
+  same-digits k =
+      ⊎-elim (λ (h : k < n). mask-digit n (inMask m) k h ∙ digit-test m k) (λ (h : n ≤ k). mask-out n (inMask m) k h ∙ sym (above k h)) (lt-or-le k n)
+
+  mask-below : m < 2 ^ n
+  mask-below = subst (λ x. x < 2 ^ n) (bit-ext (maskOf n (inMask m)) m same-digits) (mask-lt n (inMask m))
+
+-- ---- a stuck set
+
+schedule-below : (plan : LockPlan) (es : List ℕ) (S : ℕ) → length (plan .threads) ≤ 6 → Schedule plan es (inMask S) → S < 256
+schedule-below plan es S few s =
+    let present : length (s .there) ≡ length (plan .threads) =
+    run-length (plan .procs) (start (plan .procs) (plan .threads)) (s .there) es (s .reached) ∙ start-length (plan .procs) (plan .threads) in
+    let member : (t : ℕ) → T (inMask S t) → t < 6 = λ t m. let a = s .largest .stuck .able t m in omega (arith, present, threadAt-some (s .there) t (a .1) (a .3) .0) in
+    omega (arith, mask-below S 6 member)
+
+few-threads : (text : List ℕ) (lent : ℕ) → verdictRefusal text lent ≡ none → length (planOf text .threads) ≤ 6
+unfolding verdictRefusal planRefusal
+few-threads text lent e = accepted-settled text (first-none (readerRefusal text) _ (first-none (refusedIf 1 (ltb lent 6144)) (planRefusal text) e .1) .0) .few-threads
+
+-- ---- the digits of an answer
+
+module _ (kind a b : ℕ) (h : kind < 256) (k : a < 256) where
+  pub kind-read : answerNumber kind a b % 256 ≡ kind
+  kind-read = omega arith
+
+  pub low-read : answerNumber kind a b / 256 % 256 ≡ a
+  low-read = omega arith
+
+  pub high-read : answerNumber kind a b / 65536 ≡ b
+  high-read = omega arith
+
+-- the verdict, by what holds of it
+pub verdict-read : (text : List ℕ) (lent : ℕ) (v : Verdict) (es : List ℕ) → Judgement (verdictRefusal text lent) (planOf text) v es → readVerdict (verdictNumber v) ≡ v
+unfolding Judgement verdictNumber readVerdict
+verdict-read text lent Free es j = refl
+verdict-read text lent (Deadlock n S) es j =
+    let small = schedule-below (planOf text) es S (few-threads text lent (j .0)) (j .2) in
+    rw (kind-read 1 S n (omega arith) small, low-read 1 S n (omega arith) small, high-read 1 S n (omega arith) small)
+verdict-read text lent (verdict.Refused x) es j =
+    let small = verdict-bounded text lent x (j .0) .rule in
+    rw (kind-read 2 (x .rule) (x .line) (omega arith) small, low-read 2 (x .rule) (x .line) (omega arith) small, high-read 2 (x .rule) (x .line) (omega arith) small)
+
+-- equal numbers, equal verdicts, whatever the texts and the buffers
+pub verdicts-equal : (text text′ : List ℕ) (lent lent′ : ℕ) (v w : Verdict) (es es′ : List ℕ) → Judgement (verdictRefusal text lent) (planOf text) v es
+    → Judgement (verdictRefusal text′ lent′) (planOf text′) w es′ → verdictNumber v ≡ verdictNumber w → v ≡ w
+verdicts-equal text text′ lent lent′ v w es es′ j k h = sym (verdict-read text lent v es j) ∙ ap readVerdict h ∙ verdict-read text′ lent′ w es′ k
+
+-- the pair list
+pairs-read : (n : ℕ) → readListing (listingNumber (Pairs n)) ≡ Pairs n
+unfolding listingNumber readListing
+pairs-read n = rw (kind-read 0 0 n (omega arith) (omega arith), high-read 0 0 n (omega arith) (omega arith))
+
+refused-read : (x : Refusal) → x .rule < 256 → readListing (listingNumber (Refused x)) ≡ Refused x
+unfolding listingNumber readListing
+refused-read x h =
+    rw (kind-read 2 (x .rule) (x .line) (omega arith) h, low-read 2 (x .rule) (x .line) (omega arith) h, high-read 2 (x .rule) (x .line) (omega arith) h)
+
+pub listing-read : (text : List ℕ) (p lent n : ℕ) → readListing (listingNumber (listingOf (pairsRefusal text p lent) n)) ≡ listingOf (pairsRefusal text p lent) n
+unfolding listingOf
+listing-read text p lent n = go (pairsRefusal text p lent) (pairs-bounded text p lent)
+  where
+    go : (o : Option Refusal) → ((w : Refusal) → o ≡ some w → Numbers w) → readListing (listingNumber (listingOf o n)) ≡ listingOf o n
+    go none b = pairs-read n
+    go (some w) b = refused-read w (b w refl .rule)
+
+pub listings-equal : (text text′ : List ℕ) (p p′ lent lent′ n n′ : ℕ)
+    → listingNumber (listingOf (pairsRefusal text p lent) n) ≡ listingNumber (listingOf (pairsRefusal text′ p′ lent′) n′)
+    → listingOf (pairsRefusal text p lent) n ≡ listingOf (pairsRefusal text′ p′ lent′) n′
+listings-equal text text′ p p′ lent lent′ n n′ h = sym (listing-read text p lent n) ∙ ap readListing h ∙ listing-read text′ p′ lent′ n′

@@ -1,0 +1,2 @@
+-- The pairs found, and handed to the caller.
+pub mod Found

@@ -1,0 +1,98 @@
+use Rattle.checked.proofs.Checked.{plan-room, plan-table, plan-few}
+use Rattle.listing.proofs.Found.{text-short, text-refused, text-listed}
+use borrow.Author.Needs.{needs}
+use Rattle.listing.proofs.find_pairs.Statement.{statement}
+use Rattle.listing.proofs.find_pairs.Tie as tie
+
+returns : tie.Need-returns
+returns c = search (text-short, needs)
+
+check-text-requires : tie.Need-check-text-requires
+check-text-requires c κs = search needs
+
+enum-known-checked : tie.Need-enum-known-checked
+enum-known-checked c = search needs
+
+sub-table-pairs : tie.Need-sub-table-pairs
+sub-table-pairs c = search needs
+
+part-table-pairs-start : tie.Need-part-table-pairs-start
+part-table-pairs-start c = search needs
+
+part-table-pairs-end : tie.Need-part-table-pairs-end
+part-table-pairs-end c = search (plan-room, needs)
+
+table-pairs-requires : tie.Need-table-pairs-requires
+table-pairs-requires c κs = search (plan-table, plan-few, needs)
+
+enum-known-checked-2 : tie.Need-enum-known-checked-2
+enum-known-checked-2 c = search needs
+
+same-length : tie.Need-same-length
+same-length c = search needs
+
+same-length-2 : tie.Need-same-length-2
+same-length-2 c = search needs
+
+same-length-3 : tie.Need-same-length-3
+same-length-3 c = search needs
+
+same-length-4 : tie.Need-same-length-4
+same-length-4 c = search needs
+
+same-length-5 : tie.Need-same-length-5
+same-length-5 c = search needs
+
+same-length-6 : tie.Need-same-length-6
+same-length-6 c = search needs
+
+returns-2 : tie.Need-returns-2
+returns-2 c = search (text-refused, text-listed, needs)
+
+same-length-7 : tie.Need-same-length-7
+same-length-7 c = search needs
+
+same-length-8 : tie.Need-same-length-8
+same-length-8 c = search needs
+
+same-length-9 : tie.Need-same-length-9
+same-length-9 c = search needs
+
+same-length-10 : tie.Need-same-length-10
+same-length-10 c = search needs
+
+same-length-11 : tie.Need-same-length-11
+same-length-11 c = search needs
+
+same-length-12 : tie.Need-same-length-12
+same-length-12 c = search needs
+
+returns-3 : tie.Need-returns-3
+returns-3 c = search (text-refused, text-listed, needs)
+
+pub find-pairs-spec : {M : Type 1} → statement M
+find-pairs-spec =
+    tie.close
+    (tie.spec
+    returns
+    check-text-requires
+    enum-known-checked
+    sub-table-pairs
+    part-table-pairs-start
+    part-table-pairs-end
+    table-pairs-requires
+    enum-known-checked-2
+    same-length
+    same-length-2
+    same-length-3
+    same-length-4
+    same-length-5
+    same-length-6
+    returns-2
+    same-length-7
+    same-length-8
+    same-length-9
+    same-length-10
+    same-length-11
+    same-length-12
+    returns-3)

@@ -1,0 +1,65 @@
+use Rattle.listing.proofs.Found.{found-within, found-carried, pairs-carried, bytes-room, bytes-listed, bytes-refused}
+use borrow.Author.Needs.{needs}
+use Rattle.listing.proofs.list_bytes.Statement.{statement}
+use Rattle.listing.proofs.list_bytes.Tie as tie
+
+pairs-of-requires : tie.Need-pairs-of-requires
+pairs-of-requires c κs = search needs
+
+enum-known-found : tie.Need-enum-known-found
+enum-known-found c = search needs
+
+enum-told : tie.Need-enum-told
+enum-told c = search needs
+
+listing-number-requires : tie.Need-listing-number-requires
+listing-number-requires c κs = search (found-carried, needs)
+
+same-length : tie.Need-same-length
+same-length c = search needs
+
+returns : tie.Need-returns
+returns c = search (bytes-refused, needs)
+
+sub-put-words : tie.Need-sub-put-words
+sub-put-words c = search needs
+
+part-put-words-start : tie.Need-part-put-words-start
+part-put-words-start c = search needs
+
+part-put-words-end : tie.Need-part-put-words-end
+part-put-words-end c = search (found-within, needs)
+
+put-words-requires : tie.Need-put-words-requires
+put-words-requires c κs = search (bytes-room, needs)
+
+listing-number-requires-2 : tie.Need-listing-number-requires-2
+listing-number-requires-2 c κs = search (pairs-carried, needs)
+
+same-length-2 : tie.Need-same-length-2
+same-length-2 c = search needs
+
+same-length-3 : tie.Need-same-length-3
+same-length-3 c = search needs
+
+returns-2 : tie.Need-returns-2
+returns-2 c = search (bytes-listed, needs)
+
+pub list-bytes-spec : {M : Type 1} → statement M
+list-bytes-spec =
+    tie.close
+    (tie.spec
+    pairs-of-requires
+    enum-known-found
+    enum-told
+    listing-number-requires
+    same-length
+    returns
+    sub-put-words
+    part-put-words-start
+    part-put-words-end
+    put-words-requires
+    listing-number-requires-2
+    same-length-2
+    same-length-3
+    returns-2)

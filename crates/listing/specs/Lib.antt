@@ -1,0 +1,2 @@
+-- The promise of the pair list, for words and for bytes.
+pub mod Listed

@@ -1,0 +1,59 @@
+-- Demand 2: what the pair list promises, of its answer and of the buffer that it was lent, and what its steps leave for the next one. 01, "Pairs, verdict, schedule".
+use Prim.Native.Nat.{ℕ, _/_, _<_}
+use mathlib.Core.List.{List, List·Memᴰ}
+use mathlib.Core.Logic.{_↔_}
+use mathlib.Core.Option.{Option, none, some}
+use mathlib.Core.Path.{_≡_}
+use lib.Dec.{leb}
+use lib.ListN.{length, take}
+use Rattle.laws.specs.Ascending.{Ascends}
+use Rattle.semantics.specs.Pairs.{Critical, pairList}
+use Rattle.text.specs.declared.Refusal.{Refusal}
+use Rattle.plan.specs.Settled.{tablePlan}
+use Rattle.plan.specs.Rules.{refusedIf, planOf, pairsRefusal}
+use Rattle.buffers.specs.LittleEndian.{listBytes}
+use Rattle.answers.specs.declared.Listing.{Listing}
+use Rattle.answers.specs.Answers.{filled, listingOf, listingNumber}
+
+-- the words of the critical pairs of procedure p of a text's plan
+abbrev pub pairsOf : List ℕ → ℕ → List ℕ
+pairsOf text p = pairList (planOf text .procs) p
+
+-- "A refusal .. writes nothing"
+abbrev pub written : Option Refusal → List ℕ → List ℕ → List ℕ
+written none given before = filled given before
+written (some r) given before = before
+
+-- demand 2: "For each procedure the listed pairs are exactly the critical pairs of the published definition, none missing and none added", "ascending without
+-- repeats"
+pub record Exact (text : List ℕ) (p : ℕ) : Type 0 where
+  pub critical : (w : ℕ) → List·Memᴰ w (pairsOf text p) ↔ Critical (planOf text .procs) p w
+  pub ascending : Ascends (pairsOf text p)
+
+-- The pair list of procedure p: the answer and the buffer of words, and where it is given, that it is exact.
+pub record Listed (text : List ℕ) (p : ℕ) (before : List ℕ) (r : Listing) (after : List ℕ) : Type 0 where
+  pub answer : r ≡ listingOf (pairsRefusal text p (length before)) (length (pairsOf text p))
+  pub buffer : after ≡ written (pairsRefusal text p (length before)) (pairsOf text p) before
+  pub exact : pairsRefusal text p (length before) ≡ none → Exact text p
+
+-- The same on a buffer of bytes, "each entry or word lowest byte first, the lengths of rule 1 counted in whole ones".
+pub record ListedBytes (text : List ℕ) (p : ℕ) (before : List ℕ) (r : ℕ) (after : List ℕ) : Type 0 where
+  pub answer : r ≡ listingNumber (listingOf (pairsRefusal text p (length before / 8)) (length (pairsOf text p)))
+  pub buffer : after ≡ written (pairsRefusal text p (length before / 8)) (listBytes 8 (pairsOf text p)) before
+  pub exact : pairsRefusal text p (length before / 8) ≡ none → Exact text p
+
+-- ---- the steps
+
+-- the answer, and where nothing is refused the words at the start of the list
+pub record WordsFound (refused : Option Refusal) (words : List ℕ) (r : Listing) (list : List ℕ) : Type 0 where
+  pub answer : r ≡ listingOf refused (length words)
+  pub listed : refused ≡ none → take (length words) list ≡ words
+  pub few : refused ≡ none → length words < 129
+
+-- of a procedure of a table: rule 11 where it is not there
+abbrev pub TablePairs : List ℕ → ℕ → Listing → List ℕ → Type 0
+TablePairs ws p r list = WordsFound (refusedIf 11 (leb (length (tablePlan ws .procs)) p)) (pairList (tablePlan ws .procs) p) r list
+
+-- of a procedure of a text, where `lent` words are lent for them
+abbrev pub PairsFound : List ℕ → ℕ → ℕ → Listing → List ℕ → Type 0
+PairsFound text p lent r list = WordsFound (pairsRefusal text p lent) (pairsOf text p) r list

@@ -1,0 +1,36 @@
+-- The part of a text that the text call answers with. 01, "Pairs, verdict, schedule".
+use Prim.Native.Nat.{ℕ, _+_, _-_}
+use mathlib.Core.Bool.{Bool, true, false, cond}
+use mathlib.Core.List.{List}
+use mathlib.Core.Option.{Option, none, some}
+use lib.Dec.{ltb}
+use lib.ListN.{length, drop}
+use Rattle.text.specs.Lines.{formsOf}
+use Rattle.text.specs.declared.Refusal.{Refusal}
+use Rattle.plan.specs.Table.{tableForms}
+use Rattle.plan.specs.Settled.{tablePlan}
+use Rattle.plan.specs.Rules.{planOf, planRefusal, procLineFrom}
+use Rattle.parts.specs.Parts.{Span, span, linesSpan, formsBefore, formsToClosing}
+
+-- "from the `(proc` line to its closing line, line end included": the lines of procedure p, where the text has it. They are the lines of the procedure's forms (theorem
+-- `proc-written`)
+unfoldable pub procLines : List ℕ → ℕ → Span
+procLines text p =
+    let line = procLineFrom 1 p (formsOf text) in
+    linesSpan text (line - 1) (line + formsToClosing 0 (drop line (formsOf text)))
+
+-- "with an empty part and no number if a rule about the plan (here 2 to 10) refuses it or the procedure is absent"
+abbrev pub orEmpty : Option Refusal → Bool → Span → Span
+orEmpty none true part = part
+orEmpty none false part = span 0 0
+orEmpty (some r) there part = span 0 0
+
+-- "The text call answers with the part of the caller's text from the `(proc` line to its closing line, line end included": which part of the text
+unfoldable pub procText : List ℕ → ℕ → Span
+procText text p = orEmpty (planRefusal text) (ltb p (length (planOf text .procs))) (procLines text p)
+
+-- the lines of a procedure of a table, in its text
+unfoldable pub tableLines : List ℕ → List ℕ → ℕ → Span
+tableLines text ws p =
+    let line = procLineFrom 1 p (tableForms ws) in
+    cond (ltb p (length (tablePlan ws .procs))) (linesSpan text (line - 1) (line + formsBefore (tableForms (drop line ws)))) (span 0 0)

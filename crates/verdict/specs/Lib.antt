@@ -1,0 +1,2 @@
+-- The promise of the verdict, for entries and for bytes.
+pub mod Judged

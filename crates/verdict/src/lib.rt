@@ -1,0 +1,85 @@
+// The verdict on a plan text: the rules, then the analysis of its table.
+ghost use mathlib.Core.Path.{_≡_};
+ghost use Prim.Native.Nat.{_≤_};
+ghost use lib.ListN.{length};
+ghost use Rattle.verdict.specs.Judged.{Judged, JudgedBytes, verdictOf};
+use answers::Verdict;
+use deadlock::Finding;
+use plan::Reading;
+use text::Refusal;
+
+// A finding over the plan's table, in the verdict's answer.
+fn verdict_of(finding: Finding) -> Verdict
+    ensures { λ r. ⌜ r ≡ verdictOf finding ⌝ }
+{
+    match finding {
+        Finding::Never => Verdict::Free,
+        Finding::Reached { entries, stuck } => Verdict::Deadlock { entries, stuck },
+    }
+}
+
+// The verdict on a text, with the schedule at the start of the entries.
+fn find_verdict(
+    text: &[u8],
+    entries: &mut [u16],
+    table: &mut [u64],
+    stack: &mut [u8],
+    starts: &mut [u64],
+    sizes: &mut [u64],
+    scratch: &mut [u64],
+    list: &mut [u64],
+) -> Verdict
+    requires { ⌜ (16384 ≤ length (now table)) × (16384 ≤ length (now stack)) × (64 ≤ length (now starts)) × (64 ≤ length (now sizes)) × (64 ≤ length (now scratch)) × (129 ≤ length (now list)) ⌝ }
+    ensures { λ r. ⌜ Judged (now (text .entry)) (now (entries .entry)) r (now (entries .exit)) ⌝ }
+{
+    if entries.len() < 6144 {
+        return Verdict::Refused(Refusal { rule: 1, line: 0 });
+    }
+    let checked = checked::check_text(text, table, stack, starts, sizes, scratch, list);
+    match checked {
+        Reading::Accepted(n) => verdict_of(deadlock::judge_table(&table[0..n], entries)),
+        Reading::Refused(refusal) => Verdict::Refused(refusal),
+    }
+}
+
+// The same with tables of its own.
+pub fn judge_text(text: &[u8], entries: &mut [u16]) -> Verdict
+    ensures { λ r. ⌜ Judged (now (text .entry)) (now (entries .entry)) r (now (entries .exit)) ⌝ }
+{
+    let mut table = [0u64; 16384];
+    let mut stack = [0u8; 16384];
+    let mut starts = [0u64; 64];
+    let mut sizes = [0u64; 64];
+    let mut scratch = [0u64; 64];
+    let mut list = [0u64; 129];
+    find_verdict(
+        text,
+        entries,
+        &mut table,
+        &mut stack,
+        &mut starts,
+        &mut sizes,
+        &mut scratch,
+        &mut list,
+    )
+}
+
+// The schedule as bytes at the start of `out`, two for each entry, lowest first, and the verdict as a number; by way of 6,144 entries.
+pub fn verdict_bytes(text: &[u8], out: &mut [u8], entries: &mut [u16]) -> u64
+    requires { ⌜ length (now entries) ≡ 6144 ⌝ }
+    ensures { λ r. ⌜ JudgedBytes (now (text .entry)) (now (out .entry)) r (now (out .exit)) ⌝ }
+{
+    if out.len() / 2 < 6144 {
+        return answers::verdict_number(Verdict::Refused(Refusal { rule: 1, line: 0 }));
+    }
+    let verdict = judge_text(text, entries);
+    let Verdict::Deadlock {
+        entries: n,
+        stuck: _,
+    } = verdict
+    else {
+        return answers::verdict_number(verdict);
+    };
+    buffers::put_entries(&entries[0..n], out);
+    answers::verdict_number(verdict)
+}
