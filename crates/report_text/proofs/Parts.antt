@@ -20,8 +20,8 @@ use Rattle.deadlock.specs.Findings.{Within}
 use Rattle.report_lines.specs.Lines.{reportOpen, freeLine, closing, procLines, deadlockLines, refusedLine, procLinesRoom, deadlockRoom, Wrote}
 use Rattle.report_lines.proofs.Writing.{wrote-none}
 use Rattle.report_text.specs.declared.Judged.{Judged}
-use Rattle.lockplan.specs.declared.Verdict.{Verdict}
-use Rattle.lockplan.specs.declared.Verdict.the-variants.{Free, Deadlock, Refused}
+use Rattle.answers.specs.declared.Verdict.{Verdict}
+use Rattle.answers.specs.declared.Verdict.the-variants.{Free, Deadlock, Refused}
 use Rattle.report_text.specs.Report.{procedures, procParts, verdictPart, partsOf, partOf}
 use Rattle.report_text.specs.Tables.{entryRoom, partRoom, scheduleLength, scheduleIn, ProcTables, Prepared}
 

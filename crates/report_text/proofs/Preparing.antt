@@ -5,7 +5,7 @@ use mathlib.Core.Path.{_≡_, refl, sym, ap, subst, _∙_}
 use mathlib.Core.List.{List}
 use mathlib.Core.Option.{Option, none, some, Option·none-ne-some}
 use lib.ListN.{length, take, length-take}
-use lib.Seq.{length-take-le}
+use lib.Seq.{length-take-le, take-at}
 use Rattle.semantics.specs.Plan.{LockPlan}
 use Rattle.plan.specs.declared.Reading.{Reading}
 use Rattle.plan.specs.declared.Reading.the-variants.{Accepted}
@@ -15,21 +15,24 @@ use Rattle.text.specs.declared.Refusal.{Refusal}
 use Rattle.plan.specs.Rules.{planRefusal, planOf, readingOf, Tabled}
 use Rattle.plan.specs.Settled.{tablePlan}
 use Rattle.checked.proofs.Checked.{plan-kept, plan-forms, plan-room, plan-table, plan-sizes, plan-few}
-use Rattle.deadlock.specs.declared.Finding.{Finding}
-use Rattle.deadlock.specs.declared.Finding.the-variants.{Never, Reached}
 use Rattle.deadlock.specs.Findings.{Within, Found}
 use Rattle.report_text.specs.declared.Judged.{Judged}
-use Rattle.lockplan.specs.declared.Verdict.{Verdict}
-use Rattle.lockplan.specs.declared.Verdict.the-variants.{Free, Deadlock, Refused}
-use Rattle.lockplan.specs.Judgement.{Judgement}
+use Rattle.answers.specs.declared.Verdict.{Verdict}
+use Rattle.answers.specs.declared.Verdict.the-variants.{Free, Deadlock, Refused}
+use Rattle.answers.specs.Answers.{filled}
+use Rattle.answers.specs.Judgement.{Judgement}
 use Rattle.report_text.specs.Report.{procedures}
-use Rattle.report_text.specs.Tables.{tableRoom, verdictOf, scheduleLength, scheduleIn, PlanPrepared, Prepared, ProcTables}
+use Rattle.report_text.specs.Tables.{tableRoom, scheduleLength, scheduleIn, PlanPrepared, Prepared, ProcTables}
 
-pub found-judged : (ws before after : List ℕ) (f : Finding) (v : Verdict) → v ≡ verdictOf f → Found ws before f after
-    → Judgement none (tablePlan ws) v (scheduleIn v after)
-unfolding Found Judgement scheduleIn scheduleLength
-found-judged ws before after Never v e d = rw e (refl, refl, d .0)
-found-judged ws before after (Reached n S) v e d = rw e (refl, length-take-le n after (d .1), d .0)
+start-taken : (refused : Option Refusal) (plan : LockPlan) (v : Verdict) (schedule before : List ℕ) → Judgement refused plan v schedule
+    → scheduleIn v (filled schedule before) ≡ schedule
+unfolding Judgement scheduleIn scheduleLength
+start-taken refused plan Free schedule before d = sym (d .1)
+start-taken refused plan (Deadlock n S) schedule before d = take-at schedule _ n (d .1)
+start-taken refused plan (Refused x) schedule before d = sym (d .1)
+
+pub found-judged : (ws before after : List ℕ) (v : Verdict) → Found ws before v after → Judgement none (tablePlan ws) v (scheduleIn v after)
+found-judged ws before after v d = rw (d .buffer, start-taken none (tablePlan ws) v (d .schedule) before (d .judged)) (d .judged)
 
 -- ---- an accepted text
 

@@ -13,9 +13,9 @@ use Rattle.plan.specs.Rules.{planRefusal, planOf, readerRefusal}
 use Rattle.plan.proofs.Sound.{accepted-settled}
 use Rattle.report_lines.specs.Lines.{reportOpen, freeLine, closing, procOpen, procLines, deadlockOpen, deadlockLines, refusedLine}
 use Rattle.report_text.specs.declared.Judged.{Judged}
-use Rattle.lockplan.specs.declared.Verdict.{Verdict}
-use Rattle.lockplan.specs.declared.Verdict.the-variants.{Free, Deadlock, Refused}
-use Rattle.lockplan.specs.Judgement.{Judgement}
+use Rattle.answers.specs.declared.Verdict.{Verdict}
+use Rattle.answers.specs.declared.Verdict.the-variants.{Free, Deadlock, Refused}
+use Rattle.answers.specs.Judgement.{Judgement}
 use Rattle.report_text.specs.Report.{procedures, procParts, verdictPart, partsOf, partOf, Report}
 use Rattle.report_text.specs.Tables.{mostParts, scheduleIn, Prepared}
 

@@ -7,10 +7,10 @@ use lib.ListN.{length, getD}
 use Rattle.semantics.specs.Plan.{Block, LockPlan}
 use Rattle.semantics.specs.Pairs.{pairList}
 use Rattle.plan.specs.Rules.{planOf, planRefusal}
-use Rattle.lockplan.specs.Judgement.{Judgement}
+use Rattle.answers.specs.Judgement.{Judgement}
 use Rattle.report_lines.specs.Lines.{reportOpen, freeLine, closing, procLines, deadlockLines, refusedLine}
-use Rattle.lockplan.specs.declared.Verdict.{Verdict}
-use Rattle.lockplan.specs.declared.Verdict.the-variants.{Free, Deadlock, Refused}
+use Rattle.answers.specs.declared.Verdict.{Verdict}
+use Rattle.answers.specs.declared.Verdict.the-variants.{Free, Deadlock, Refused}
 
 -- the procedures that are reported: "A refused plan gives only `(report`, `(refused R L)` (rule, line) and `)`"
 unfoldable pub procedures : Verdict → LockPlan → ℕ

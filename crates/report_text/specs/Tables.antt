@@ -7,14 +7,12 @@ use lib.ListN.{length, take}
 use Rattle.plan.specs.Rules.{planOf, planRefusal}
 use Rattle.plan.specs.Settled.{tablePlan}
 use Rattle.plan.specs.Starts.{Starts}
-use Rattle.deadlock.specs.declared.Finding.{Finding}
-use Rattle.deadlock.specs.declared.Finding.the-variants.{Never, Reached}
 use Rattle.deadlock.specs.Findings.{Within}
 use Rattle.report_lines.specs.Lines.{deadlockRoom}
 use Rattle.report_text.specs.declared.Judged.{Judged}
-use Rattle.lockplan.specs.declared.Verdict.{Verdict}
-use Rattle.lockplan.specs.declared.Verdict.the-variants.{Free, Deadlock, Refused}
-use Rattle.lockplan.specs.Judgement.{Judgement}
+use Rattle.answers.specs.declared.Verdict.{Verdict}
+use Rattle.answers.specs.declared.Verdict.the-variants.{Free, Deadlock, Refused}
+use Rattle.answers.specs.Judgement.{Judgement}
 use Rattle.report_text.specs.Report.{procedures}
 
 -- the room for the forms of a text, for the entries of a schedule, and for a part of the report, of which the lines of a deadlock are the longest
@@ -30,11 +28,6 @@ partRoom = deadlockRoom entryRoom
 -- no report has more parts: the opening, 64 procedures, the verdict, the closing line
 abbrev pub mostParts : ℕ
 mostParts = 67
-
--- a finding over the plan's table, as the verdict
-abbrev pub verdictOf : Finding → Verdict
-verdictOf Never = Free
-verdictOf (Reached n S) = Deadlock n S
 
 -- how many entries a verdict's schedule has
 unfoldable pub scheduleLength : Verdict → ℕ

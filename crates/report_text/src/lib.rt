@@ -9,9 +9,8 @@ ghost use Rattle.plan.specs.Starts.{Starts};
 ghost use Rattle.deadlock.specs.Findings.{Within};
 ghost use Rattle.report_lines.specs.Lines.{procLines, Wrote};
 ghost use Rattle.report_text.specs.Report.{verdictPart, partOf};
-ghost use Rattle.report_text.specs.Tables.{tableRoom, entryRoom, partRoom, verdictOf, scheduleLength, scheduleIn, PlanPrepared, Prepared, ProcTables};
-use deadlock::Finding;
-use lockplan::Verdict;
+ghost use Rattle.report_text.specs.Tables.{tableRoom, entryRoom, partRoom, scheduleLength, scheduleIn, PlanPrepared, Prepared, ProcTables};
+use answers::Verdict;
 use plan::Reading;
 
 // The room of the lent tables: the forms of a text, the entries of a schedule, a part of the report.
@@ -53,29 +52,19 @@ fn read_text(text: &[u8], table: &mut [u64]) -> Reading
     )
 }
 
-// A finding over the plan's table, as the verdict.
-fn verdict_of(finding: Finding) -> Verdict
-    ensures { λ r. ⌜ r ≡ verdictOf finding ⌝ }
-{
-    match finding {
-        Finding::Never => Verdict::Free,
-        Finding::Reached { entries, stuck } => Verdict::Deadlock { entries, stuck },
-    }
-}
-
 // The plan of a table judged, its schedule left in the entries.
 fn judge_plan(table: &[u64], entries: &mut [u16]) -> Judged
     requires { ⌜ Within (now table) × (entryRoom ≤ length (now entries)) ⌝ }
     ensures { λ r. ⌜ PlanPrepared (now (table .entry)) r (now (entries .exit)) ⌝ }
 {
-    let finding = deadlock::judge_table(table, entries);
+    let verdict = deadlock::judge_table(table, entries);
     let mut starts = [0u64; 64];
     let procs = procs::find_procs(table, &mut starts);
     Judged {
         forms: table.len(),
         procs,
         starts,
-        verdict: verdict_of(finding),
+        verdict,
     }
 }
 

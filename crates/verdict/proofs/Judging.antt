@@ -1,35 +1,31 @@
 -- The verdict from the plan's rules and the finding over its table, for entries and for bytes.
 use Prim.Native.Nat.{ℕ, _-_, _*_, _/_, _^_, _<_, _≤_}
 use native.Mathlib.Omega.{arith}
-use mathlib.Core.Path.{_≡_, refl, sym, ap, subst, _∙_}
+use mathlib.Core.Path.{_≡_, refl, sym, ap, _∙_}
 use mathlib.Core.List.{List, [], _∷_, _++_}
 use mathlib.Core.Option.{Option, none, some, orElse}
-use lib.ListN.{length, take, drop, length-take, length-append, take-append-drop}
-use lib.Seq.{length-take-le, take-at}
+use lib.ListN.{length, take, drop, length-take, length-append}
+use lib.Seq.{take-at}
 use borrow.Author.Tests.{lt-ltb, le-ltb}
 use denote.Enum.Declared.{tagOf}
 use types.Run.{OneOf, miss}
-use Rattle.laws.specs.Mask.{inMask}
 use Rattle.text.specs.Lines.{refusal, formsOf}
 use Rattle.text.specs.declared.Refusal.{Refusal}
 use Rattle.semantics.specs.Plan.{LockPlan}
-use Rattle.semantics.specs.Stuck.{DeadlockFree, Schedule}
 use Rattle.plan.specs.declared.Reading.{Reading}
 use Rattle.plan.specs.declared.Reading.the-variants.{Accepted}
 use Rattle.plan.specs.declared.Reading.the-variants as plan
 use Rattle.plan.specs.Grammar.{planIn}
-use Rattle.plan.specs.Table.{tableForms}
+use Rattle.plan.specs.Settled.{tablePlan}
 use Rattle.plan.specs.Rules.{planOf, planRefusal, verdictRefusal, readingOf, Tabled}
 use Rattle.buffers.specs.LittleEndian.{listBytes}
 use Rattle.buffers.proofs.Filled.{list-length}
-use Rattle.deadlock.specs.declared.Finding.{Finding}
-use Rattle.deadlock.specs.declared.Finding.the-variants.{Never, Reached}
 use Rattle.deadlock.specs.Findings.{Within, Found}
 use Rattle.answers.specs.declared.Verdict.{Verdict}
 use Rattle.answers.specs.declared.Verdict.the-variants.{Free, Deadlock, Refused}
 use Rattle.answers.specs.Answers.{filled, verdictNumber, verdictHigh}
 use Rattle.answers.specs.Judgement.{Judgement}
-use Rattle.verdict.specs.Judged.{Judged, JudgedBytes, verdictOf}
+use Rattle.verdict.specs.Judged.{Judged, JudgedBytes}
 use Rattle.checked.proofs.Checked.{plan-kept, plan-forms, plan-table, plan-few, plan-sizes}
 use Rattle.answers.proofs.LineBounds.{verdict-bounded}
 use Rattle.answers.proofs.Verdict.{the-type}
@@ -62,29 +58,16 @@ pub table-within : (text table : List ℕ) (q : Reading) (n : ℕ) → Tabled (p
 table-within text table q n t g =
     record { plan = plan-table text table q n t g; sizes = plan-sizes text table q n t g; pairs = plan-few text table q n t g }
 
--- what is kept behind the schedule is the rest of the buffer
-start-filled : (n : ℕ) (before after : List ℕ) → n ≤ length after → drop n after ≡ drop n before → after ≡ filled (take n after) before
-start-filled n before after h e = rw (length-take-le n after h) (sym (take-append-drop n after) ∙ ap (λ l. take n after ++ l) e)
-
--- over the text's plan
-over-text : (text before after ws : List ℕ) (f : Finding) → tableForms ws ≡ formsOf text → verdictRefusal text (length before) ≡ none → Found ws before f after
-    → Judged text before (verdictOf f) after
-unfolding Found Judgement planOf
-over-text text before after ws Never e z d = record {
-  schedule = [];
-  judged = (z, refl, subst (λ fs. DeadlockFree (planIn fs .procs) (planIn fs .threads)) e (d .0));
-  buffer = d .1;
-}
-over-text text before after ws (Reached n S) e z d = record {
-  schedule = take n after;
-  judged = (z, length-take-le n after (d .1), subst (λ fs. Schedule (planIn fs) (take n after) (inMask S)) e (d .0));
-  buffer = start-filled n before after (d .1) (d .2);
-}
-
-pub judged-found : (text before after table : List ℕ) (n : ℕ) (q : Reading) (f : Finding) (r : Verdict) → 6144 ≤ length before
-    → Tabled (planRefusal text) text q table → q ≡ Accepted n → Found (take (n - 0) table) before f after → r ≡ verdictOf f → Judged text before r after
-judged-found text before after table n q f r h t g d k =
-    rw k (over-text text before after (take (n - 0) table) f (plan-forms text table q n t g) (enough text (length before) h ∙ plan-kept text table q n t g) d)
+pub judged-found : (text before after table : List ℕ) (n : ℕ) (q : Reading) (r : Verdict) → 6144 ≤ length before → Tabled (planRefusal text) text q table → q ≡ Accepted n
+    → Found (take (n - 0) table) before r after → Judged text before r after
+unfolding planOf
+judged-found text before after table n q r h t g d =
+    let same : tablePlan (take (n - 0) table) ≡ planOf text = ap planIn (plan-forms text table q n t g) in
+    record {
+      schedule = d .schedule;
+      judged = rw (enough text (length before) h ∙ plan-kept text table q n t g, ← same) (d .judged);
+      buffer = d .buffer;
+    }
 
 -- ---- bytes
 

@@ -5,10 +5,7 @@ use mathlib.Core.Path.{_≡_}
 use lib.ListN.{length}
 use Rattle.plan.specs.Rules.{planOf, verdictRefusal}
 use Rattle.buffers.specs.LittleEndian.{listBytes}
-use Rattle.deadlock.specs.declared.Finding.{Finding}
-use Rattle.deadlock.specs.declared.Finding.the-variants.{Never, Reached}
 use Rattle.answers.specs.declared.Verdict.{Verdict}
-use Rattle.answers.specs.declared.Verdict.the-variants.{Free, Deadlock}
 use Rattle.answers.specs.Answers.{filled, verdictNumber}
 use Rattle.answers.specs.Judgement.{Judgement}
 
@@ -25,8 +22,3 @@ pub record JudgedBytes (text before : List ℕ) (r : ℕ) (after : List ℕ) : T
   pub number : r ≡ verdictNumber verdict
   pub judged : Judgement (verdictRefusal text (length before / 2)) (planOf text) verdict schedule
   pub buffer : after ≡ filled (listBytes 2 schedule) before
-
--- a finding over the plan's table, in the verdict's answer
-abbrev pub verdictOf : Finding → Verdict
-verdictOf Never = Free
-verdictOf (Reached n S) = Deadlock n S

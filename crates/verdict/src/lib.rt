@@ -2,21 +2,10 @@
 ghost use mathlib.Core.Path.{_≡_};
 ghost use Prim.Native.Nat.{_≤_};
 ghost use lib.ListN.{length};
-ghost use Rattle.verdict.specs.Judged.{Judged, JudgedBytes, verdictOf};
+ghost use Rattle.verdict.specs.Judged.{Judged, JudgedBytes};
 use answers::Verdict;
-use deadlock::Finding;
 use plan::Reading;
 use text::Refusal;
-
-// A finding over the plan's table, in the verdict's answer.
-fn verdict_of(finding: Finding) -> Verdict
-    ensures { λ r. ⌜ r ≡ verdictOf finding ⌝ }
-{
-    match finding {
-        Finding::Never => Verdict::Free,
-        Finding::Reached { entries, stuck } => Verdict::Deadlock { entries, stuck },
-    }
-}
 
 // The verdict on a text, with the schedule at the start of the entries.
 fn find_verdict(
@@ -37,7 +26,7 @@ fn find_verdict(
     }
     let checked = checked::check_text(text, table, stack, starts, sizes, scratch, list);
     match checked {
-        Reading::Accepted(n) => verdict_of(deadlock::judge_table(&table[0..n], entries)),
+        Reading::Accepted(n) => deadlock::judge_table(&table[0..n], entries),
         Reading::Refused(refusal) => Verdict::Refused(refusal),
     }
 }

@@ -7,7 +7,6 @@ use Rattle.report_text.proofs.judge_plan.Reads as reads
 use Rattle.report_text.proofs.judge_plan.Lts as lts
 use Rattle.deadlock.proofs.judge_table.Reads as judge-table-reads
 use Rattle.procs.proofs.find_procs.Reads as find-procs-reads
-use Rattle.report_text.proofs.verdict_of.Reads as verdict-of-reads
 
 judge-table-requires : tie.Need-judge-table-requires
 judge-table-requires c κs = search needs
@@ -17,9 +16,6 @@ slice-aggregate-find-procs c = search needs
 
 find-procs-requires : tie.Need-find-procs-requires
 find-procs-requires c κs = search needs
-
-verdict-of-requires : tie.Need-verdict-of-requires
-verdict-of-requires c κs = search needs
 
 same-length : tie.Need-same-length
 same-length c = search needs
@@ -34,6 +30,6 @@ judge-plan-spec =
     judge-table-requires
     slice-aggregate-find-procs
     find-procs-requires
-    verdict-of-requires
     same-length
     returns)
+

@@ -77,3 +77,4 @@ put-verdict-spec =
     returns-2
     same-length-3
     returns-3)
+

@@ -25,9 +25,6 @@ part-judge-table-end c = search (plan-room, needs)
 judge-table-requires : tie.Need-judge-table-requires
 judge-table-requires c κs = search (table-within, needs)
 
-verdict-of-requires : tie.Need-verdict-of-requires
-verdict-of-requires c κs = search needs
-
 enum-known-checked-2 : tie.Need-enum-known-checked-2
 enum-known-checked-2 c = search needs
 
@@ -87,7 +84,6 @@ find-verdict-spec =
     part-judge-table-start
     part-judge-table-end
     judge-table-requires
-    verdict-of-requires
     enum-known-checked-2
     same-length
     same-length-2
@@ -104,3 +100,4 @@ find-verdict-spec =
     same-length-12
     same-length-13
     returns-3)
+
