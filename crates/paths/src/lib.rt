@@ -1,7 +1,7 @@
 // The path to a critical pair: the walk of a procedure, with its steps written down as it goes.
 ghost use mathlib.Core.Path.{_≡_};
 ghost use mathlib.Core.Bool.{false};
-ghost use Prim.Native.Nat.{_+_, _*_, _^_, _<_, _≤_};
+ghost use Prim.Native.Nat.{_+_, _^_, _<_, _≤_};
 ghost use lib.ListN.{length, getD, take};
 ghost use Rattle.text.specs.declared.Form.the-variants.{Call, Hold, Loop, Either};
 ghost use Rattle.semantics.proofs.Paths.{stepOf, gives, holding, put as putStep};
@@ -130,7 +130,8 @@ fn enter(
     n: usize,
 ) -> Stop
     requires { ⌜ Ready (now table) (now starts) way (now steps) n × (choice < 4) ⌝ }
-    ensures { λ r. ⌜ Walks (now (table .entry)) way at (now (steps .entry)) n (putStep (take n (now (steps .entry))) choice (way .mask)) (n + 1) r (now (steps .exit)) ⌝ }
+    ensures { λ r. ⌜ Walks (now (table .entry)) way at (now (steps .entry)) n
+        (putStep (take n (now (steps .entry))) choice (way .mask)) (n + 1) r (now (steps .exit)) ⌝ }
 {
     let k = put(steps, n, choice, way.mask);
     walk(table, starts, way, at, steps, k)
