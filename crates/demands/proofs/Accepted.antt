@@ -110,12 +110,12 @@ module _ (text : List ℕ) where
   pairs-accepted-exactly p lent =
       let absent = refusedIf 11 (leb (length (planOf text .procs)) p) in (
         λ e.
-        let y = first-none (refusedIf 1 (ltb lent 128)) (orElse (planRefusal text) absent) e in
-        let z = first-none (planRefusal text) absent (y .1) in
-        let x = accepted (z .0) in (
-          ltb-false lent 128 (unflagged 1 (ltb lent 128) (y .0)),
-          x,
-          subst (λ (q : LockPlan). p < length (q .procs)) (accepted-plan x) (leb-false (length (planOf text .procs)) p (unflagged 11 _ (z .1))),
-        ),
+            let y = first-none (refusedIf 1 (ltb lent 128)) (orElse (planRefusal text) absent) e in
+            let z = first-none (planRefusal text) absent (y .1) in
+            let x = accepted (z .0) in (
+              ltb-false lent 128 (unflagged 1 (ltb lent 128) (y .0)),
+              x,
+              subst (λ (q : LockPlan). p < length (q .procs)) (accepted-plan x) (leb-false (length (planOf text .procs)) p (unflagged 11 _ (z .1))),
+            ),
         λ y. rw (le-ltb lent 128 (y .0), unrefused (y .1), accepted-plan (y .1), lt-leb (length (y .1 .plan .procs)) p (y .2)),
       )

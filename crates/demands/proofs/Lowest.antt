@@ -153,9 +153,9 @@ module _ (fs : List Form) (written : fs ≡ forms (planIn fs)) (test : ℕ → B
           line = subst (λ gs. LineWhere (BeginsProc p) gs n) written (proc-line fs p n (there p present) (Option·some-injective (procLineFrom 1 p fs) n e));
         },
         λ y.
-        let same : y .proc ≡ p = first-unique (P (planIn fs .procs)) (y .proc) p (y .lowest) first in
-        let at : LineWhere (BeginsProc p) fs n = rw (same, ← written) at (y .line) in
-        ap {B = Option ℕ} some (line-proc fs p n (there p present) at),
+            let same : y .proc ≡ p = first-unique (P (planIn fs .procs)) (y .proc) p (y .lowest) first in
+            let at : LineWhere (BeginsProc p) fs n = rw (same, ← written) at (y .line) in
+            ap {B = Option ℕ} some (line-proc fs p n (there p present) at),
       )
 
   pub lowest-names : Names (namedProc fs (lowestFrom test 0 (length (planIn fs .procs)))) (LowestProc P (planIn fs))

@@ -115,8 +115,8 @@ module _ (text : List ℕ) where
         let d = accepted-denotes (formsOf text) (x .structured) in (
           λ e. record { plan = plan; grammatical = d .0; written = subst (IsText text) (d .1) (readable-written text (x .readable)); broken = h n .0 e },
           λ y.
-          let same : plan ≡ y .plan = ap planIn (same-forms (x .readable) (forms (y .plan)) (y .written)) ∙ plan-of-forms (y .plan) (y .grammatical) in
-          h n .1 (subst (λ q. P q n) (sym same) (y .broken)),
+              let same : plan ≡ y .plan = ap planIn (same-forms (x .readable) (forms (y .plan)) (y .written)) ∙ plan-of-forms (y .plan) (y .grammatical) in
+              h n .1 (subst (λ q. P q n) (sym same) (y .broken)),
         )
 
     by-proc : (number : ℕ) (P : List Block → ℕ → Type 0) (test : ℕ → Bool) → ((p : ℕ) → p < length (plan .procs) → Decides (test p) (P (plan .procs) p))

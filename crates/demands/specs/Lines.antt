@@ -29,29 +29,84 @@ count kind (f ∷ fs) = cond (kind f) 1 0 + count kind fs
 -- `(proc`
 unfoldable pub isProc : Form → Bool
 isProc f =
-    elim f [ Plan ↦ false | Proc ↦ true | Thread n ↦ false | Close ↦ false | Skip ↦ false
-    | Call n ↦ false | Hold l ↦ false | Loop ↦ false | Either ↦ false | One ↦ false | Two ↦ false ]
+    elim f [
+      | Plan ↦ false
+      | Proc ↦ true
+      | Thread n ↦ false
+      | Close ↦ false
+      | Skip ↦ false
+      | Call n ↦ false
+      | Hold l ↦ false
+      | Loop ↦ false
+      | Either ↦ false
+      | One ↦ false
+      | Two ↦ false
+    ]
 
 -- `(thread N)`
 unfoldable pub isThread : Form → Bool
 isThread f =
-    elim f [ Plan ↦ false | Proc ↦ false | Thread n ↦ true | Close ↦ false | Skip ↦ false
-    | Call n ↦ false | Hold l ↦ false | Loop ↦ false | Either ↦ false | One ↦ false | Two ↦ false ]
+    elim f [
+      | Plan ↦ false
+      | Proc ↦ false
+      | Thread n ↦ true
+      | Close ↦ false
+      | Skip ↦ false
+      | Call n ↦ false
+      | Hold l ↦ false
+      | Loop ↦ false
+      | Either ↦ false
+      | One ↦ false
+      | Two ↦ false
+    ]
 
 -- "A statement is `(skip)`; `(call N)`; `(hold N` ..; `(loop` ..; or `(either` .."
 unfoldable pub isStatement : Form → Bool
 isStatement f =
-    elim f [ Plan ↦ false | Proc ↦ false | Thread n ↦ false | Close ↦ false | Skip ↦ true
-    | Call n ↦ true | Hold l ↦ true | Loop ↦ true | Either ↦ true | One ↦ false | Two ↦ false ]
+    elim f [
+      | Plan ↦ false
+      | Proc ↦ false
+      | Thread n ↦ false
+      | Close ↦ false
+      | Skip ↦ true
+      | Call n ↦ true
+      | Hold l ↦ true
+      | Loop ↦ true
+      | Either ↦ true
+      | One ↦ false
+      | Two ↦ false
+    ]
 
 -- "brackets of hold, loop, either, one and two"
 unfoldable pub isBracket : Form → Bool
 isBracket f =
-    elim f [ Plan ↦ false | Proc ↦ false | Thread n ↦ false | Close ↦ false | Skip ↦ false
-    | Call n ↦ false | Hold l ↦ true | Loop ↦ true | Either ↦ true | One ↦ true | Two ↦ true ]
+    elim f [
+      | Plan ↦ false
+      | Proc ↦ false
+      | Thread n ↦ false
+      | Close ↦ false
+      | Skip ↦ false
+      | Call n ↦ false
+      | Hold l ↦ true
+      | Loop ↦ true
+      | Either ↦ true
+      | One ↦ true
+      | Two ↦ true
+    ]
 
 -- `)`
 unfoldable pub isClose : Form → Bool
 isClose f =
-    elim f [ Plan ↦ false | Proc ↦ false | Thread n ↦ false | Close ↦ true | Skip ↦ false
-    | Call n ↦ false | Hold l ↦ false | Loop ↦ false | Either ↦ false | One ↦ false | Two ↦ false ]
+    elim f [
+      | Plan ↦ false
+      | Proc ↦ false
+      | Thread n ↦ false
+      | Close ↦ true
+      | Skip ↦ false
+      | Call n ↦ false
+      | Hold l ↦ false
+      | Loop ↦ false
+      | Either ↦ false
+      | One ↦ false
+      | Two ↦ false
+    ]

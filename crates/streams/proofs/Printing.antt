@@ -1,9 +1,11 @@
 -- A part that has no byte is past the last one, and no report has more than 67: so the loop prints every part, and stops behind the last.
 use Prim.Native.Nat.{ℕ, _+_, _<_, _≤_}
 use native.Mathlib.Omega.{arith}
+use mathlib.Core.Bool.{true, false, not}
 use mathlib.Core.List.{List}
 use mathlib.Core.Logic.{⊎-elim}
-use mathlib.Core.Path.{_≡_}
+use mathlib.Core.Path.{_≡_, subst}
+use lib.Dec.{T}
 use lib.ListN.{length}
 use Rattle.laws.proofs.Tests.{lt-or-le}
 use Rattle.report_lines.specs.Lines.{Wrote}
@@ -29,3 +31,7 @@ module _ (text : List ℕ) (j : Judged) (table entries out out′ : List ℕ) (k
 
 pub most-printed : (text : List ℕ) (j : Judged) (table entries : List ℕ) (k : ℕ) → Prepared text j table entries → k ≤ count text j entries → 67 ≤ k → k ≡ count text j entries
 most-printed text j table entries k x b h = omega (arith, few-parts text (j .verdict) (scheduleIn (j .verdict) entries) (x .judged))
+
+-- a report of which a part was not written
+pub not-whole : {A : Type 0} → false ≡ true → A
+not-whole e = absurd (subst (λ b. T (not b)) e tt)

@@ -1,30 +1,55 @@
 // The standard streams of a program: a text read from standard input, and the report on a text printed to standard output, part by part.
 ghost use Prim.Native.Nat.{_≤_};
+ghost use mathlib.Core.Bool.{true};
+ghost use mathlib.Core.Path.{_≡_};
 ghost use lib.ListN.{length};
 ghost use Rattle.io.specs.Counts.{Counts};
-ghost use Rattle.report_text.specs.Tables.{tableRoom, entryRoom, partRoom, Prepared};
+ghost use Rattle.report_text.specs.Report.{partsOf};
+ghost use Rattle.report_text.specs.Tables.{tableRoom, entryRoom, partRoom, scheduleIn, Prepared};
 use report_text::ENTRY_ROOM;
 use report_text::Judged;
 use report_text::MOST_PARTS;
 use report_text::PART_ROOM;
 use report_text::TABLE_ROOM;
 
-// The parts of the report on a text that was judged, up to the last: whether all were written.
-fn print_parts(text: &[u8], judged: Judged, table: &[u64], entries: &[u16], out: &mut [u8]) -> bool
+// What was printed of a report: whether all of it, and how many parts.
+pub struct Printed {
+    pub whole: bool,
+    pub parts: usize,
+}
+
+// The parts of the report on a text that was judged, in order, up to the last.
+fn print_parts(
+    text: &[u8],
+    judged: Judged,
+    table: &[u64],
+    entries: &[u16],
+    out: &mut [u8],
+) -> Printed
     requires { ⌜ Prepared (now text) judged (now table) (now entries) × (length (now entries) ≤ entryRoom) × (partRoom ≤ length (now out)) ⌝ }
+    ensures { λ r. ⌜ (r .whole ≡ true → r .parts ≡ length (partsOf (now (text .entry)) (judged .verdict) (scheduleIn (judged .verdict) (now (entries .entry))))) ⌝ }
 {
     let mut k: usize = 0;
     while k < MOST_PARTS {
         let n = report_text::put_part(text, judged, table, entries, k, out);
         if n == 0 {
-            return true;
+            return Printed {
+                whole: true,
+                parts: k,
+            };
         }
         if !io::write_all(1, &out[0..n]) {
-            return false;
+            return Printed {
+                whole: false,
+                parts: k,
+            };
         }
         k += 1;
     }
-    true
+    Printed {
+        whole: true,
+        parts: k,
+    }
 }
 
 // The text is read and judged once.
@@ -32,7 +57,8 @@ fn print_text(text: &[u8], table: &mut [u64], entries: &mut [u16], out: &mut [u8
     requires { ⌜ (tableRoom ≤ length (now table)) × (length (now entries) ≤ entryRoom) × (entryRoom ≤ length (now entries)) × (partRoom ≤ length (now out)) ⌝ }
 {
     let judged = report_text::judge_text(text, table, entries);
-    print_parts(text, judged, table, entries, out)
+    let printed = print_parts(text, judged, table, entries, out);
+    printed.whole
 }
 
 // The report on a text: whether all of it was written.

@@ -32,4 +32,3 @@ judge-plan-spec =
     find-procs-requires
     same-length
     returns)
-

@@ -77,4 +77,3 @@ put-verdict-spec =
     returns-2
     same-length-3
     returns-3)
-

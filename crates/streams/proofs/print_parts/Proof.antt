@@ -1,8 +1,9 @@
--- A turn prints the next part, which lies within the buffer; the buffer keeps its length.
+-- A turn prints the next part, which lies within the buffer; the buffer keeps its length. Without a byte the last part is behind.
 use borrow.Author.Needs.{needs}
 use Prim.Native.Nat.{_-_, _≤_}
 use mathlib.Core.Path.{_≡_}
 use lib.ListN.{length}
+use Rattle.streams.proofs.Printing.{count, another-part, last-printed, most-printed, not-whole}
 use Rattle.streams.proofs.print_parts.Statement.{statement}
 use Rattle.streams.proofs.print_parts.Tie as tie
 use Rattle.streams.proofs.print_parts.Reads as reads
@@ -11,7 +12,7 @@ use Rattle.io.proofs.write_all.Reads as write-all-reads
 use Rattle.report_text.proofs.put_part.Reads as put-part-reads
 
 abbrev Inv-loop : tie.InvT-loop
-Inv-loop text judged table entries out₀ k₀ out k = (k ≤ 67) × (length out ≡ length out₀)
+Inv-loop text judged table entries out₀ k₀ out k = (k ≤ 67) × (length out ≡ length out₀) × (k ≤ count text judged entries)
 
 abbrev μ-loop : tie.MeasureT-loop
 μ-loop text judged table entries out₀ k₀ out k = 67 - k
@@ -26,7 +27,7 @@ same-length : tie.Need-same-length Inv-loop μ-loop
 same-length c = search needs
 
 returns : tie.Need-returns Inv-loop μ-loop
-returns c = search needs
+returns c = search (last-printed, needs)
 
 sub-write-all : tie.Need-sub-write-all Inv-loop μ-loop
 sub-write-all c = search needs
@@ -44,7 +45,7 @@ same-length-2 : tie.Need-same-length-2 Inv-loop μ-loop
 same-length-2 c = search needs
 
 returns-2 : tie.Need-returns-2 Inv-loop μ-loop
-returns-2 c = search needs
+returns-2 c = λ e. not-whole e
 
 add-k : tie.Need-add-k Inv-loop μ-loop
 add-k c = search needs
@@ -53,13 +54,13 @@ loop-less : tie.Need-loop-less Inv-loop μ-loop
 loop-less c = search needs
 
 loop-again : tie.Need-loop-again Inv-loop μ-loop
-loop-again c = search needs
+loop-again c = search (another-part, needs)
 
 same-length-3 : tie.Need-same-length-3 Inv-loop μ-loop
 same-length-3 c = search needs
 
 returns-3 : tie.Need-returns-3 Inv-loop μ-loop
-returns-3 c = search needs
+returns-3 c = search (most-printed, needs)
 
 pub print-parts-spec : {M : Type 1} → statement M
 print-parts-spec =
@@ -82,3 +83,4 @@ print-parts-spec =
     loop-again
     same-length-3
     returns-3)
+

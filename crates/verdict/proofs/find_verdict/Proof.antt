@@ -100,4 +100,3 @@ find-verdict-spec =
     same-length-12
     same-length-13
     returns-3)
-
