@@ -1,8 +1,8 @@
 -- A refusal's numbers are small: the rule is one of 1 to 11, and the line is 0 or at most one more than the text has lines, of which there are no more than bytes.
-use Prim.Native.Nat.{ℕ, zero, suc, _+_, _-_, _*_, _^_, _<_, _≤_}
+use Prim.Native.Nat.{ℕ, suc, _+_, _-_, _^_, _<_, _≤_}
 use native.Mathlib.Omega.{arith}
 use mathlib.Core.Bool.{Bool, true, false, cond}
-use mathlib.Core.Path.{_≡_, refl, sym, ap, _∙_}
+use mathlib.Core.Path.{_≡_, refl, sym}
 use mathlib.Core.List.{List, [], _∷_}
 use mathlib.Core.Option.{Option, none, some, Option·none-ne-some, Option·some-injective, orElse}
 use lib.ListN.{length}
@@ -14,7 +14,7 @@ use Rattle.text.specs.declared.Form.the-variants.{Plan, Proc, Thread, Close, Sk
 use Rattle.text.specs.declared.Kind.{Kind}
 use Rattle.text.specs.declared.Kind.the-variants.{Known, Unknown}
 use Rattle.text.specs.Kinds.{kindOf}
-use Rattle.text.specs.Lines.{Split, pushByte, split, formsOf, unended, unknownOr, unreadable, unreadableLine}
+use Rattle.text.specs.Lines.{pushByte, split, formsOf, unknownOr, unreadable, unreadableLine}
 use Rattle.text.proofs.Splits.{few-forms}
 use Rattle.plan.specs.declared.Advance.{Advance}
 use Rattle.plan.specs.declared.Advance.the-variants.{Stay, Push, Pop, Misplaced}

@@ -46,3 +46,24 @@ pub fn check_text(
     };
     check_table(&table[0..n], starts, sizes, scratch, list)
 }
+
+// The same with tables of its own, but for that of the forms.
+pub fn read_text(text: &[u8], table: &mut [u64]) -> Reading
+    requires { ⌜ 16384 ≤ length (now table) ⌝ }
+    ensures { λ r. ⌜ Tabled (planRefusal (now (text .entry))) (now (text .entry)) r (now (table .exit)) ⌝ }
+{
+    let mut stack = [0u8; 16384];
+    let mut starts = [0u64; 64];
+    let mut sizes = [0u64; 64];
+    let mut scratch = [0u64; 64];
+    let mut list = [0u64; 129];
+    check_text(
+        text,
+        table,
+        &mut stack,
+        &mut starts,
+        &mut sizes,
+        &mut scratch,
+        &mut list,
+    )
+}

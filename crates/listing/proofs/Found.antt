@@ -10,7 +10,6 @@ use lib.Seq.{take-at}
 use lib.Dec.{ltb, leb}
 use Rattle.laws.proofs.Tests.{first-none}
 use borrow.Author.Tests.{lt-ltb, le-ltb, le-leb, lt-leb, leb-false, ltb-false}
-use Rattle.text.specs.Lines.{formsOf}
 use Rattle.semantics.specs.Pairs.{pairList}
 use Rattle.semantics.proofs.PairList.{pair-list-critical, pair-list-ascends}
 use Rattle.plan.specs.declared.Reading.{Reading}
@@ -19,7 +18,7 @@ use Rattle.plan.specs.declared.Reading.the-variants as plan
 use Rattle.plan.specs.Table.{tableForms}
 use Rattle.plan.specs.Settled.{tablePlan}
 use Rattle.text.specs.declared.Refusal.{Refusal}
-use Rattle.text.specs.Lines.{refusal}
+use Rattle.text.specs.Lines.{refusal, formsOf}
 use Rattle.plan.specs.Rules.{refusedIf, planOf, readerRefusal, planRefusal, pairsRefusal, tooManyPairs, readingOf, Tabled}
 use Rattle.buffers.specs.LittleEndian.{listBytes}
 use Rattle.buffers.proofs.Filled.{list-length}

@@ -30,20 +30,17 @@ fn find_pairs(
     proc: usize,
     lent: usize,
     table: &mut [u64],
-    stack: &mut [u8],
     starts: &mut [u64],
-    sizes: &mut [u64],
-    scratch: &mut [u64],
     list: &mut [u64],
 ) -> Listing
-    requires { ⌜ (16384 ≤ length (now table)) × (16384 ≤ length (now stack)) × (64 ≤ length (now starts)) × (64 ≤ length (now sizes)) × (64 ≤ length (now scratch)) × (129 ≤ length (now list)) ⌝ }
+    requires { ⌜ (16384 ≤ length (now table)) × (64 ≤ length (now starts)) × (129 ≤ length (now list)) ⌝ }
     ensures { λ r. ⌜ PairsFound (now (text .entry)) proc lent r (now (list .exit)) ⌝ }
 {
     if lent < 128 {
         return Listing::Refused(Refusal { rule: 1, line: 0 });
     }
-    let checked = checked::check_text(text, table, stack, starts, sizes, scratch, list);
-    match checked {
+    let read = checked::read_text(text, table);
+    match read {
         Reading::Accepted(n) => table_pairs(&table[0..n], starts, proc, list),
         Reading::Refused(refusal) => Listing::Refused(refusal),
     }
@@ -55,21 +52,8 @@ fn pairs_of(text: &[u8], proc: usize, lent: usize, list: &mut [u64]) -> Listing
     ensures { λ r. ⌜ PairsFound (now (text .entry)) proc lent r (now (list .exit)) ⌝ }
 {
     let mut table = [0u64; 16384];
-    let mut stack = [0u8; 16384];
     let mut starts = [0u64; 64];
-    let mut sizes = [0u64; 64];
-    let mut scratch = [0u64; 64];
-    find_pairs(
-        text,
-        proc,
-        lent,
-        &mut table,
-        &mut stack,
-        &mut starts,
-        &mut sizes,
-        &mut scratch,
-        list,
-    )
+    find_pairs(text, proc, lent, &mut table, &mut starts, list)
 }
 
 // The words of the pairs at the start of `out`, by way of a table of 129.

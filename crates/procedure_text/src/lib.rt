@@ -19,21 +19,12 @@ fn table_text<'a>(text: &'a [u8], table: &[u64], starts: &mut [u64], proc: usize
 }
 
 // The lines of a procedure of a text, empty where the plan is refused or the procedure is absent.
-fn find_text<'a>(
-    text: &'a [u8],
-    proc: usize,
-    table: &mut [u64],
-    stack: &mut [u8],
-    starts: &mut [u64],
-    sizes: &mut [u64],
-    scratch: &mut [u64],
-    list: &mut [u64],
-) -> &'a [u8]
-    requires { ⌜ (16384 ≤ length (now table)) × (16384 ≤ length (now stack)) × (64 ≤ length (now starts)) × (64 ≤ length (now sizes)) × (64 ≤ length (now scratch)) × (129 ≤ length (now list)) ⌝ }
+fn find_text<'a>(text: &'a [u8], proc: usize, table: &mut [u64], starts: &mut [u64]) -> &'a [u8]
+    requires { ⌜ (16384 ≤ length (now table)) × (64 ≤ length (now starts)) ⌝ }
     ensures { λ r. ⌜ PartAt (text .entry) (procText (now (text .entry)) proc) r ⌝ }
 {
-    let checked = checked::check_text(text, table, stack, starts, sizes, scratch, list);
-    let Reading::Accepted(n) = checked else {
+    let read = checked::read_text(text, table);
+    let Reading::Accepted(n) = read else {
         return &text[0..0];
     };
     table_text(text, &table[0..n], starts, proc)
@@ -44,19 +35,6 @@ pub fn lines_of(text: &[u8], proc: usize) -> &[u8]
     ensures { λ r. ⌜ PartAt (text .entry) (procText (now (text .entry)) proc) r ⌝ }
 {
     let mut table = [0u64; 16384];
-    let mut stack = [0u8; 16384];
     let mut starts = [0u64; 64];
-    let mut sizes = [0u64; 64];
-    let mut scratch = [0u64; 64];
-    let mut list = [0u64; 129];
-    find_text(
-        text,
-        proc,
-        &mut table,
-        &mut stack,
-        &mut starts,
-        &mut sizes,
-        &mut scratch,
-        &mut list,
-    )
+    find_text(text, proc, &mut table, &mut starts)
 }

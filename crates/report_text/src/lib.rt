@@ -3,7 +3,6 @@ ghost use Prim.Native.Nat.{_+_, _≤_, _<_};
 ghost use lib.ListN.{length, take};
 ghost use mathlib.Core.Path.{_≡_};
 ghost use Rattle.semantics.specs.Pairs.{pairList};
-ghost use Rattle.plan.specs.Rules.{planRefusal, planOf, Tabled};
 ghost use Rattle.plan.specs.Settled.{tablePlan};
 ghost use Rattle.plan.specs.Starts.{Starts};
 ghost use Rattle.deadlock.specs.Findings.{Within};
@@ -31,27 +30,6 @@ pub struct Judged {
     pub verdict: Verdict,
 }
 
-// The rules 2 to 10 over a text, the forms of an accepted one left in the table.
-fn read_text(text: &[u8], table: &mut [u64]) -> Reading
-    requires { ⌜ tableRoom ≤ length (now table) ⌝ }
-    ensures { λ r. ⌜ Tabled (planRefusal (now (text .entry))) (now (text .entry)) r (now (table .exit)) ⌝ }
-{
-    let mut stack = [0u8; 16384];
-    let mut starts = [0u64; 64];
-    let mut sizes = [0u64; 64];
-    let mut scratch = [0u64; 64];
-    let mut list = [0u64; 129];
-    checked::check_text(
-        text,
-        table,
-        &mut stack,
-        &mut starts,
-        &mut sizes,
-        &mut scratch,
-        &mut list,
-    )
-}
-
 // The plan of a table judged, its schedule left in the entries.
 fn judge_plan(table: &[u64], entries: &mut [u16]) -> Judged
     requires { ⌜ Within (now table) × (entryRoom ≤ length (now entries)) ⌝ }
@@ -73,7 +51,7 @@ pub fn judge_text(text: &[u8], table: &mut [u64], entries: &mut [u16]) -> Judged
     requires { ⌜ (tableRoom ≤ length (now table)) × (entryRoom ≤ length (now entries)) ⌝ }
     ensures { λ r. ⌜ Prepared (now (text .entry)) r (now (table .exit)) (now (entries .exit)) ⌝ }
 {
-    let reading = read_text(text, table);
+    let reading = checked::read_text(text, table);
     match reading {
         Reading::Accepted(n) => judge_plan(&table[0..n], entries),
         Reading::Refused(refusal) => Judged {

@@ -7,50 +7,27 @@ use answers::Verdict;
 use plan::Reading;
 use text::Refusal;
 
-// The verdict on a text, with the schedule at the start of the entries.
-fn find_verdict(
-    text: &[u8],
-    entries: &mut [u16],
-    table: &mut [u64],
-    stack: &mut [u8],
-    starts: &mut [u64],
-    sizes: &mut [u64],
-    scratch: &mut [u64],
-    list: &mut [u64],
-) -> Verdict
-    requires { ⌜ (16384 ≤ length (now table)) × (16384 ≤ length (now stack)) × (64 ≤ length (now starts)) × (64 ≤ length (now sizes)) × (64 ≤ length (now scratch)) × (129 ≤ length (now list)) ⌝ }
+// The verdict on a text, with the schedule at the start of the entries, by way of a table of its forms.
+fn find_verdict(text: &[u8], entries: &mut [u16], table: &mut [u64]) -> Verdict
+    requires { ⌜ 16384 ≤ length (now table) ⌝ }
     ensures { λ r. ⌜ Judged (now (text .entry)) (now (entries .entry)) r (now (entries .exit)) ⌝ }
 {
     if entries.len() < 6144 {
         return Verdict::Refused(Refusal { rule: 1, line: 0 });
     }
-    let checked = checked::check_text(text, table, stack, starts, sizes, scratch, list);
-    match checked {
+    let read = checked::read_text(text, table);
+    match read {
         Reading::Accepted(n) => deadlock::judge_table(&table[0..n], entries),
         Reading::Refused(refusal) => Verdict::Refused(refusal),
     }
 }
 
-// The same with tables of its own.
+// The same with a table of its own.
 pub fn judge_text(text: &[u8], entries: &mut [u16]) -> Verdict
     ensures { λ r. ⌜ Judged (now (text .entry)) (now (entries .entry)) r (now (entries .exit)) ⌝ }
 {
     let mut table = [0u64; 16384];
-    let mut stack = [0u8; 16384];
-    let mut starts = [0u64; 64];
-    let mut sizes = [0u64; 64];
-    let mut scratch = [0u64; 64];
-    let mut list = [0u64; 129];
-    find_verdict(
-        text,
-        entries,
-        &mut table,
-        &mut stack,
-        &mut starts,
-        &mut sizes,
-        &mut scratch,
-        &mut list,
-    )
+    find_verdict(text, entries, &mut table)
 }
 
 // The schedule as bytes at the start of `out`, two for each entry, lowest first, and the verdict as a number; by way of 6,144 entries.

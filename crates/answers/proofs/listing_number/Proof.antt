@@ -1,5 +1,4 @@
 use native.Mathlib.Omega.{arith}
-use Rattle.answers.specs.Answers.{listingNumber}
 use Rattle.answers.proofs.Sums.{high-count, listing-line, pairs-number, refused-number}
 use borrow.Author.Needs.{needs}
 use Rattle.answers.proofs.listing_number.Statement.{statement}

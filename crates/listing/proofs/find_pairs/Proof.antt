@@ -7,11 +7,11 @@ use Rattle.listing.proofs.find_pairs.Tie as tie
 returns : tie.Need-returns
 returns c = search (text-short, needs)
 
-check-text-requires : tie.Need-check-text-requires
-check-text-requires c κs = search needs
+read-text-requires : tie.Need-read-text-requires
+read-text-requires c κs = search needs
 
-enum-known-checked : tie.Need-enum-known-checked
-enum-known-checked c = search needs
+enum-known-read : tie.Need-enum-known-read
+enum-known-read c = search needs
 
 sub-table-pairs : tie.Need-sub-table-pairs
 sub-table-pairs c = search needs
@@ -25,8 +25,8 @@ part-table-pairs-end c = search (plan-room, needs)
 table-pairs-requires : tie.Need-table-pairs-requires
 table-pairs-requires c κs = search (plan-table, plan-few, needs)
 
-enum-known-checked-2 : tie.Need-enum-known-checked-2
-enum-known-checked-2 c = search needs
+enum-known-read-2 : tie.Need-enum-known-read-2
+enum-known-read-2 c = search needs
 
 same-length : tie.Need-same-length
 same-length c = search needs
@@ -37,35 +37,11 @@ same-length-2 c = search needs
 same-length-3 : tie.Need-same-length-3
 same-length-3 c = search needs
 
-same-length-4 : tie.Need-same-length-4
-same-length-4 c = search needs
-
-same-length-5 : tie.Need-same-length-5
-same-length-5 c = search needs
-
-same-length-6 : tie.Need-same-length-6
-same-length-6 c = search needs
-
 returns-2 : tie.Need-returns-2
 returns-2 c = search (text-refused, text-listed, needs)
 
-same-length-7 : tie.Need-same-length-7
-same-length-7 c = search needs
-
-same-length-8 : tie.Need-same-length-8
-same-length-8 c = search needs
-
-same-length-9 : tie.Need-same-length-9
-same-length-9 c = search needs
-
-same-length-10 : tie.Need-same-length-10
-same-length-10 c = search needs
-
-same-length-11 : tie.Need-same-length-11
-same-length-11 c = search needs
-
-same-length-12 : tie.Need-same-length-12
-same-length-12 c = search needs
+same-length-4 : tie.Need-same-length-4
+same-length-4 c = search needs
 
 returns-3 : tie.Need-returns-3
 returns-3 c = search (text-refused, text-listed, needs)
@@ -75,24 +51,16 @@ find-pairs-spec =
     tie.close
     (tie.spec
     returns
-    check-text-requires
-    enum-known-checked
+    read-text-requires
+    enum-known-read
     sub-table-pairs
     part-table-pairs-start
     part-table-pairs-end
     table-pairs-requires
-    enum-known-checked-2
+    enum-known-read-2
     same-length
     same-length-2
     same-length-3
-    same-length-4
-    same-length-5
-    same-length-6
     returns-2
-    same-length-7
-    same-length-8
-    same-length-9
-    same-length-10
-    same-length-11
-    same-length-12
+    same-length-4
     returns-3)

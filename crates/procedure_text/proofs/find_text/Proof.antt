@@ -4,11 +4,11 @@ use borrow.Author.Needs.{needs}
 use Rattle.procedure_text.proofs.find_text.Statement.{statement}
 use Rattle.procedure_text.proofs.find_text.Tie as tie
 
-check-text-requires : tie.Need-check-text-requires
-check-text-requires c κs = search needs
+read-text-requires : tie.Need-read-text-requires
+read-text-requires c κs = search needs
 
-enum-known-checked : tie.Need-enum-known-checked
-enum-known-checked c = search needs
+enum-known-read : tie.Need-enum-known-read
+enum-known-read c = search needs
 
 enum-told : tie.Need-enum-told
 enum-told c = search needs
@@ -25,21 +25,6 @@ part-result-end c = search needs
 same-length : tie.Need-same-length
 same-length c = search needs
 
-same-length-2 : tie.Need-same-length-2
-same-length-2 c = search needs
-
-same-length-3 : tie.Need-same-length-3
-same-length-3 c = search needs
-
-same-length-4 : tie.Need-same-length-4
-same-length-4 c = search needs
-
-same-length-5 : tie.Need-same-length-5
-same-length-5 c = search needs
-
-same-length-6 : tie.Need-same-length-6
-same-length-6 c = search needs
-
 returns : tie.Need-returns
 returns c = search (part-empty, lines-refused, needs)
 
@@ -55,23 +40,11 @@ part-table-text-end c = search (plan-room, needs)
 table-text-requires : tie.Need-table-text-requires
 table-text-requires c κs = search (plan-table, needs)
 
-same-length-7 : tie.Need-same-length-7
-same-length-7 c = search needs
+same-length-2 : tie.Need-same-length-2
+same-length-2 c = search needs
 
-same-length-8 : tie.Need-same-length-8
-same-length-8 c = search needs
-
-same-length-9 : tie.Need-same-length-9
-same-length-9 c = search needs
-
-same-length-10 : tie.Need-same-length-10
-same-length-10 c = search needs
-
-same-length-11 : tie.Need-same-length-11
-same-length-11 c = search needs
-
-same-length-12 : tie.Need-same-length-12
-same-length-12 c = search needs
+same-length-3 : tie.Need-same-length-3
+same-length-3 c = search needs
 
 returns-2 : tie.Need-returns-2
 returns-2 c = search (text-part, needs)
@@ -80,27 +53,18 @@ pub find-text-spec : {M : Type 1} → statement M
 find-text-spec =
     tie.close
     (tie.spec
-    check-text-requires
-    enum-known-checked
+    read-text-requires
+    enum-known-read
     enum-told
     sub-result
     part-result-start
     part-result-end
     same-length
-    same-length-2
-    same-length-3
-    same-length-4
-    same-length-5
-    same-length-6
     returns
     sub-table-text
     part-table-text-start
     part-table-text-end
     table-text-requires
-    same-length-7
-    same-length-8
-    same-length-9
-    same-length-10
-    same-length-11
-    same-length-12
+    same-length-2
+    same-length-3
     returns-2)
