@@ -7,7 +7,7 @@ use Rattle.report_text.proofs.judge_text.Tie as tie
 use Rattle.report_text.proofs.judge_text.Reads as reads
 use Rattle.report_text.proofs.judge_text.Lts as lts
 use Rattle.report_text.proofs.judge_plan.Reads as judge-plan-reads
-use Rattle.report_text.proofs.read_text.Reads as read-text-reads
+use Rattle.checked.proofs.read_text.Reads as read-text-reads
 
 read-text-requires : tie.Need-read-text-requires
 read-text-requires c κs = search needs

@@ -83,4 +83,3 @@ print-parts-spec =
     loop-again
     same-length-3
     returns-3)
-
