@@ -1,6 +1,9 @@
 // The report on a text, whole, and the texts of its procedures: of a short text as they are, of a longer one how many bytes each has.
 const SHORT: usize = 300;
 
+// Reports are printed of these texts: one of 64 procedures and one with thousands of steps are among them.
+const REPORTED: usize = 1000;
+
 // The text of procedure p: whether there is one.
 fn show_text(text: &[u8], p: usize) -> bool {
     let part = lockplan::proc_text(text, p);
@@ -32,7 +35,7 @@ pub fn show_texts(text: &[u8]) {
 
 // The report that the program `report` prints.
 pub fn show_report(text: &[u8]) {
-    if text.len() <= SHORT {
+    if text.len() <= REPORTED {
         streams::print_report(text);
     }
 }
