@@ -20,7 +20,7 @@ use Rattle.plan.specs.declared.Advance.{Advance}
 use Rattle.plan.specs.declared.Advance.the-variants.{Stay, Push, Pop, Misplaced}
 use Rattle.plan.specs.declared.Counts.{Counts}
 use Rattle.plan.specs.Structure.{innermost, advanceOf, goOn, complete, misplaced, misplacedLine}
-use Rattle.plan.specs.Limits.{counted, breaks, lineIf, breaking, breakingLine, noCounts}
+use Rattle.plan.specs.Limits.{counted, breaks, breaking, breakingLine, noCounts}
 use Rattle.plan.specs.Grammar.{planIn}
 use Rattle.text.specs.declared.Refusal.{Refusal}
 use Rattle.plan.specs.Rules.{refusedAt, refusedIf, tooLong, formsRefusal, readerRefusal, procLineFrom, lowestFrom, procRefusal, tooLarge, tooManyPairs, planOf, planRefusal, verdictRefusal, pairsRefusal}
@@ -82,7 +82,7 @@ unfolding breaking
 breaking-most rule [] c line n h = unnamed n
 breaking-most rule (f ∷ fs) c line n h = go (breaks rule (counted c f) f) (breaking-most rule fs (counted c f) (suc line) n (omega arith))
   where
-    go : (b : Bool) → AtMost n (breaking rule (counted c f) (suc line) fs) → AtMost n (lineIf b line (breaking rule (counted c f) (suc line) fs))
+    go : (b : Bool) → AtMost n (breaking rule (counted c f) (suc line) fs) → AtMost n (cond b (some line) (breaking rule (counted c f) (suc line) fs))
     go true later = named line n (omega arith)
     go false later = later
 

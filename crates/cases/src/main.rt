@@ -1,10 +1,6 @@
 // The reference plans of document 01 and some more, from the files that `index` names beside the program: for each the critical pairs of its procedures and the verdict, or the
-// refusal. A schedule is replayed by a second gateway, of the modules below, which read the plan's text by themselves.
-mod gateway;
-mod lines;
+// refusal. A schedule is replayed by a second gateway, crate `replay`, which reads the plan's text by itself.
 mod parts;
-mod sizes;
-mod stuck;
 
 ghost use Prim.Native.Nat.{_≤_};
 ghost use lib.ListN.{length};
@@ -105,21 +101,21 @@ fn print_stuck(found: u64, named: u64) {
 fn print_replay(text: &[u8], schedule: &[u16], named: u64, state: &mut [usize], bound: usize)
     requires { ⌜ 6912 ≤ length (now state) ⌝ }
 {
-    gateway::start(text, state);
-    let n = gateway::run(text, schedule, state);
+    replay::gateway::start(text, state);
+    let n = replay::gateway::run(text, schedule, state);
     if n < schedule.len() {
         print_number(b"  not replayed: no step at entry ", n as u64);
         io::write_all(1, b"\n");
         return;
     }
     print_length(n, bound);
-    print_stuck(stuck::largest(text, state), named);
+    print_stuck(replay::stuck::largest(text, state), named);
 }
 
 fn replay(text: &[u8], schedule: &[u16], named: u64) {
     let mut state = [0usize; 6912];
     let mut sizes = [0usize; 66];
-    let bound = sizes::sum(text, &mut sizes);
+    let bound = replay::sizes::sum(text, &mut sizes);
     print_replay(text, schedule, named, &mut state, bound);
 }
 
@@ -179,7 +175,7 @@ fn show_case(line: &[u8], buffer: &mut [u8], list: &mut [u64], out: &mut [u16]) 
 fn show_all(index: &[u8], buffer: &mut [u8], list: &mut [u64], out: &mut [u16]) {
     let mut at: usize = 0;
     while at < index.len() {
-        let next = lines::next_line(index, at);
+        let next = replay::lines::next_line(index, at);
         show_case(&index[at..next], buffer, list, out);
         at = next;
     }

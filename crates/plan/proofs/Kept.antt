@@ -1,6 +1,6 @@
 -- Where no rule of 5 to 8 names a line, each form keeps each of them (`kept`).
 use Prim.Native.Nat.{ℕ, suc, _≤_}
-use mathlib.Core.Bool.{Bool, true, false}
+use mathlib.Core.Bool.{Bool, true, false, cond}
 use mathlib.Core.List.{List, [], _∷_}
 use mathlib.Core.Option.{Option, none, some, Option·some-ne-none, orElse}
 use mathlib.Core.Path.{_≡_, refl}
@@ -11,7 +11,7 @@ use borrow.Author.Tests.{ltb-false}
 use Rattle.laws.specs.Choice.{pick}
 use Rattle.text.specs.declared.Form.{Form}
 use Rattle.plan.specs.declared.Counts.{Counts}
-use Rattle.plan.specs.Limits.{counted, overLimit, breaks, lineIf, breaking, breakingLine, noCounts}
+use Rattle.plan.specs.Limits.{counted, overLimit, breaks, breaking, breakingLine, noCounts}
 use Rattle.plan.specs.Structure.{misplacedLine}
 use Rattle.text.specs.declared.Refusal.{Refusal}
 use Rattle.text.specs.Lines.{refusal}
@@ -29,7 +29,7 @@ unfoldable pub Kept : Counts → List Form → Type 0
 Kept c [] = Unit {0}
 Kept c (f ∷ fs) = Keeps (counted c f) f × Kept (counted c f) fs
 
-unnamed : (b : Bool) (line : ℕ) (later : Option ℕ) → lineIf b line later ≡ none → (b ≡ false) × (later ≡ none)
+unnamed : (b : Bool) (line : ℕ) (later : Option ℕ) → cond b (some line) later ≡ none → (b ≡ false) × (later ≡ none)
 unnamed true line later h = absurd (Option·some-ne-none line h)
 unnamed false line later h = (refl, h)
 

@@ -26,7 +26,7 @@ use Rattle.plan.specs.Structure.{innermost, stackOf, advanceOf, goOn, co
 use Rattle.text.specs.declared.Refusal.{Refusal}
 use Rattle.text.specs.Lines.{refusal}
 use Rattle.plan.specs.Rules.{refusedAt, readingOf}
-use Rattle.plan.specs.Limits.{Small, counts, noCounts, counted, testedBy, leastBad, breaks, lineIf, breaking}
+use Rattle.plan.specs.Limits.{Small, counts, noCounts, counted, testedBy, leastBad, breaks, breaking}
 
 -- ---- a match on a form: what a definition says of it, by the case that was found
 
@@ -165,7 +165,7 @@ small-below c i n s h k = record { procs = omega arith; statements = omega arith
 module _ (table : List ℕ) (rule i : ℕ) (c d : Counts) (f : Form) (q : Bool) (r : Option ℕ)
     (h : i < length table) (e : f ≡ formAt (getD table i 0)) (k : d ≡ counted c f)
     (b : q ≡ breaks rule d f) (p : breaking rule c (i + 1) (map formAt (drop i table)) ≡ r) where
-  tested : lineIf q (i + 1) (breaking rule d (i + 1 + 1) (map formAt (drop (i + 1) table))) ≡ r
+  tested : cond q (some (i + 1)) (breaking rule d (i + 1 + 1) (map formAt (drop (i + 1) table))) ≡ r
   unfolding breaking
   tested = rw (b, k, e, ← line-next i, add-one) (rw (drop-cons table i 0 h, add-one) at p)
 

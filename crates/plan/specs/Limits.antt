@@ -1,6 +1,6 @@
 -- Rules 5 to 8: tests of each form in turn, with the counts of what has been read. 01, "Rules, in checking order".
 use Prim.Native.Nat.{ℕ, suc, _+_, _-_, _≤_}
-use mathlib.Core.Bool.{Bool, true, false}
+use mathlib.Core.Bool.{Bool, true, false, cond}
 use mathlib.Core.List.{List, [], _∷_}
 use mathlib.Core.Option.{Option, none, some}
 use lib.Dec.{eqb, ltb, leb}
@@ -65,15 +65,10 @@ leastBad rule c = pick (eqb rule 6) 32 (pick (eqb rule 7) (c .procs - 1) (c .pro
 unfoldable pub breaks : ℕ → Counts → Form → Bool
 breaks rule c f = pick (eqb rule 5) (overLimit c) (pick (eqb (testedBy f) rule) (leb (leastBad rule c) (numberIn f)) false)
 
--- the line, or none
-abbrev pub lineIf : Bool → ℕ → Option ℕ → Option ℕ
-lineIf true line later = some line
-lineIf false line later = later
-
 -- the first line that breaks a rule, of the forms from a line on: "first line past a limit", "first such line"
 unfoldable pub breaking : ℕ → Counts → ℕ → List Form → Option ℕ
 breaking rule c line [] = none
-breaking rule c line (f ∷ fs) = lineIf (breaks rule (counted c f) f) line (breaking rule (counted c f) (suc line) fs)
+breaking rule c line (f ∷ fs) = cond (breaks rule (counted c f) f) (some line) (breaking rule (counted c f) (suc line) fs)
 
 -- rule 5, 6, 7 or 8 over the whole text
 unfoldable pub breakingLine : ℕ → List Form → Option ℕ

@@ -1,6 +1,6 @@
 -- The part of a text that the text call answers with. 01, "Pairs, verdict, schedule".
 use Prim.Native.Nat.{ℕ, _+_, _-_}
-use mathlib.Core.Bool.{Bool, true, false, cond}
+use mathlib.Core.Bool.{Bool, cond}
 use mathlib.Core.List.{List}
 use mathlib.Core.Option.{Option, none, some}
 use lib.Dec.{ltb}
@@ -21,8 +21,7 @@ procLines text p =
 
 -- "with an empty part and no number if a rule about the plan (here 2 to 10) refuses it or the procedure is absent"
 abbrev pub orEmpty : Option Refusal → Bool → Span → Span
-orEmpty none true part = part
-orEmpty none false part = span 0 0
+orEmpty none there part = cond there part (span 0 0)
 orEmpty (some r) there part = span 0 0
 
 -- "The text call answers with the part of the caller's text from the `(proc` line to its closing line, line end included": which part of the text

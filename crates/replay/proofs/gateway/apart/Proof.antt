@@ -1,0 +1,46 @@
+-- Every lock below 32 is passed.
+use borrow.Author.Needs.{needs}
+use Prim.Native.Nat.{_-_, _≤_}
+use Rattle.replay.proofs.gateway.apart.Statement.{statement}
+use Rattle.replay.proofs.gateway.apart.Tie as tie
+
+abbrev Inv-loop : tie.InvT-loop
+Inv-loop state lock₀ lock = lock ≤ 32
+
+abbrev μ-loop : tie.MeasureT-loop
+μ-loop state lock₀ lock = 32 - lock
+
+loop-holds : tie.Need-loop-holds Inv-loop μ-loop
+loop-holds c = search needs
+
+holders-requires : tie.Need-holders-requires Inv-loop μ-loop
+holders-requires c κs = search needs
+
+returns : tie.Need-returns Inv-loop μ-loop
+returns c = search needs
+
+add-lock : tie.Need-add-lock Inv-loop μ-loop
+add-lock c = search needs
+
+loop-less : tie.Need-loop-less Inv-loop μ-loop
+loop-less c = search needs
+
+loop-again : tie.Need-loop-again Inv-loop μ-loop
+loop-again c = search needs
+
+returns-2 : tie.Need-returns-2 Inv-loop μ-loop
+returns-2 c = search needs
+
+pub apart-spec : {M : Type 1} → statement M
+apart-spec =
+    tie.close
+    (tie.spec
+    Inv-loop
+    μ-loop
+    loop-holds
+    holders-requires
+    returns
+    add-lock
+    loop-less
+    loop-again
+    returns-2)
