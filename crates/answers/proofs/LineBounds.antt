@@ -1,7 +1,7 @@
 -- A refusal's numbers are small: the rule is one of 1 to 11, and the line is 0 or at most one more than the text has lines, of which there are no more than bytes.
 use Prim.Native.Nat.{ℕ, suc, _+_, _-_, _^_, _<_, _≤_}
 use native.Mathlib.Omega.{arith}
-use mathlib.Core.Bool.{Bool, true, false, cond}
+use mathlib.Core.Bool.{Bool, true, false, _&&_, cond}
 use mathlib.Core.Path.{_≡_, refl, sym}
 use mathlib.Core.List.{List, [], _∷_}
 use mathlib.Core.Option.{Option, none, some, Option·none-ne-some, Option·some-injective, orElse}
@@ -9,8 +9,9 @@ use lib.ListN.{length}
 use lib.Dec.{ltb, eqb, leb}
 use Rattle.laws.proofs.Tests.{first-none}
 use borrow.Author.Tests.{ltb-false}
+use Rattle.limits.specs.Limits.{maxBytes, maxPairs, maxEntries}
 use Rattle.text.specs.declared.Form.{Form}
-use Rattle.text.specs.declared.Form.the-variants.{Plan, Proc, Thread, Close, Skip, Call, Hold, Loop, Either, One, Two}
+use Rattle.text.specs.Forms.{isProc}
 use Rattle.text.specs.declared.Kind.{Kind}
 use Rattle.text.specs.declared.Kind.the-variants.{Known, Unknown}
 use Rattle.text.specs.Kinds.{kindOf}
@@ -23,7 +24,11 @@ use Rattle.plan.specs.Structure.{innermost, advanceOf, goOn, complete, misplace
 use Rattle.plan.specs.Limits.{counted, breaks, breaking, breakingLine, noCounts}
 use Rattle.plan.specs.Grammar.{planIn}
 use Rattle.text.specs.declared.Refusal.{Refusal}
-use Rattle.plan.specs.Rules.{refusedAt, refusedIf, tooLong, formsRefusal, readerRefusal, procLineFrom, lowestFrom, procRefusal, tooLarge, tooManyPairs, planOf, planRefusal, verdictRefusal, pairsRefusal}
+use Rattle.plan.specs.Rules.{refusedAt, refusedIf, tooLong, formsRefusal, readerRefusal, procLineFrom, procLine, lowestFrom, procRefusal, tooLarge, tooManyPairs, planOf, planRefusal, verdictRefusal, pairsRefusal}
+
+-- one more than the most lines
+abbrev most : ℕ
+most = maxBytes + 1
 
 -- a named line is at most n
 abbrev AtMost : ℕ → Option ℕ → Type 0
@@ -91,21 +96,11 @@ breaking-most rule (f ∷ fs) c line n h = go (breaks rule (counted c f) f) (bre
 proc-line-most : (fs : List Form) (line p n : ℕ) → line + length fs ≤ n → procLineFrom line p fs ≤ n
 unfolding procLineFrom
 proc-line-most [] line p n h = omega arith
-proc-line-most (Plan ∷ fs) line p n h = proc-line-most fs (suc line) p n (omega arith)
-proc-line-most (Proc ∷ fs) line p n h = go (eqb p 0) (proc-line-most fs (suc line) (p - 1) n (omega arith))
+proc-line-most (f ∷ fs) line p n h = go (isProc f && eqb p 0) (proc-line-most fs (suc line) (cond (isProc f) (p - 1) p) n (omega arith))
   where
-    go : (b : Bool) → procLineFrom (suc line) (p - 1) fs ≤ n → cond b line (procLineFrom (suc line) (p - 1) fs) ≤ n
+    go : (b : Bool) {later : ℕ} → later ≤ n → cond b line later ≤ n
     go true k = omega arith
     go false k = k
-proc-line-most (Thread m ∷ fs) line p n h = proc-line-most fs (suc line) p n (omega arith)
-proc-line-most (Close ∷ fs) line p n h = proc-line-most fs (suc line) p n (omega arith)
-proc-line-most (Skip ∷ fs) line p n h = proc-line-most fs (suc line) p n (omega arith)
-proc-line-most (Call m ∷ fs) line p n h = proc-line-most fs (suc line) p n (omega arith)
-proc-line-most (Hold l ∷ fs) line p n h = proc-line-most fs (suc line) p n (omega arith)
-proc-line-most (Loop ∷ fs) line p n h = proc-line-most fs (suc line) p n (omega arith)
-proc-line-most (Either ∷ fs) line p n h = proc-line-most fs (suc line) p n (omega arith)
-proc-line-most (One ∷ fs) line p n h = proc-line-most fs (suc line) p n (omega arith)
-proc-line-most (Two ∷ fs) line p n h = proc-line-most fs (suc line) p n (omega arith)
 
 -- ---- the rules together
 
@@ -141,42 +136,42 @@ bounded-proc : (rule n : ℕ) (fs : List Form) (test : ℕ → Bool) → rule < 
 unfolding procRefusal
 bounded-proc rule n fs test h k l = go (lowestFrom test 0 (length (planIn fs .procs)))
   where
-    go : (o : Option ℕ) → Bounded (elim o [ none ↦ none | some p ↦ some (record { rule = rule; line = procLineFrom 1 p fs }) ])
+    go : (o : Option ℕ) → Bounded (refusedAt rule (procLine fs o))
     go none = bounded-none
     go (some p) = bounded-some rule (procLineFrom 1 p fs) h (omega (arith, proc-line-most fs 1 p n k))
 
-within : (text : List ℕ) → tooLong text ≡ none → length text ≤ 32768
+within : (text : List ℕ) → tooLong text ≡ none → length text ≤ maxBytes
 unfolding tooLong
-within text e = go (ltb 32768 (length text)) refl e
+within text e = go (ltb maxBytes (length text)) refl e
   where
-    go : (b : Bool) → ltb 32768 (length text) ≡ b → refusedIf 2 b ≡ none → length text ≤ 32768
+    go : (b : Bool) → ltb maxBytes (length text) ≡ b → refusedIf 2 b ≡ none → length text ≤ maxBytes
     go true t h = absurd (Option·none-ne-some _ (sym h))
-    go false t h = ltb-false 32768 (length text) t
+    go false t h = ltb-false maxBytes (length text) t
 
-module _ (text : List ℕ) (short : length text ≤ 32768) where
-  few : 1 + length (formsOf text) ≤ 16385
+module _ (text : List ℕ) (short : length text ≤ maxBytes) where
+  few : 1 + length (formsOf text) ≤ most
   few = omega (arith, few-forms text)
 
   forms-bounded : Bounded (formsRefusal (formsOf text))
   unfolding formsRefusal misplacedLine breakingLine
   forms-bounded =
       let fs = formsOf text in
-      let by : (rule : ℕ) → rule < 256 → Bounded (refusedAt rule (breaking rule noCounts 1 fs)) = λ rule h. bounded-at rule 16385 (breaking rule noCounts 1 fs) h (omega arith)
-      (breaking-most rule fs noCounts 1 16385 few) in
-      bounded-or _ _ (bounded-at 4 16385 (misplaced 0 [] 1 fs) (omega arith) (omega arith) (misplaced-most fs 0 [] 1 16385 few))
+      let by : (rule : ℕ) → rule < 256 → Bounded (refusedAt rule (breaking rule noCounts 1 fs)) = λ rule h. bounded-at rule most (breaking rule noCounts 1 fs) h (omega arith)
+      (breaking-most rule fs noCounts 1 most few) in
+      bounded-or _ _ (bounded-at 4 most (misplaced 0 [] 1 fs) (omega arith) (omega arith) (misplaced-most fs 0 [] 1 most few))
       (λ _. bounded-or _ _ (by 5 (omega arith)) (λ _. bounded-or _ _ (by 6 (omega arith)) (λ _. bounded-or _ _ (by 7 (omega arith)) (λ _. by 8 (omega arith)))))
 
   lines-bounded : Bounded (refusedAt 3 (unreadableLine text))
   unfolding unreadableLine
-  lines-bounded = bounded-at 3 32769 (unreadable 1 (split text .ended) (split text .tail)) (omega arith) (omega arith)
-      (unreadable-most (split text .ended) (split text .tail) 1 32769 (omega (arith, lines-few text)))
+  lines-bounded = bounded-at 3 most (unreadable 1 (split text .ended) (split text .tail)) (omega arith) (omega arith)
+      (unreadable-most (split text .ended) (split text .tail) 1 most (omega (arith, lines-few text)))
 
   procs-bounded : Bounded (orElse (tooLarge (formsOf text)) (tooManyPairs (formsOf text)))
   unfolding tooLarge tooManyPairs
-  procs-bounded = bounded-or _ _ (bounded-proc 9 16385 (formsOf text) _ (omega arith) few (omega arith))
-      (λ _. bounded-proc 10 16385 (formsOf text) _ (omega arith) few (omega arith))
+  procs-bounded = bounded-or _ _ (bounded-proc 9 most (formsOf text) _ (omega arith) few (omega arith))
+      (λ _. bounded-proc 10 most (formsOf text) _ (omega arith) few (omega arith))
 
-reader-short : (text : List ℕ) → readerRefusal text ≡ none → length text ≤ 32768
+reader-short : (text : List ℕ) → readerRefusal text ≡ none → length text ≤ maxBytes
 unfolding readerRefusal
 reader-short text e = within text (first-none (tooLong text) _ e .0)
 
@@ -184,15 +179,15 @@ pub plan-bounded : (text : List ℕ) (w : Refusal) → planRefusal text ≡ some
 unfolding planRefusal readerRefusal tooLong
 plan-bounded text =
     bounded-or _ _
-    (bounded-or _ _ (bounded-if 2 (ltb 32768 (length text)) (omega arith)) (λ e. bounded-or _ _ (lines-bounded text (within text e)) (λ _. forms-bounded text (within text e))))
+    (bounded-or _ _ (bounded-if 2 (ltb maxBytes (length text)) (omega arith)) (λ e. bounded-or _ _ (lines-bounded text (within text e)) (λ _. forms-bounded text (within text e))))
     (λ e. procs-bounded text (reader-short text e))
 
 pub pairs-bounded : (text : List ℕ) (p lent : ℕ) (w : Refusal) → pairsRefusal text p lent ≡ some w → Numbers w
 unfolding pairsRefusal
 pairs-bounded text p lent =
-    bounded-or _ _ (bounded-if 1 (ltb lent 128) (omega arith))
+    bounded-or _ _ (bounded-if 1 (ltb lent maxPairs) (omega arith))
     (λ _. bounded-or _ _ (plan-bounded text) (λ _. bounded-if 11 (leb (length (planOf text .procs)) p) (omega arith)))
 
 pub verdict-bounded : (text : List ℕ) (lent : ℕ) (w : Refusal) → verdictRefusal text lent ≡ some w → Numbers w
 unfolding verdictRefusal
-verdict-bounded text lent = bounded-or _ _ (bounded-if 1 (ltb lent 6144) (omega arith)) (λ _. plan-bounded text)
+verdict-bounded text lent = bounded-or _ _ (bounded-if 1 (ltb lent maxEntries) (omega arith)) (λ _. plan-bounded text)

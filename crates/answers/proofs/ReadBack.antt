@@ -1,22 +1,21 @@
 -- The 64-bit answer can be read back: `readVerdict` and `readListing` give the answer of its number, for every answer that a call can give. Kind and part a are below 256:
 -- a rule is, and a stuck set has no members but the plan's threads, of which there are six at most.
-use Prim.Native.Nat.{ℕ, _/_, _%_, _^_, _<_, _≤_}
+use Prim.Native.Nat.{ℕ, _/_, _%_, _<_, _≤_}
 use native.Mathlib.Omega.{arith}
-use mathlib.Core.Path.{_≡_, refl, sym, ap, subst, _∙_}
+use mathlib.Core.Path.{_≡_, refl, sym, ap, _∙_}
 use mathlib.Core.List.{List}
-use mathlib.Core.Logic.{_≢_, ⊎-elim}
 use mathlib.Core.Option.{Option, none, some}
 use lib.Dec.{T, ltb}
 use lib.ListN.{length}
-use Rattle.laws.specs.Mask.{bit, inMask, maskOf}
-use Rattle.laws.proofs.Bits.{bit-lt, bit-ext}
-use Rattle.laws.proofs.Masks.{digit-test, mask-lt, mask-out, mask-digit}
-use Rattle.laws.proofs.Tests.{eq→eqb, lt-or-le, eq-or-ne, first-none}
+use Rattle.limits.specs.Limits.{maxThreads, maxEntries}
+use Rattle.laws.specs.Mask.{inMask}
+use Rattle.laws.proofs.Masks.{mask-below}
+use Rattle.laws.proofs.Tests.{first-none}
 use Rattle.semantics.specs.Plan.{LockPlan}
 use Rattle.semantics.specs.Run.{start}
 use Rattle.semantics.specs.Stuck.{Schedule}
-use Rattle.semantics.proofs.Steps.{threadAt-some}
-use Rattle.semantics.proofs.Invariant.{run-length, start-length}
+use Rattle.semantics.proofs.Gateway.Steps.{threadAt-some}
+use Rattle.semantics.proofs.Gateway.Invariant.{run-length, start-length}
 use Rattle.text.specs.declared.Refusal.{Refusal}
 use Rattle.plan.specs.Rules.{refusedIf, readerRefusal, planRefusal, planOf, verdictRefusal, pairsRefusal}
 use Rattle.plan.proofs.Sound.{accepted-settled}
@@ -28,35 +27,18 @@ use Rattle.answers.specs.Answers.{listingOf, answerNumber, listingNumber
 use Rattle.answers.specs.Judgement.{Judgement}
 use Rattle.answers.proofs.LineBounds.{Numbers, pairs-bounded, verdict-bounded}
 
--- ---- a mask without members above
-
-module _ (m n : ℕ) (below : (k : ℕ) → T (inMask m k) → k < n) where
-  above : (k : ℕ) → n ≤ k → bit m k ≡ 0
-  above k h =
-      ⊎-elim (λ (e : bit m k ≡ 1). absurd (omega (arith, below k (eq→eqb (bit m k) 1 e)))) (λ (e : bit m k ≢ 1). one-or-none (bit m k) (bit-lt m k) e) (eq-or-ne (bit m k) 1)
-    where
-      one-or-none : (d : ℕ) → d < 2 → d ≢ 1 → d ≡ 0
-      one-or-none d a b = omega arith
-
-  same-digits : (k : ℕ) → bit (maskOf n (inMask m)) k ≡ bit m k
-  same-digits k =
-      ⊎-elim (λ (h : k < n). mask-digit n (inMask m) k h ∙ digit-test m k) (λ (h : n ≤ k). mask-out n (inMask m) k h ∙ sym (above k h)) (lt-or-le k n)
-
-  mask-below : m < 2 ^ n
-  mask-below = subst (λ x. x < 2 ^ n) (bit-ext (maskOf n (inMask m)) m same-digits) (mask-lt n (inMask m))
-
 -- ---- a stuck set
 
-schedule-below : (plan : LockPlan) (es : List ℕ) (S : ℕ) → length (plan .threads) ≤ 6 → Schedule plan es (inMask S) → S < 256
+schedule-below : (plan : LockPlan) (es : List ℕ) (S : ℕ) → length (plan .threads) ≤ maxThreads → Schedule plan es (inMask S) → S < 256
 schedule-below plan es S few s =
     let present : length (s .there) ≡ length (plan .threads) =
     run-length (plan .procs) (start (plan .procs) (plan .threads)) (s .there) es (s .reached) ∙ start-length (plan .procs) (plan .threads) in
-    let member : (t : ℕ) → T (inMask S t) → t < 6 = λ t m. let a = s .largest .stuck .able t m in omega (arith, present, threadAt-some (s .there) t (a .1) (a .3) .0) in
-    omega (arith, mask-below S 6 member)
+    let member : (t : ℕ) → T (inMask S t) → t < maxThreads = λ t m. let a = s .largest .stuck .able t m in omega (arith, present, threadAt-some (s .there) t (a .1) (a .3) .0) in
+    omega (arith, mask-below S maxThreads member)
 
-few-threads : (text : List ℕ) (lent : ℕ) → verdictRefusal text lent ≡ none → length (planOf text .threads) ≤ 6
+few-threads : (text : List ℕ) (lent : ℕ) → verdictRefusal text lent ≡ none → length (planOf text .threads) ≤ maxThreads
 unfolding verdictRefusal planRefusal
-few-threads text lent e = accepted-settled text (first-none (readerRefusal text) _ (first-none (refusedIf 1 (ltb lent 6144)) (planRefusal text) e .1) .0) .few-threads
+few-threads text lent e = accepted-settled text (first-none (readerRefusal text) _ (first-none (refusedIf 1 (ltb lent maxEntries)) (planRefusal text) e .1) .0) .few-threads
 
 -- ---- the digits of an answer
 

@@ -1,10 +1,8 @@
 -- The cases of each answer with 01's numbers and values, and the 64-bit number that carries them to C (docs/ANSWERS.md).
 use mathlib.Core.Bool.{cond}
 use Prim.Native.Nat.{ℕ, _+_, _*_, _/_, _%_}
-use mathlib.Core.List.{List, _++_}
 use mathlib.Core.Option.{Option, none, some}
 use lib.Dec.{eqb}
-use lib.ListN.{length, drop}
 use Rattle.text.specs.declared.Refusal.{Refusal}
 use Rattle.text.specs.Lines.{refusal}
 use Rattle.answers.specs.declared.Verdict.{Verdict}
@@ -12,10 +10,6 @@ use Rattle.answers.specs.declared.Verdict.the-variants.{Free, Deadlock}
 use Rattle.answers.specs.declared.Verdict.the-variants as verdict
 use Rattle.answers.specs.declared.Listing.{Listing}
 use Rattle.answers.specs.declared.Listing.the-variants.{Pairs, Refused}
-
--- what is written fills the buffer's start, and "the rest of the buffer" is "kept"
-abbrev pub filled : List ℕ → List ℕ → List ℕ
-filled given before = given ++ drop (length given) before
 
 -- the pair list: "its count is returned", or "A refusal returns its number and a line"
 unfoldable pub listingOf : Option Refusal → ℕ → Listing
@@ -56,6 +50,7 @@ unfoldable pub listingHigh : Listing → ℕ
 listingHigh (Pairs n) = n
 listingHigh (Refused x) = x .line
 
+-- and of the verdict
 unfoldable pub verdictHigh : Verdict → ℕ
 verdictHigh Free = 0
 verdictHigh (Deadlock n S) = n

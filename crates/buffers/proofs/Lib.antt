@@ -1,2 +1,2 @@
--- A buffer while it is filled, for any element and any width.
-pub mod Filled
+-- A buffer while numbers are written into it as bytes, for any width.
+pub mod LittleEndian

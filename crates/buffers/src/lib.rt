@@ -1,14 +1,14 @@
 // Numbers into a lent buffer: as they are, or as bytes, lowest first. The rest of the buffer is kept.
 ghost use mathlib.Core.Path.{_≡_};
-ghost use mathlib.Core.List.{_++_};
 ghost use Prim.Native.Nat.{_+_, _*_, _≤_};
-ghost use lib.ListN.{length, take, drop};
+ghost use lib.ListN.{length};
+ghost use Rattle.laws.specs.Wrote.{Wrote};
 ghost use Rattle.buffers.specs.LittleEndian.{numberBytes, listBytes};
 
 // A number as `width` bytes, lowest first, at a place of the buffer.
 fn put_number(out: &mut [u8], at: usize, x: u64, width: usize)
     requires { ⌜ at + width ≤ length (now out) ⌝ }
-    ensures { λ _. ⌜ now (out .exit) ≡ (take at (now (out .entry)) ++ numberBytes width x) ++ drop (at + width) (now (out .entry)) ⌝ }
+    ensures { λ _. ⌜ Wrote (now (out .entry)) (now (out .exit)) at (at + width) (numberBytes width x) ⌝ }
 {
     let end = at + width;
     let mut rest = x;
@@ -26,14 +26,14 @@ fn widen(x: u16) -> u64
     x as u64
 }
 
-// 64-bit words as bytes.
-pub fn put_words(words: &[u64], out: &mut [u8])
-    requires { ⌜ length (now words) * 8 ≤ length (now out) ⌝ }
-    ensures { λ _. ⌜ now (out .exit) ≡ listBytes 8 (now (words .entry)) ++ drop (length (now (words .entry)) * 8) (now (out .entry)) ⌝ }
+// Pairs, 64-bit words, as bytes.
+pub fn put_pairs(pairs: &[u64], out: &mut [u8])
+    requires { ⌜ length (now pairs) * 8 ≤ length (now out) ⌝ }
+    ensures { λ _. ⌜ Wrote (now (out .entry)) (now (out .exit)) 0 (length (now (pairs .entry)) * 8) (listBytes 8 (now (pairs .entry))) ⌝ }
 {
     let mut i: usize = 0;
-    while i < words.len() {
-        put_number(out, i * 8, words[i], 8);
+    while i < pairs.len() {
+        put_number(out, i * 8, pairs[i], 8);
         i += 1;
     }
 }
@@ -41,7 +41,7 @@ pub fn put_words(words: &[u64], out: &mut [u8])
 // 16-bit entries as bytes.
 pub fn put_entries(entries: &[u16], out: &mut [u8])
     requires { ⌜ length (now entries) * 2 ≤ length (now out) ⌝ }
-    ensures { λ _. ⌜ now (out .exit) ≡ listBytes 2 (now (entries .entry)) ++ drop (length (now (entries .entry)) * 2) (now (out .entry)) ⌝ }
+    ensures { λ _. ⌜ Wrote (now (out .entry)) (now (out .exit)) 0 (length (now (entries .entry)) * 2) (listBytes 2 (now (entries .entry))) ⌝ }
 {
     let mut i: usize = 0;
     while i < entries.len() {
@@ -50,14 +50,14 @@ pub fn put_entries(entries: &[u16], out: &mut [u8])
     }
 }
 
-// 64-bit words as they are.
-pub fn copy_words(words: &[u64], out: &mut [u64])
-    requires { ⌜ length (now words) ≤ length (now out) ⌝ }
-    ensures { λ _. ⌜ now (out .exit) ≡ now (words .entry) ++ drop (length (now (words .entry))) (now (out .entry)) ⌝ }
+// Pairs, 64-bit words, as they are.
+pub fn copy_pairs(pairs: &[u64], out: &mut [u64])
+    requires { ⌜ length (now pairs) ≤ length (now out) ⌝ }
+    ensures { λ _. ⌜ Wrote (now (out .entry)) (now (out .exit)) 0 (length (now (pairs .entry))) (now (pairs .entry)) ⌝ }
 {
     let mut i: usize = 0;
-    while i < words.len() {
-        out[i] = words[i];
+    while i < pairs.len() {
+        out[i] = pairs[i];
         i += 1;
     }
 }
@@ -65,7 +65,7 @@ pub fn copy_words(words: &[u64], out: &mut [u64])
 // 16-bit entries as they are.
 pub fn copy_entries(entries: &[u16], out: &mut [u16])
     requires { ⌜ length (now entries) ≤ length (now out) ⌝ }
-    ensures { λ _. ⌜ now (out .exit) ≡ now (entries .entry) ++ drop (length (now (entries .entry))) (now (out .entry)) ⌝ }
+    ensures { λ _. ⌜ Wrote (now (out .entry)) (now (out .exit)) 0 (length (now (entries .entry))) (now (entries .entry)) ⌝ }
 {
     let mut i: usize = 0;
     while i < entries.len() {

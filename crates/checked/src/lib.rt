@@ -1,69 +1,71 @@
-// The rules 2 to 10 over a text, in checking order, each tested over the whole text before the next.
+// The rules 2 to 10 over a text, in checking order, each tested over the whole text before the next; and the layout of an accepted text.
 ghost use mathlib.Core.Option.{orElse};
 ghost use mathlib.Core.Path.{_≡_};
 ghost use Prim.Native.Nat.{_≤_};
 ghost use lib.ListN.{length};
+ghost use Rattle.limits.specs.Limits.{maxForms};
 ghost use Rattle.plan.specs.Table.{tableForms};
 ghost use Rattle.plan.specs.Settled.{PlanTable};
-ghost use Rattle.plan.specs.Rules.{planRefusal, tooLarge, tooManyPairs, readingOf, Tabled};
+ghost use Rattle.plan.specs.Rules.{readerRefusal, tooLarge, tooManyPairs, readingOf, Tabled};
+ghost use Rattle.procs.specs.Laid.{Laid};
+ghost use Rattle.checked.specs.Checks.{Checks};
+use limits::MAX_FORMS;
+use limits::MAX_PROCS;
+use limits::MAX_THREADS;
+use limits::PAIR_ROOM;
 use plan::Reading;
+use procs::Layout;
 
-// Rules 9 and 10 over a table of forms.
-pub fn check_table(
-    table: &[u64],
-    starts: &mut [u64],
-    sizes: &mut [u64],
-    scratch: &mut [u64],
-    list: &mut [u64],
-) -> Reading
-    requires { ⌜ PlanTable (now table) × (64 ≤ length (now starts)) × (64 ≤ length (now sizes)) × (64 ≤ length (now scratch)) × (129 ≤ length (now list)) ⌝ }
-    ensures { λ r. ⌜ r ≡ readingOf (orElse (tooLarge (tableForms (now (table .entry)))) (tooManyPairs (tableForms (now (table .entry))))) (length (now (table .entry))) ⌝ }
+// The reading of a text, and the layout of its table where it is accepted.
+pub struct CheckedText {
+    pub reading: Reading,
+    pub layout: Layout,
+}
+
+// The reader's rules, 2 to 8, with a stack of its own for the blocks that are open.
+fn read_forms(text: &[u8], table: &mut [u64]) -> Reading
+    requires { ⌜ maxForms ≤ length (now table) ⌝ }
+    ensures { λ r. ⌜ Tabled (readerRefusal (now (text .entry))) (now (text .entry)) r (now (table .exit)) ⌝ }
 {
-    let procs = procs::find_procs(table, starts);
-    let sized = procs::check_sizes(table, starts, procs, sizes, scratch);
+    let mut stack = [0u8; MAX_FORMS];
+    plan::read_plan(text, table, &mut stack)
+}
+
+// Rules 9 and 10 over a table of forms, with a list of its own.
+fn check_table(table: &[u64]) -> CheckedText
+    requires { ⌜ PlanTable (now table) ⌝ }
+    ensures { λ r. ⌜ (r .reading ≡ readingOf (orElse (tooLarge (tableForms (now (table .entry)))) (tooManyPairs (tableForms (now (table .entry))))) (length (now (table .entry))))
+        × Laid (now (table .entry)) (r .layout) ⌝ }
+{
+    let layout = procs::layout_of(table);
+    let sized = procs::check_sizes(table, layout);
     let Reading::Accepted(_) = sized else {
-        return sized;
+        return CheckedText {
+            reading: sized,
+            layout,
+        };
     };
-    pairs::check_pairs(table, starts, procs, list)
+    let mut list = [0u64; PAIR_ROOM];
+    let reading = pairs::check_pairs(table, layout, &mut list);
+    CheckedText { reading, layout }
 }
 
 // The plan's rules, 2 to 10, in checking order; the forms of an accepted text stay in the table.
-pub fn check_text(
-    text: &[u8],
-    table: &mut [u64],
-    stack: &mut [u8],
-    starts: &mut [u64],
-    sizes: &mut [u64],
-    scratch: &mut [u64],
-    list: &mut [u64],
-) -> Reading
-    requires { ⌜ (16384 ≤ length (now table)) × (16384 ≤ length (now stack)) × (64 ≤ length (now starts)) × (64 ≤ length (now sizes)) × (64 ≤ length (now scratch)) × (129 ≤ length (now list)) ⌝ }
-    ensures { λ r. ⌜ Tabled (planRefusal (now (text .entry))) (now (text .entry)) r (now (table .exit)) ⌝ }
+pub fn read_text(text: &[u8], table: &mut [u64]) -> CheckedText
+    requires { ⌜ maxForms ≤ length (now table) ⌝ }
+    ensures { λ r. ⌜ Checks (now (text .entry)) r (now (table .exit)) ⌝ }
 {
-    let read = plan::read_plan(text, table, stack);
+    let read = read_forms(text, table);
     let Reading::Accepted(n) = read else {
-        return read;
+        return CheckedText {
+            reading: read,
+            layout: Layout {
+                procs: 0,
+                starts: [0u64; MAX_PROCS],
+                threads: 0,
+                runs: [0u64; MAX_THREADS],
+            },
+        };
     };
-    check_table(&table[0..n], starts, sizes, scratch, list)
-}
-
-// The same with tables of its own, but for that of the forms.
-pub fn read_text(text: &[u8], table: &mut [u64]) -> Reading
-    requires { ⌜ 16384 ≤ length (now table) ⌝ }
-    ensures { λ r. ⌜ Tabled (planRefusal (now (text .entry))) (now (text .entry)) r (now (table .exit)) ⌝ }
-{
-    let mut stack = [0u8; 16384];
-    let mut starts = [0u64; 64];
-    let mut sizes = [0u64; 64];
-    let mut scratch = [0u64; 64];
-    let mut list = [0u64; 129];
-    check_text(
-        text,
-        table,
-        &mut stack,
-        &mut starts,
-        &mut sizes,
-        &mut scratch,
-        &mut list,
-    )
+    check_table(&table[0..n])
 }

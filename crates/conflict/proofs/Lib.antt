@@ -1,18 +1,13 @@
--- Lock sets, and the steps over one entry.
+-- Lock sets, and the steps over one candidate.
 pub mod Sets
 pub mod Steps
--- Tables of entries: filled, cleared, and what they hold of the lists.
-pub mod Tables
-pub mod Split
-pub mod Flattening
--- Entries that are in no circle.
-pub mod Dropping
--- The search for a circle.
-pub mod Noting
+-- The search from a path.
+pub mod Sound
 pub mod Paths
 pub mod Extending
 pub mod Reasons
-pub mod Circles
+-- The search for a cycle, over all candidates and lock by lock.
+pub mod Cycles
 pub mod LockByLock
 -- The whole.
 pub mod Finding

@@ -1,4 +1,3 @@
--- The threads' words as entries of a table, the notes of the search, and what is promised of the search over the entries.
-pub mod Entries
-pub mod Notes
+-- What is promised of the search from a path of candidates, and of the search over all candidates.
+pub mod Paths
 pub mod Search

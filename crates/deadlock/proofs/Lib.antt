@@ -1,2 +1,2 @@
--- From the search and the schedule to the finding.
-pub mod Laws
+-- Why the functions meet their contracts.
+pub mod Judging

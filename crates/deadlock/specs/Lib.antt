@@ -1,2 +1,2 @@
--- What is asked of the tables, and what is found.
+-- What is asked of the table, and what is found.
 pub mod Findings

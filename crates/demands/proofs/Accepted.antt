@@ -1,5 +1,5 @@
 -- No rule refuses a text exactly when it is short and the written text of a plan that keeps what the rules say (`accepted-exactly`); then the plan is the one that is read
--- (`accepted-plan`), and the listed words of its procedures are the critical ones of source 000 (`published-exactly`).
+-- (`accepted-plan`), and the listed pairs of its procedures are the critical ones of source 000 (`published-exactly`).
 use Prim.Native.Nat.{ℕ, _<_, _≤_}
 use mathlib.Core.List.{List, List·Memᴰ}
 use mathlib.Core.Logic.{_↔_}
@@ -9,6 +9,7 @@ use native.Mathlib.Omega.{arith}
 use lib.Dec.{ltb, leb}
 use lib.ListN.{length}
 use borrow.Author.Tests.{le-ltb, lt-leb, ltb-false, leb-false}
+use Rattle.limits.specs.Limits.{maxBytes, maxSize, maxPairs, maxEntries}
 use Rattle.laws.proofs.Tests.{first-none}
 use Rattle.text.specs.Lines.{formsOf, unreadableLine, IsText}
 use Rattle.text.proofs.Splits.{readable-written, text-written}
@@ -16,19 +17,20 @@ use Rattle.semantics.specs.Plan.{LockPlan}
 use Rattle.semantics.specs.Sizes.{sizeOf}
 use Rattle.semantics.specs.Pairs.{pairList}
 use Rattle.semantics.specs.Language.{PublishedCritical}
-use Rattle.semantics.proofs.PairList.{pair-list-critical}
-use Rattle.semantics.proofs.CriticalLanguage.{critical-is-published}
+use Rattle.semantics.proofs.Critical.PairList.{pair-list-critical}
+use Rattle.semantics.proofs.Critical.CriticalLanguage.{critical-is-published}
 use Rattle.plan.specs.Grammar.{forms, planIn}
 use Rattle.plan.specs.Settled.{Settled}
 use Rattle.plan.specs.Rules.{refusedIf, tooLong, formsRefusal, readerRefusal, tooLarge, tooManyPairs, planOf, planRefusal, verdictRefusal, pairsRefusal}
+use Rattle.plan.proofs.Kept.{unflagged}
 use Rattle.plan.proofs.Sound.{accepted-text}
 use Rattle.plan.proofs.Allowed.{rules-plan}
 use Rattle.demands.specs.Broken.{TooLarge, TooManyPairs, planRules, AllUnbroken, AcceptedText}
 use Rattle.demands.proofs.Lowest.{none-lowest, lowest-none}
 use Rattle.demands.proofs.Pairs.{many-pairs}
-use Rattle.demands.proofs.Refusals.{unflagged, below, read, plan-refuses}
+use Rattle.demands.proofs.Refusals.{below, read, plan-refuses}
 
-not-above : (n : ℕ) → (1024 < n → ⊥) → n ≤ 1024
+not-above : (n : ℕ) → (maxSize < n → ⊥) → n ≤ maxSize
 not-above n h = omega arith
 
 module _ (text : List ℕ) where
@@ -42,12 +44,12 @@ module _ (text : List ℕ) where
       let x = read text (reader .0) in
       let written = accepted-text text (reader .0) in
       record {
-        short = ltb-false 32768 (length text) (unflagged 2 (ltb 32768 (length text)) (first-none (tooLong text) _ (reader .0) .0));
+        short = ltb-false maxBytes (length text) (unflagged 2 (ltb maxBytes (length text)) (first-none (tooLong text) _ (reader .0) .0));
         plan = planOf text;
         written = subst (IsText text) written (readable-written text (x .readable));
         settled = x .settled;
-        sizes = λ p h. not-above (sizeOf ps p) (none-lowest fs written (λ p. ltb 1024 (sizeOf ps p)) TooLarge (λ p h. below 1024 (sizeOf ps p)) 9 (large .0) p h);
-        pairs = none-lowest fs written (λ p. ltb 128 (length (pairList ps p))) TooManyPairs (many-pairs ps (x .settled .sound)) 10 (large .1);
+        sizes = λ p h. not-above (sizeOf ps p) (none-lowest fs written (λ p. ltb maxSize (sizeOf ps p)) TooLarge (λ p h. below maxSize (sizeOf ps p)) 9 (large .0) p h);
+        pairs = none-lowest fs written (λ p. ltb maxPairs (length (pairList ps p))) TooManyPairs (many-pairs ps (x .settled .sound)) 10 (large .1);
       }
 
   module _ (x : AcceptedText text) where
@@ -70,19 +72,19 @@ module _ (text : List ℕ) where
         let same = kept-rules .1 in
         let written : fs ≡ forms (planIn fs) = same-forms .1 ∙ ap forms (sym same) in
         let settled : Settled (planIn fs) = subst Settled (sym same) (x .settled) in
-        let sizes : (p : ℕ) → p < length ps → sizeOf ps p ≤ 1024 =
-        subst (λ (q : LockPlan). (p : ℕ) → p < length (q .procs) → sizeOf (q .procs) p ≤ 1024) (sym same) (x .sizes) in
+        let sizes : (p : ℕ) → p < length ps → sizeOf ps p ≤ maxSize =
+        subst (λ (q : LockPlan). (p : ℕ) → p < length (q .procs) → sizeOf (q .procs) p ≤ maxSize) (sym same) (x .sizes) in
         let pairs : (p : ℕ) → p < length ps → TooManyPairs ps p → ⊥ =
         subst (λ (q : LockPlan). (p : ℕ) → p < length (q .procs) → TooManyPairs (q .procs) p → ⊥) (sym same) (x .pairs) in
         rw (
-          le-ltb 32768 (length text) (x .short),
+          le-ltb maxBytes (length text) (x .short),
           same-forms .0,
           kept-rules .0,
-          lowest-none fs written (λ p. ltb 1024 (sizeOf ps p)) TooLarge (λ p h. below 1024 (sizeOf ps p)) 9 (λ p h k. omega (arith, sizes p h)),
-          lowest-none fs written (λ p. ltb 128 (length (pairList ps p))) TooManyPairs (many-pairs ps (settled .sound)) 10 pairs,
+          lowest-none fs written (λ p. ltb maxSize (sizeOf ps p)) TooLarge (λ p h. below maxSize (sizeOf ps p)) 9 (λ p h k. omega (arith, sizes p h)),
+          lowest-none fs written (λ p. ltb maxPairs (length (pairList ps p))) TooManyPairs (many-pairs ps (settled .sound)) 10 pairs,
         )
 
-    -- demand 2, of the listed words
+    -- demand 2, of the listed pairs
     pub published-exactly : (p : ℕ) → p < length (x .plan .procs) → (w : ℕ) → List·Memᴰ w (pairList (planOf text .procs) p) ↔ PublishedCritical (x .plan .procs) p w
     published-exactly p h w =
         let ps = x .plan .procs in
@@ -97,25 +99,25 @@ module _ (text : List ℕ) where
   unbroken-exactly = let k = plan-refuses text .kept in (λ u. accepted (k .1 u), λ x. k .0 (unrefused x))
 
   -- with rule 1
-  pub verdict-accepted-exactly : (lent : ℕ) → (verdictRefusal text lent ≡ none) ↔ ((6144 ≤ lent) × AcceptedText text)
+  pub verdict-accepted-exactly : (lent : ℕ) → (verdictRefusal text lent ≡ none) ↔ ((maxEntries ≤ lent) × AcceptedText text)
   unfolding verdictRefusal orElse
   verdict-accepted-exactly lent = (
-    λ e. let x = first-none (refusedIf 1 (ltb lent 6144)) (planRefusal text) e in (ltb-false lent 6144 (unflagged 1 (ltb lent 6144) (x .0)), accepted (x .1)),
-    λ x. rw (le-ltb lent 6144 (x .0)) (unrefused (x .1)),
+    λ e. let x = first-none (refusedIf 1 (ltb lent maxEntries)) (planRefusal text) e in (ltb-false lent maxEntries (unflagged 1 (ltb lent maxEntries) (x .0)), accepted (x .1)),
+    λ x. rw (le-ltb lent maxEntries (x .0)) (unrefused (x .1)),
   )
 
   -- with rules 1 and 11
-  pub pairs-accepted-exactly : (p lent : ℕ) → (pairsRefusal text p lent ≡ none) ↔ ((128 ≤ lent) × (x : AcceptedText text) × (p < length (x .plan .procs)))
+  pub pairs-accepted-exactly : (p lent : ℕ) → (pairsRefusal text p lent ≡ none) ↔ ((maxPairs ≤ lent) × (x : AcceptedText text) × (p < length (x .plan .procs)))
   unfolding pairsRefusal orElse
   pairs-accepted-exactly p lent =
       let absent = refusedIf 11 (leb (length (planOf text .procs)) p) in (
         λ e.
-            let y = first-none (refusedIf 1 (ltb lent 128)) (orElse (planRefusal text) absent) e in
+            let y = first-none (refusedIf 1 (ltb lent maxPairs)) (orElse (planRefusal text) absent) e in
             let z = first-none (planRefusal text) absent (y .1) in
             let x = accepted (z .0) in (
-              ltb-false lent 128 (unflagged 1 (ltb lent 128) (y .0)),
+              ltb-false lent maxPairs (unflagged 1 (ltb lent maxPairs) (y .0)),
               x,
               subst (λ (q : LockPlan). p < length (q .procs)) (accepted-plan x) (leb-false (length (planOf text .procs)) p (unflagged 11 _ (z .1))),
             ),
-        λ y. rw (le-ltb lent 128 (y .0), unrefused (y .1), accepted-plan (y .1), lt-leb (length (y .1 .plan .procs)) p (y .2)),
+        λ y. rw (le-ltb lent maxPairs (y .0), unrefused (y .1), accepted-plan (y .1), lt-leb (length (y .1 .plan .procs)) p (y .2)),
       )

@@ -1,18 +1,19 @@
 -- The counts that the pass of rules 5 to 8 keeps are counts of the forms read (`counted-more`). Which forms stand behind the last `(proc` (`inside-unique`), and where a
 -- procedure begins (`proc-unique`), is settled by the forms; a plan's forms have as many `(proc` lines as it has procedures (`count-forms`).
 use Prim.Native.Nat.{ℕ, suc, _+_}
-use mathlib.Core.Bool.{Bool, cond}
+use mathlib.Core.Bool.{Bool, true, false, cond}
 use mathlib.Core.List.{List, [], _∷_, _++_, foldl, foldl-append, head-eq-of-cons-eq, tail-eq-of-cons-eq}
 use mathlib.Core.Path.{_≡_, refl, ap}
 use native.Mathlib.Omega.{arith}
 use lib.ListN.{length}
 use Rattle.text.specs.declared.Form.{Form}
-use Rattle.text.specs.declared.Form.the-variants.{Plan, Proc, Thread, Close, Skip, Call, Hold, Loop, Either, One, Two}
+use Rattle.text.specs.declared.Form.the-variants.{Proc, Close, Two}
+use Rattle.text.specs.Forms.{kindIn, isProc, isThread, isStatement}
 use Rattle.semantics.specs.Plan.{Block, done, skip, call, hold, loop, either, end, LockPlan}
 use Rattle.plan.specs.declared.Counts.{Counts}
 use Rattle.plan.specs.Grammar.{blockForms, procForms, threadForms, forms}
-use Rattle.plan.specs.Limits.{counted, noCounts}
-use Rattle.demands.specs.Lines.{count, isProc, isThread, isStatement}
+use Rattle.plan.specs.Limits.{addIf, counted, noCounts}
+use Rattle.demands.specs.Lines.{count}
 
 pub count-append : (kind : Form → Bool) (fs gs : List Form) → count kind (fs ++ gs) ≡ count kind fs + count kind gs
 unfolding count
@@ -42,38 +43,22 @@ pub record Counted (fs : List Form) (c : Counts) : Type 0 where
   pub threads : c .threads ≡ count isThread fs
 
 -- what one form adds
-record Adds (c : Counts) (f : Form) : Type 0 where
-  procs : counted c f .procs ≡ c .procs + one isProc f
-  statements : counted c f .statements ≡ c .statements + one isStatement f
-  threads : counted c f .threads ≡ c .threads + one isThread f
-
-adds : (c : Counts) (f : Form) → Adds c f
-unfolding counted isProc isStatement isThread
-adds c Plan = record { procs = omega arith; statements = omega arith; threads = omega arith }
-adds c Proc = record { procs = omega arith; statements = omega arith; threads = omega arith }
-adds c (Thread n) = record { procs = omega arith; statements = omega arith; threads = omega arith }
-adds c Close = record { procs = omega arith; statements = omega arith; threads = omega arith }
-adds c Skip = record { procs = omega arith; statements = omega arith; threads = omega arith }
-adds c (Call n) = record { procs = omega arith; statements = omega arith; threads = omega arith }
-adds c (Hold l) = record { procs = omega arith; statements = omega arith; threads = omega arith }
-adds c Loop = record { procs = omega arith; statements = omega arith; threads = omega arith }
-adds c Either = record { procs = omega arith; statements = omega arith; threads = omega arith }
-adds c One = record { procs = omega arith; statements = omega arith; threads = omega arith }
-adds c Two = record { procs = omega arith; statements = omega arith; threads = omega arith }
+add-one-if : (b : Bool) (n : ℕ) → addIf b n ≡ n + cond b 1 0
+add-one-if true n = refl
+add-one-if false n = omega arith
 
 pub counted-more : (fs : List Form) (f : Form) (c : Counts) → Counted fs c → Counted (fs ++ f ∷ []) (counted c f)
-counted-more fs f c x =
-    let a = adds c f in
-    record {
-      procs = omega (arith, a .procs, x .procs, count-snoc isProc fs f);
-      statements = omega (arith, a .statements, x .statements, count-snoc isStatement fs f);
-      threads = omega (arith, a .threads, x .threads, count-snoc isThread fs f);
-    }
+unfolding counted
+counted-more fs f c x = record {
+  procs = omega (arith, add-one-if (isProc f) (c .procs), x .procs, count-snoc isProc fs f);
+  statements = omega (arith, add-one-if (isStatement f) (c .statements), x .statements, count-snoc isStatement fs f);
+  threads = omega (arith, add-one-if (isThread f) (c .threads), x .threads, count-snoc isThread fs f);
+}
 
 -- ---- `(proc` lines
 
 pub no-proc-in : (fs gs : List Form) → count isProc (fs ++ Proc ∷ gs) ≡ 0 → ⊥
-unfolding count isProc
+unfolding count kindIn
 no-proc-in fs gs h = omega (arith, count-append isProc fs (Proc ∷ gs))
 
 -- the forms behind the last `(proc`
@@ -85,7 +70,7 @@ inside-unique (x ∷ xs) (y ∷ ys) vs ws e h k = inside-unique xs ys vs ws (tai
 
 -- the `(proc` line with so many before it
 pub proc-unique : (xs ys vs ws : List Form) → xs ++ Proc ∷ vs ≡ ys ++ Proc ∷ ws → count isProc xs ≡ count isProc ys → length xs ≡ length ys
-unfolding count isProc
+unfolding count kindIn
 proc-unique [] [] vs ws e h = refl
 proc-unique [] (y ∷ ys) vs ws e h = let z : Proc ≡ y = head-eq-of-cons-eq e in absurd (omega (arith, rw (← z) at h))
 proc-unique (x ∷ xs) [] vs ws e h = let z : x ≡ Proc = head-eq-of-cons-eq e in absurd (omega (arith, rw z at h))
@@ -96,7 +81,7 @@ proc-unique (x ∷ xs) (y ∷ ys) vs ws e h =
 -- as many as procedures
 
 count-block : (b : Block) (fs : List Form) → count isProc (blockForms b fs) ≡ count isProc fs
-unfolding count isProc blockForms
+unfolding count kindIn blockForms
 count-block done fs = refl
 count-block (skip r) fs = omega (arith, count-block r fs)
 count-block (call n r) fs = omega (arith, count-block r fs)
@@ -108,15 +93,15 @@ count-block (either a b r) fs =
 count-block (end l r) fs = count-block r fs
 
 count-procs : (bs : List Block) (fs : List Form) → count isProc (procForms bs fs) ≡ length bs + count isProc fs
-unfolding count isProc procForms
+unfolding count kindIn procForms
 count-procs [] fs = omega arith
 count-procs (b ∷ bs) fs = omega (arith, count-block b (Close ∷ procForms bs fs), count-procs bs fs)
 
 count-threads : (ns : List ℕ) (fs : List Form) → count isProc (threadForms ns fs) ≡ count isProc fs
-unfolding count isProc threadForms
+unfolding count kindIn threadForms
 count-threads [] fs = refl
 count-threads (n ∷ ns) fs = omega (arith, count-threads ns fs)
 
 pub count-forms : (plan : LockPlan) → count isProc (forms plan) ≡ length (plan .procs)
-unfolding count isProc forms
+unfolding count kindIn forms
 count-forms plan = omega (arith, count-procs (plan .procs) (threadForms (plan .threads) (Close ∷ [])), count-threads (plan .threads) (Close ∷ []))

@@ -6,15 +6,17 @@ use mathlib.Core.List.{List, [], _∷_, _++_, append-assoc}
 use mathlib.Core.Logic.{_↔_}
 use mathlib.Core.Path.{_≡_, refl, sym, ap, _∙_}
 use native.Mathlib.Omega.{arith}
+use Rattle.limits.specs.Limits.{maxBrackets}
 use Rattle.text.specs.declared.Form.{Form}
 use Rattle.text.specs.declared.Form.the-variants.{Plan, Proc, Thread, Close, Skip, Call, Hold, Loop, Either, One, Two}
+use Rattle.text.specs.Forms.{kindIn, isProc, isBracket, isClose}
 use Rattle.plan.specs.declared.Counts.{Counts}
 use Rattle.plan.specs.Limits.{counted}
 use Rattle.plan.proofs.States.{Bracket, statement, one, two}
 use Rattle.plan.proofs.States.{State, initial, first-proc, next-proc, next-thread, finished, in-block, needs-one, needs-two, ends-either}
 use Rattle.plan.proofs.States.{Step, begins-plan, first, next, first-thread, more-threads, ends-plan, skips, calls, holds, loops, chooses}
 use Rattle.plan.proofs.States.{begins-one, begins-two, ends-proc, ends-statement, ends-one, ends-two, ends-choice}
-use Rattle.demands.specs.Lines.{count, isProc, isBracket, isClose}
+use Rattle.demands.specs.Lines.{count}
 use Rattle.demands.specs.Broken.{TooDeep}
 use Rattle.demands.proofs.Counting as Counting
 use Rattle.demands.proofs.Counting.{count-snoc, no-proc-in, inside-unique}
@@ -111,7 +113,7 @@ unfolding count inside-new
 new-within fs d e = record { in-proc = inside-new fs; unclosed = omega arith; depth = e }
 
 pub open-step : {s t : State} {f : Form} → Step s f t → (fs : List Form) (c : Counts) → Open s fs (c .depth) → Open t (fs ++ f ∷ []) (counted c f .depth)
-unfolding Open levels counted isProc isBracket isClose
+unfolding Open levels counted kindIn
 open-step begins-plan fs c x = record { none-begun = count-snoc isProc fs Plan ∙ omega (arith, x .none-begun); depth = x .depth }
 open-step first fs c x = new-within fs (c .depth) (x .depth)
 open-step next fs c x = new-within fs (c .depth) (x .depth)
@@ -134,23 +136,23 @@ open-step (ends-choice {ks}) fs c x = within-more fs Close _ _ refl (suc (levels
 -- ---- more than 16
 
 module _ (fs : List Form) (d : ℕ) where
-  unbegun-deep : Unbegun fs d → (16 < d) ↔ TooDeep fs
+  unbegun-deep : Unbegun fs d → (maxBrackets < d) ↔ TooDeep fs
   unbegun-deep x = (λ h. absurd (omega (arith, x .depth)), λ t. absurd (no-proc-in (t .earlier) (t .inside) (rw (t .split) at (x .none-begun))))
 
   same-inside : (x : Inside fs) (t : TooDeep fs) → t .inside ≡ x .inside
   same-inside x t = inside-unique (t .earlier) (x .earlier) (t .inside) (x .inside) (sym (t .split) ∙ x .split) (t .last) (x .last)
 
-  within-deep : (k : ℕ) → Within k fs d → (16 < d) ↔ TooDeep fs
+  within-deep : (k : ℕ) → Within k fs d → (maxBrackets < d) ↔ TooDeep fs
   within-deep k w =
       let x = w .in-proc in (
         λ h. record { earlier = x .earlier; inside = x .inside; split = x .split; last = x .last; unclosed = omega (arith, w .unclosed, w .depth) },
         λ t. omega (arith, w .unclosed, w .depth, rw (same-inside x t) at (t .unclosed)),
       )
 
-  ended-deep : Ended fs d → (16 < d) ↔ TooDeep fs
+  ended-deep : Ended fs d → (maxBrackets < d) ↔ TooDeep fs
   ended-deep w = (λ h. absurd (omega (arith, w .depth)), λ t. absurd (omega (arith, w .closed, rw (same-inside (w .in-proc) t) at (t .unclosed))))
 
-  pub open-deep : (s : State) → Open s fs d → (16 < d) ↔ TooDeep fs
+  pub open-deep : (s : State) → Open s fs d → (maxBrackets < d) ↔ TooDeep fs
   unfolding Open
   open-deep initial x = unbegun-deep x
   open-deep first-proc x = unbegun-deep x

@@ -1,10 +1,11 @@
 -- The first number of which something holds: there is at most one, so a search that finds such a number names it (`names-scanned`).
 use Prim.Native.Nat.{ℕ, _<_, _≤_}
 use mathlib.Core.Bool.{Bool, true, false}
-use mathlib.Core.Logic.{_⊎_, ⊎-elim}
+use mathlib.Core.Logic.{_⊎_, inl, inr, ⊎-elim}
 use mathlib.Core.Option.{Option, none, some, Option·none-ne-some, Option·some-injective}
-use mathlib.Core.Path.{_≡_, ap, subst}
+use mathlib.Core.Path.{_≡_, sym, ap, subst, _∙_}
 use native.Mathlib.Omega.{arith}
+use lib.Dec.{T}
 use Rattle.laws.proofs.Tests.{lt-or-le}
 use Rattle.demands.specs.Lines.{First}
 use Rattle.demands.proofs.Order.{Names}
@@ -18,6 +19,14 @@ first-unique P m n x y =
 -- a test says whether P
 abbrev pub Decides : Bool → Type 0 → Type 0
 Decides b P = ((b ≡ true) × P) ⊎ ((b ≡ false) × (P → ⊥))
+
+pub holds-where : (b : Bool) (P : Type 0) → Decides b P → b ≡ true → P
+holds-where b P (inl x) e = x .1
+holds-where b P (inr x) e = absurd (subst T (sym e ∙ x .0) tt)
+
+pub fails-where : (b : Bool) (P : Type 0) → Decides b P → b ≡ false → P → ⊥
+fails-where b P (inl x) e r = subst T (sym (x .0) ∙ e) tt
+fails-where b P (inr x) e r = x .1 r
 
 -- what a search says by its answer: the first number of which P holds, or that there is none
 abbrev pub Scanned : (ℕ → Type 0) → Option ℕ → Type 0

@@ -1,5 +1,6 @@
 -- Rules 5 to 8: in the forms of a plan the pass names the first line that breaks the rule.
 use Prim.Native.Nat.{ℕ, _+_, _-_, _<_, _≤_}
+use mathlib.Core.Bool.{Bool, true, false}
 use mathlib.Core.List.{List, [], _∷_, _++_}
 use mathlib.Core.Logic.{inl, inr, ⊎-elim}
 use mathlib.Core.Option.{none}
@@ -7,16 +8,18 @@ use mathlib.Core.Path.{_≡_, refl, sym, ap, subst, _∙_}
 use native.Mathlib.Omega.{arith}
 use lib.Dec.{leb}
 use borrow.Author.Tests.{lt-ltb, le-ltb, le-leb, lt-leb}
+use Rattle.limits.specs.Limits.{maxProcs, maxStatements, maxThreads, maxBrackets, lockCount}
 use Rattle.laws.specs.Choice.{pick}
 use Rattle.laws.proofs.Tests.{lt-or-le}
 use Rattle.text.specs.declared.Form.{Form}
-use Rattle.text.specs.declared.Form.the-variants.{Plan, Proc, Thread, Close, Skip, Call, Hold, Loop, Either, One, Two}
-use Rattle.text.specs.Forms.{numberIn}
+use Rattle.text.specs.declared.Form.the-variants.{Thread, Call, Hold}
+use Rattle.text.specs.Forms.{numberIn, kindIn, isProc, isThread, isCall, isHold}
+use Rattle.text.proofs.Matches.{kind-form}
 use Rattle.plan.specs.declared.Counts.{Counts}
 use Rattle.plan.specs.Limits.{overLimit, testedBy, leastBad, breaks, breakingLine}
 use Rattle.plan.specs.Structure.{misplacedLine}
 use Rattle.plan.proofs.States.{State}
-use Rattle.demands.specs.Lines.{First, LineWhere, count, isProc}
+use Rattle.demands.specs.Lines.{First, LineWhere, count}
 use Rattle.demands.specs.Broken.{PastLimit, procedures, statements, threads, brackets, HighLock, LateCall, AbsentProc}
 use Rattle.demands.proofs.Order.{Names}
 use Rattle.demands.proofs.Firsts.{Decides}
@@ -27,7 +30,7 @@ use Rattle.demands.proofs.Scan.{scan-names}
 
 -- ---- 5
 
-within-limits : (fs : List Form) (c : Counts) (s : State) → Along s fs c → c .procs ≤ 64 → c .statements ≤ 1024 → c .threads ≤ 6 → c .depth ≤ 16 → PastLimit fs → ⊥
+within-limits : (fs : List Form) (c : Counts) (s : State) → Along s fs c → c .procs ≤ maxProcs → c .statements ≤ maxStatements → c .threads ≤ maxThreads → c .depth ≤ maxBrackets → PastLimit fs → ⊥
 within-limits fs c s a h i j k (procedures p) = omega (arith, a .counts .procs)
 within-limits fs c s a h i j k (statements p) = omega (arith, a .counts .statements)
 within-limits fs c s a h i j k (threads p) = omega (arith, a .counts .threads)
@@ -36,21 +39,21 @@ within-limits fs c s a h i j k (brackets p) = omega (arith, open-deep fs (c .dep
 past-limit : (fs : List Form) (c : Counts) (s : State) → Along s fs c → Decides (overLimit c) (PastLimit fs)
 unfolding overLimit pick
 past-limit fs c s a =
-    ⊎-elim (λ (h : 64 < c .procs). inl (rw (lt-ltb 64 (c .procs) h), procedures (omega (arith, a .counts .procs))))
-    (λ (h : c .procs ≤ 64). ⊎-elim
-    (λ (i : 1024 < c .statements). inl (rw (le-ltb 64 (c .procs) h, lt-ltb 1024 (c .statements) i), statements (omega (arith, a .counts .statements))))
-    (λ (i : c .statements ≤ 1024). ⊎-elim
-    (λ (j : 6 < c .threads). inl (rw (le-ltb 64 (c .procs) h, le-ltb 1024 (c .statements) i, lt-ltb 6 (c .threads) j), threads (omega (arith, a .counts .threads))))
-    (λ (j : c .threads ≤ 6). ⊎-elim
-    (λ (k : 16 < c .depth). inl (
-      rw (le-ltb 64 (c .procs) h, le-ltb 1024 (c .statements) i, le-ltb 6 (c .threads) j, lt-ltb 16 (c .depth) k),
+    ⊎-elim (λ (h : maxProcs < c .procs). inl (rw (lt-ltb maxProcs (c .procs) h), procedures (omega (arith, a .counts .procs))))
+    (λ (h : c .procs ≤ maxProcs). ⊎-elim
+    (λ (i : maxStatements < c .statements). inl (rw (le-ltb maxProcs (c .procs) h, lt-ltb maxStatements (c .statements) i), statements (omega (arith, a .counts .statements))))
+    (λ (i : c .statements ≤ maxStatements). ⊎-elim
+    (λ (j : maxThreads < c .threads). inl (rw (le-ltb maxProcs (c .procs) h, le-ltb maxStatements (c .statements) i, lt-ltb maxThreads (c .threads) j), threads (omega (arith, a .counts .threads))))
+    (λ (j : c .threads ≤ maxThreads). ⊎-elim
+    (λ (k : maxBrackets < c .depth). inl (
+      rw (le-ltb maxProcs (c .procs) h, le-ltb maxStatements (c .statements) i, le-ltb maxThreads (c .threads) j, lt-ltb maxBrackets (c .depth) k),
       brackets (open-deep fs (c .depth) s (a .brackets) .0 k),
     ))
-    (λ (k : c .depth ≤ 16). inr (
-      rw (le-ltb 64 (c .procs) h, le-ltb 1024 (c .statements) i, le-ltb 6 (c .threads) j, le-ltb 16 (c .depth) k),
+    (λ (k : c .depth ≤ maxBrackets). inr (
+      rw (le-ltb maxProcs (c .procs) h, le-ltb maxStatements (c .statements) i, le-ltb maxThreads (c .threads) j, le-ltb maxBrackets (c .depth) k),
       within-limits fs c s a h i j k,
     ))
-    (lt-or-le 16 (c .depth))) (lt-or-le 6 (c .threads))) (lt-or-le 1024 (c .statements))) (lt-or-le 64 (c .procs))
+    (lt-or-le maxBrackets (c .depth))) (lt-or-le maxThreads (c .threads))) (lt-or-le maxStatements (c .statements))) (lt-or-le maxProcs (c .procs))
 
 -- ---- 6 to 8
 
@@ -63,17 +66,13 @@ data Tested : Form → Type 0 where
 
 tested : (f : Form) → Tested f
 unfolding testedBy
-tested Plan = untested refl
-tested Proc = untested refl
-tested (Thread n) = thread n
-tested Close = untested refl
-tested Skip = untested refl
-tested (Call n) = call n
-tested (Hold l) = hold l
-tested Loop = untested refl
-tested Either = untested refl
-tested One = untested refl
-tested Two = untested refl
+tested f = go (isThread f) refl (isCall f) refl (isHold f) refl
+  where
+    go : (a : Bool) → isThread f ≡ a → (b : Bool) → isCall f ≡ b → (c : Bool) → isHold f ≡ c → Tested f
+    go true h b i c j = subst Tested (sym (kind-form (Thread 0) f h)) (thread (numberIn f))
+    go false h true i c j = subst Tested (sym (kind-form (Call 0) f i)) (call (numberIn f))
+    go false h false i true j = subst Tested (sym (kind-form (Hold 0) f j)) (hold (numberIn f))
+    go false h false i false j = untested {f = f} (rw (h, i, j))
 
 -- a number that is tested against the least that breaks the rule
 at-least : (least n : ℕ) (P : Type 0) → (least ≤ n → P) → (P → least ≤ n) → Decides (leb least n) P
@@ -81,10 +80,10 @@ at-least least n P f g =
     ⊎-elim (λ (h : n < least). inr (lt-leb least n h, λ p. omega (arith, g p))) (λ (h : least ≤ n). inl (le-leb least n h, f h)) (lt-or-le n least)
 
 decides-6 : (f : Form) (c : Counts) → Tested f → Decides (breaks 6 c f) (HighLock f)
-unfolding breaks testedBy leastBad numberIn pick
+unfolding breaks testedBy leastBad numberIn pick kindIn
 decides-6 f c (thread n) = inr (refl, λ x. omega (arith, ap testedBy (x .hold)))
 decides-6 f c (call n) = inr (refl, λ x. omega (arith, ap testedBy (x .hold)))
-decides-6 f c (hold l) = at-least 32 l (HighLock (Hold l))
+decides-6 f c (hold l) = at-least lockCount l (HighLock (Hold l))
     (λ h. record { lock = l; hold = refl; above = h }) (λ x. omega (arith, x .above, ap numberIn (x .hold)))
 decides-6 f c (untested e) = inr (rw e, λ x. omega (arith, sym e ∙ ap testedBy (x .hold)))
 
@@ -97,7 +96,7 @@ module _ (before : List Form) (f : Form) (after : List Form) (x : Reached before
   procs-here = past before f after x .counts .procs ∙ count-snoc isProc before f
 
 decides-7 : (before : List Form) (f : Form) (after : List Form) (x : Reached before f after) → Tested f → Decides (breaks 7 (countsOf (before ++ f ∷ [])) f) (LateCall before f)
-unfolding breaks testedBy leastBad numberIn pick isProc
+unfolding breaks testedBy leastBad numberIn pick kindIn
 decides-7 before f after x (thread n) = inr (refl, λ y. omega (arith, ap testedBy (y .call)))
 decides-7 before f after x (call n) =
     let c = countsOf (before ++ Call n ∷ []) in
@@ -111,7 +110,7 @@ decides-7 before f after x (untested e) = inr (rw e, λ y. omega (arith, sym e �
 
 decides-8 : (before : List Form) (f : Form) (after : List Form) (x : Reached before f after) → Tested f
     → Decides (breaks 8 (countsOf (before ++ f ∷ [])) f) (AbsentProc (before ++ f ∷ after) f)
-unfolding breaks testedBy leastBad numberIn pick isProc count
+unfolding breaks testedBy leastBad numberIn pick kindIn count
 decides-8 before f after x (thread n) =
     let c = countsOf (before ++ Thread n ∷ []) in
     let k : c .procs ≡ count isProc (before ++ Thread n ∷ after) =

@@ -1,4 +1,4 @@
--- Rule 10: a procedure has more than 128 different critical words exactly when its list has more than 128. An ascending list is no longer than one that has all its
+-- Rule 10: a procedure has more different critical pairs than it may exactly when its list has. An ascending list is no longer than one that has all its
 -- members (`ascends-length`).
 use Prim.Native.Nat.{ℕ, _<_, _≤_}
 use mathlib.Core.List.{List, [], _∷_, List·Memᴰ, List·Memᴰ·head, List·Memᴰ·tail, List·Memᴰ·not-nil, List·Memᴰ·cases-cons}
@@ -8,12 +8,13 @@ use native.Mathlib.Omega.{arith}
 use lib.Dec.{ltb}
 use lib.ListN.{length}
 use borrow.Author.Tests.{lt-ltb, le-ltb}
+use Rattle.limits.specs.Limits.{maxPairs}
 use Rattle.laws.specs.Ascending.{Ascends}
 use Rattle.laws.proofs.Ascending.{least}
 use Rattle.laws.proofs.Tests.{lt-or-le}
 use Rattle.semantics.specs.Plan.{Block, Sound}
 use Rattle.semantics.specs.Pairs.{pairList}
-use Rattle.semantics.proofs.PairList.{pair-list-ascends, pair-list-critical}
+use Rattle.semantics.proofs.Critical.PairList.{pair-list-ascends, pair-list-critical}
 use Rattle.demands.specs.Broken.{TooManyPairs}
 use Rattle.demands.proofs.Firsts.{Decides}
 
@@ -30,16 +31,16 @@ ascends-length (y ∷ ys) (x ∷ xs) a b f =
     omega (arith, ascends-length ys (x ∷ xs) a (b .1) (λ v m. beyond y ys v (omega (arith, b .0 x k, least x xs a v m)) (f v m))))
     (List·Memᴰ·cases-cons (f x (List·Memᴰ·head refl)))
 
-pub many-pairs : (ps : List Block) → Sound ps (λ p. p) → (p : ℕ) → p < length ps → Decides (ltb 128 (length (pairList ps p))) (TooManyPairs ps p)
+pub many-pairs : (ps : List Block) → Sound ps (λ p. p) → (p : ℕ) → p < length ps → Decides (ltb maxPairs (length (pairList ps p))) (TooManyPairs ps p)
 many-pairs ps s p h =
     let listed = pair-list-critical ps (λ q. q) s p h in
     ⊎-elim
-    (λ (k : 128 < length (pairList ps p)). inl (
-      lt-ltb 128 (length (pairList ps p)) k,
-      record { words = pairList ps p; many = k; different = pair-list-ascends ps p; critical = λ w m. listed w .0 m },
+    (λ (k : maxPairs < length (pairList ps p)). inl (
+      lt-ltb maxPairs (length (pairList ps p)) k,
+      record { pairs = pairList ps p; many = k; different = pair-list-ascends ps p; critical = λ w m. listed w .0 m },
     ))
-    (λ (k : length (pairList ps p) ≤ 128). inr (
-      le-ltb 128 (length (pairList ps p)) k,
-      λ x. omega (arith, x .many, ascends-length (pairList ps p) (x .words) (x .different) (pair-list-ascends ps p) (λ v m. listed v .1 (x .critical v m))),
+    (λ (k : length (pairList ps p) ≤ maxPairs). inr (
+      le-ltb maxPairs (length (pairList ps p)) k,
+      λ x. omega (arith, x .many, ascends-length (pairList ps p) (x .pairs) (x .different) (pair-list-ascends ps p) (λ v m. listed v .1 (x .critical v m))),
     ))
-    (lt-or-le 128 (length (pairList ps p)))
+    (lt-or-le maxPairs (length (pairList ps p)))

@@ -10,12 +10,13 @@ use native.Mathlib.Omega.{arith}
 use lib.Seq.{append-snoc}
 use Rattle.text.specs.declared.Form.{Form}
 use Rattle.text.specs.declared.Form.the-variants.{Proc, Thread, Call}
+use Rattle.text.specs.Forms.{kindIn, isProc}
 use Rattle.plan.specs.declared.Counts.{Counts}
 use Rattle.plan.specs.Limits.{counted}
 use Rattle.plan.specs.Structure.{misplacedLine}
 use Rattle.plan.proofs.States.{State, initial, next-thread, finished, modeOf, stackOf, misplacedFrom, after-step, step-or-refused}
 use Rattle.plan.proofs.States.{Step, first-thread, more-threads, ends-plan, calls}
-use Rattle.demands.specs.Lines.{count, isProc}
+use Rattle.demands.specs.Lines.{count}
 use Rattle.demands.proofs.Counting.{count-append, Counted, counted-more, countsOf, counts-snoc}
 use Rattle.demands.proofs.Depth.{Open, open-step}
 
@@ -67,7 +68,7 @@ reached fs h before f later e = reached-from f later before [] initial 1 at-star
 -- ---- calls and threads
 
 pub call-begun : {s t : State} {n : ℕ} → Step s (Call n) t → (fs : List Form) (d : ℕ) → Open s fs d → 1 ≤ count isProc fs
-unfolding Open count isProc
+unfolding Open count kindIn
 call-begun calls fs d x =
     let y = x .in-proc in
     omega (arith, count-append isProc (y .earlier) (Proc ∷ y .inside), ap (count isProc) (y .split))
@@ -78,7 +79,7 @@ data Behind : State → Type 0 where
   over : Behind finished
 
 behind-step : {s t : State} {f : Form} → Behind s → Step s f t → Behind t × (isProc f ≡ false)
-unfolding isProc
+unfolding kindIn
 behind-step threads more-threads = (threads, refl)
 behind-step threads ends-plan = (over, refl)
 

@@ -3,12 +3,13 @@ use Prim.Native.Nat.{ℕ, _<_, _≤_}
 use mathlib.Core.Bool.{Bool, true, false, cond}
 use mathlib.Core.List.{List, [], _∷_, _++_}
 use mathlib.Core.Logic.{inl, inr, ⊎-elim, _↔_}
-use mathlib.Core.Option.{Option, none, some, Option·none-ne-some, Option·some-ne-none, Option·some-injective}
-use mathlib.Core.Path.{_≡_, refl, sym, ap, subst, _∙_}
+use mathlib.Core.Option.{Option, none, some, Option·none-ne-some, Option·some-injective}
+use mathlib.Core.Path.{_≡_, sym, ap, subst, _∙_}
 use native.Mathlib.Omega.{arith}
 use lib.Dec.{ltb, leb}
 use lib.ListN.{length}
 use borrow.Author.Tests.{lt-ltb, le-ltb, le-leb, lt-leb}
+use Rattle.limits.specs.Limits.{maxBytes, maxSize, maxPairs, maxEntries}
 use Rattle.laws.proofs.Tests.{lt-or-le, first-none}
 use Rattle.text.specs.declared.Form.{Form}
 use Rattle.text.specs.Lines.{refusal, formsOf, unreadableLine, IsText}
@@ -20,11 +21,11 @@ use Rattle.plan.specs.Grammar.{forms, planIn}
 use Rattle.plan.specs.Structure.{misplacedLine}
 use Rattle.plan.specs.Limits.{breakingLine}
 use Rattle.plan.specs.Settled.{Settled}
-use Rattle.plan.specs.Rules.{refusedAt, refusedIf, tooLong, formsRefusal, readerRefusal, lowestFrom, procRefusal, tooLarge, tooManyPairs, planOf, planRefusal, verdictRefusal, pairsRefusal}
+use Rattle.plan.specs.Rules.{refusedAt, refusedIf, tooLong, formsRefusal, readerRefusal, procLine, lowestFrom, procRefusal, tooLarge, tooManyPairs, planOf, planRefusal, verdictRefusal, pairsRefusal}
 use Rattle.plan.proofs.Trees.{plan-of-forms}
 use Rattle.plan.proofs.Denotes.{accepted-denotes}
 use Rattle.plan.proofs.FirstMisplaced.{structure-first}
-use Rattle.plan.proofs.Kept.{kept}
+use Rattle.plan.proofs.Kept.{kept, no-line}
 use Rattle.plan.proofs.Sound.{forms-settled}
 use Rattle.demands.specs.Lines.{First, LineWhere}
 use Rattle.demands.specs.Broken.{TooShort, TooLong, Unreadable, OfForms, FirstLine, Misplaced, PastLimit, HighLock, LateCall, AbsentProc, OfPlan, LowestProc, TooLarge, TooManyPairs, AbsentRequest}
@@ -33,16 +34,8 @@ use Rattle.demands.proofs.Order.{Names, RefusesBy, by-rule, then}
 use Rattle.demands.proofs.Firsts.{Decides}
 use Rattle.demands.proofs.Readable.{readable-names}
 use Rattle.demands.proofs.Limits.{limits-names, locks-names, calls-names, threads-names}
-use Rattle.demands.proofs.Lowest.{namedProc, proc-refusal, lowest-names}
+use Rattle.demands.proofs.Lowest.{lowest-names}
 use Rattle.demands.proofs.Pairs.{many-pairs}
-
-pub no-line : (rule : ℕ) (o : Option ℕ) → refusedAt rule o ≡ none → o ≡ none
-no-line rule none h = refl
-no-line rule (some line) h = absurd (Option·some-ne-none (refusal rule line) h)
-
-pub unflagged : (rule : ℕ) (b : Bool) → refusedIf rule b ≡ none → b ≡ false
-unflagged rule true h = absurd (Option·some-ne-none (refusal rule 0) h)
-unflagged rule false h = refl
 
 -- a rule that names no line
 flag-names : (b : Bool) (P : Type 0) → Decides b P → Names (cond b (some 0) none) (λ n. P × (n ≡ 0))
@@ -67,7 +60,7 @@ rule-1 needed lent = by-flag (rule 1 (TooShort needed lent)) (ltb lent needed) (
 module _ (text : List ℕ) where
   rule-2 : RefusesBy (rule 2 (TooLong text) ∷ []) (tooLong text)
   unfolding tooLong
-  rule-2 = let b = ltb 32768 (length text) in by-flag (rule 2 (TooLong text)) b (flag-names b (32768 < length text) (below 32768 (length text)))
+  rule-2 = let b = ltb maxBytes (length text) in by-flag (rule 2 (TooLong text)) b (flag-names b (maxBytes < length text) (below maxBytes (length text)))
 
   rule-3 : RefusesBy (rule 3 (First (Unreadable text)) ∷ []) (refusedAt 3 (unreadableLine text))
   rule-3 = by-rule (rule 3 (First (Unreadable text))) (unreadableLine text) (readable-names text)
@@ -121,20 +114,19 @@ module _ (text : List ℕ) where
 
     by-proc : (number : ℕ) (P : List Block → ℕ → Type 0) (test : ℕ → Bool) → ((p : ℕ) → p < length (plan .procs) → Decides (test p) (P (plan .procs) p))
         → RefusesBy (rule number (OfPlan (LowestProc P) text) ∷ []) (procRefusal number (formsOf text) test)
-    unfolding plan
+    unfolding plan procRefusal
     by-proc number P test decide =
         let fs = formsOf text in
-        let o = namedProc fs (lowestFrom test 0 (length (plan .procs))) in
-        rw proc-refusal
-        (by-rule (rule number (OfPlan (LowestProc P) text)) o (of-plan (LowestProc P) o (lowest-names fs (accepted-denotes fs (x .structured) .1) test P decide)))
+        let o = procLine fs (lowestFrom test 0 (length (plan .procs))) in
+        by-rule (rule number (OfPlan (LowestProc P) text)) o (of-plan (LowestProc P) o (lowest-names fs (accepted-denotes fs (x .structured) .1) test P decide))
 
     rule-9 : RefusesBy (rule 9 (OfPlan (LowestProc TooLarge) text) ∷ []) (tooLarge (formsOf text))
     unfolding tooLarge plan
-    rule-9 = by-proc 9 TooLarge (λ p. ltb 1024 (sizeOf (plan .procs) p)) (λ p h. below 1024 (sizeOf (plan .procs) p))
+    rule-9 = by-proc 9 TooLarge (λ p. ltb maxSize (sizeOf (plan .procs) p)) (λ p h. below maxSize (sizeOf (plan .procs) p))
 
     rule-10 : RefusesBy (rule 10 (OfPlan (LowestProc TooManyPairs) text) ∷ []) (tooManyPairs (formsOf text))
     unfolding tooManyPairs plan
-    rule-10 = by-proc 10 TooManyPairs (λ p. ltb 128 (length (pairList (plan .procs) p))) (many-pairs (plan .procs) (x .settled .sound))
+    rule-10 = by-proc 10 TooManyPairs (λ p. ltb maxPairs (length (pairList (plan .procs) p))) (many-pairs (plan .procs) (x .settled .sound))
 
     rule-11 : (p : ℕ) → RefusesBy (rule 11 (OfPlan (AbsentRequest p) text) ∷ []) (refusedIf 11 (leb (length (planOf text .procs)) p))
     unfolding planOf plan
@@ -163,11 +155,11 @@ module _ (text : List ℕ) where
 
   pub verdict-refuses : (lent : ℕ) → RefusesBy (verdictRules text lent) (verdictRefusal text lent)
   unfolding verdictRules verdictRefusal
-  verdict-refuses lent = then (rule-1 6144 lent) (λ _. plan-refuses)
+  verdict-refuses lent = then (rule-1 maxEntries lent) (λ _. plan-refuses)
 
   pub pairs-refuses : (p lent : ℕ) → RefusesBy (pairsRules text p lent) (pairsRefusal text p lent)
   unfolding pairsRules pairsRefusal planRefusal
-  pairs-refuses p lent = then (rule-1 128 lent) (λ _. then plan-refuses (λ e. rule-11 text (read text (first-none (readerRefusal text) _ e .0)) p))
+  pairs-refuses p lent = then (rule-1 maxPairs lent) (λ _. then plan-refuses (λ e. rule-11 text (read text (first-none (readerRefusal text) _ e .0)) p))
 
 -- (r, l) is the refusal exactly when rule r is the first one broken, at line l
 module _ (text : List ℕ) (r l : ℕ) where

@@ -1,16 +1,17 @@
 -- What it means that a text breaks a rule, and at which line: said of the text, and of the forms or the plan that it is the written text of. A text keeps the rules 2 to
 -- 10 exactly when its plan is not refused (theorems `accepted-exactly`, `unbroken-exactly`), and (r, l) is the refusal exactly when rule r is the first one broken, at line
 -- l (`refused-exactly`). Each rule is stated for texts that break none before it, as `FirstBroken` asks: the numbers of brackets and of the caller count on rule 4, sizes
--- on rule 7, words of pairs on rule 6. 01, "Rules, in checking order".
+-- on rule 7, a pair as one number on rule 6. 01, "Rules, in checking order".
 use Prim.Native.Nat.{ℕ, _+_, _-_, _<_, _≤_}
 use mathlib.Core.List.{List, [], _∷_, _++_, List·Memᴰ}
 use mathlib.Core.Logic.{_⊎_}
 use mathlib.Core.Path.{_≡_}
 use lib.ListN.{length, getD}
+use Rattle.limits.specs.Limits.{maxBytes, maxProcs, maxStatements, maxThreads, maxBrackets, lockCount, maxSize, maxPairs, maxEntries}
 use Rattle.laws.specs.Ascending.{Ascends}
 use Rattle.text.specs.declared.Form.{Form}
 use Rattle.text.specs.declared.Form.the-variants.{Proc, Thread, Call, Hold}
-use Rattle.text.specs.Forms.{IsForm}
+use Rattle.text.specs.Forms.{IsForm, isProc, isThread, isStatement, isBracket, isClose}
 use Rattle.text.specs.Lines.{split, IsText}
 use Rattle.semantics.specs.Plan.{Block, LockPlan}
 use Rattle.semantics.specs.Sizes.{sizeOf}
@@ -18,7 +19,7 @@ use Rattle.semantics.specs.Pairs.{Critical}
 use Rattle.plan.specs.Grammar.{forms, Grammatical}
 use Rattle.plan.specs.Places.{NoPlace, EndsEarly}
 use Rattle.plan.specs.Settled.{Settled}
-use Rattle.demands.specs.Lines.{First, LineWhere, count, isProc, isThread, isStatement, isBracket, isClose}
+use Rattle.demands.specs.Lines.{First, LineWhere, count}
 
 -- ---- of the lent buffer and the bytes
 
@@ -28,7 +29,7 @@ TooShort needed lent n = (lent < needed) × (n ≡ 0)
 
 -- 2: "The text has more than 32,768 bytes (line 0)."
 abbrev pub TooLong : List ℕ → ℕ → Type 0
-TooLong text n = (32768 < length text) × (n ≡ 0)
+TooLong text n = (maxBytes < length text) × (n ≡ 0)
 
 -- ---- of the lines
 
@@ -68,20 +69,20 @@ pub record TooDeep (fs : List Form) : Type 0 where
   pub inside : List Form
   pub split : fs ≡ earlier ++ Proc ∷ inside
   pub last : count isProc inside ≡ 0
-  pub unclosed : count isClose inside + 16 < count isBracket inside
+  pub unclosed : count isClose inside + maxBrackets < count isBracket inside
 
 -- 5: "There are more than 64 procedures, 1,024 statements, 6 threads, or 16 brackets .. (first line past a limit)", among the forms up to a line
 pub data PastLimit (fs : List Form) : Type 0 where
-  procedures : 64 < count isProc fs → PastLimit fs
-  statements : 1024 < count isStatement fs → PastLimit fs
-  threads : 6 < count isThread fs → PastLimit fs
+  procedures : maxProcs < count isProc fs → PastLimit fs
+  statements : maxStatements < count isStatement fs → PastLimit fs
+  threads : maxThreads < count isThread fs → PastLimit fs
   brackets : TooDeep fs → PastLimit fs
 
 -- 6: "A hold names a lock above 31 (first such line)."
 pub record HighLock (f : Form) : Type 0 where
   pub lock : ℕ
   pub hold : f ≡ Hold lock
-  pub above : 31 < lock
+  pub above : lockCount ≤ lock
 
 -- 7: "A call names a procedure whose number is not smaller than the caller's own (first such line)." The caller is the last procedure begun, "numbered from 0"
 pub record LateCall (before : List Form) (f : Form) : Type 0 where
@@ -119,14 +120,14 @@ pub record LowestProc (P : List Block → ℕ → Type 0) (plan : LockPlan) (n :
 
 -- 9: "Some procedure's size exceeds 1,024"
 abbrev pub TooLarge : List Block → ℕ → Type 0
-TooLarge ps p = 1024 < sizeOf ps p
+TooLarge ps p = maxSize < sizeOf ps p
 
--- 10: "Some procedure has more than 128 critical pairs": more than 128 different words of critical pairs
+-- 10: "Some procedure has more than 128 critical pairs": more than 128 different critical pairs
 pub record TooManyPairs (ps : List Block) (p : ℕ) : Type 0 where
-  pub words : List ℕ
-  pub many : 128 < length words
-  pub different : Ascends words
-  pub critical : (w : ℕ) → List·Memᴰ w words → Critical ps p w
+  pub pairs : List ℕ
+  pub many : maxPairs < length pairs
+  pub different : Ascends pairs
+  pub critical : (w : ℕ) → List·Memᴰ w pairs → Critical ps p w
 
 -- 11: "The pairs of a procedure that is not there are requested (line 0)."
 abbrev pub AbsentRequest : ℕ → LockPlan → ℕ → Type 0
@@ -158,11 +159,11 @@ planRules text =
 
 -- the verdict's, where so many entries are lent
 unfoldable pub verdictRules : List ℕ → ℕ → List Rule
-verdictRules text lent = rule 1 (TooShort 6144 lent) ∷ planRules text
+verdictRules text lent = rule 1 (TooShort maxEntries lent) ∷ planRules text
 
 -- the pair list's, of procedure p, where so many words are lent: "Rule 11 is for the pair list only."
 unfoldable pub pairsRules : List ℕ → ℕ → ℕ → List Rule
-pairsRules text p lent = rule 1 (TooShort 128 lent) ∷ (planRules text ++ rule 11 (OfPlan (AbsentRequest p) text) ∷ [])
+pairsRules text p lent = rule 1 (TooShort maxPairs lent) ∷ (planRules text ++ rule 11 (OfPlan (AbsentRequest p) text) ∷ [])
 
 -- a rule that no line breaks. One that speaks of forms or of a plan is so kept by a text that is written of none: an earlier rule is broken there
 abbrev pub Unbroken : Rule → Type 0
@@ -182,9 +183,9 @@ FirstBroken (q ∷ qs) r l = ((q .number ≡ r) × q .broken l) ⊎ (Unbroken q 
 
 -- The text is short and the written text of a plan that keeps what the rules say: `Settled` has those of 4 to 8, then 9 and 10.
 pub record AcceptedText (text : List ℕ) : Type 0 where
-  pub short : length text ≤ 32768
+  pub short : length text ≤ maxBytes
   pub plan : LockPlan
   pub written : IsText text (forms plan)
   pub settled : Settled plan
-  pub sizes : (p : ℕ) → p < length (plan .procs) → sizeOf (plan .procs) p ≤ 1024
+  pub sizes : (p : ℕ) → p < length (plan .procs) → sizeOf (plan .procs) p ≤ maxSize
   pub pairs : (p : ℕ) → p < length (plan .procs) → TooManyPairs (plan .procs) p → ⊥

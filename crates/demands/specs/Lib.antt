@@ -1,3 +1,3 @@
--- Lines and kinds of forms; what each rule means, and a text that keeps them all.
+-- Lines, and how many forms are of a kind; what each rule means, and a text that keeps them all.
 pub mod Lines
 pub mod Broken

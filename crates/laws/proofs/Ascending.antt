@@ -51,7 +51,8 @@ pub least : (x : ℕ) (xs : List ℕ) → Ascends (x ∷ xs) → (v : ℕ) → L
 unfolding Ascends
 least x xs a v m = ⊎-elim (λ (e : v ≡ x). omega arith) (λ n. omega (arith, a .0 v n)) (List·Memᴰ·cases-cons m)
 
-beyond : (y : ℕ) (ys : List ℕ) (v : ℕ) → y < v → List·Memᴰ v (y ∷ ys) → List·Memᴰ v ys
+-- who is above the head is behind it
+pub beyond : (y : ℕ) (ys : List ℕ) (v : ℕ) → y < v → List·Memᴰ v (y ∷ ys) → List·Memᴰ v ys
 beyond y ys v h m = ⊎-elim (λ (e : v ≡ y). absurd (omega arith)) (λ n. n) (List·Memᴰ·cases-cons m)
 
 insert-ascends : (w : ℕ) (xs : List ℕ) → Ascends xs → Ascends (insertOnce w xs)

@@ -2,7 +2,7 @@
 use Prim.Native.Nat.{ℕ, _<_, _≤_}
 use mathlib.Core.Path.{_≡_, refl, sym, subst, _∙_}
 use mathlib.Core.Bool.{Bool, true, false, not}
-use lib.Dec.{T, eqb, ltb, leb, T-not, eqb-refl}
+use lib.Dec.{T, eqb, ltb, T-not, eqb-refl}
 use borrow.Author.Tests.{eq-eqb, ne-eqb, lt-ltb, le-ltb, le-leb, lt-leb}
 use Rattle.laws.specs.Choice.{pick}
 
@@ -43,12 +43,6 @@ module _ {A : Type 0} (x y r : A) where
 
     pub pick-ge : n ≤ m → r ≡ y → r ≡ pick (ltb m n) x y
     pick-ge h = on-false (ltb m n) (le-ltb m n h)
-
-    pub pick-le : m ≤ n → r ≡ x → r ≡ pick (leb m n) x y
-    pick-le h = on-true (leb m n) (le-leb m n h)
-
-    pub pick-gt : n < m → r ≡ y → r ≡ pick (leb m n) x y
-    pick-gt h = on-false (leb m n) (lt-leb m n h)
 
 pub ruleset picks = (pick-true, pick-false, pick-eq, pick-ne, pick-lt, pick-ge)
 

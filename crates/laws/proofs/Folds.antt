@@ -1,8 +1,9 @@
--- The laws of `foldl` in the shape of a loop's needs, for `search`.
-use Prim.Native.Nat.{ℕ, _+_, _<_, _≤_}
+-- The laws of `foldl` in the shape of a loop's needs, for `search`; what stands in a list that is made from another.
+use Prim.Native.Nat.{ℕ, zero, suc, _+_, _<_, _≤_}
 use native.Mathlib.Numerals.{add-one}
-use mathlib.Core.Path.{_≡_}
-use mathlib.Core.List.{List, foldl}
+use native.Mathlib.Nat.{le-of-suc-le-suc, not-suc-le-zero}
+use mathlib.Core.Path.{_≡_, refl}
+use mathlib.Core.List.{List, [], _∷_, foldl, map}
 use lib.ListN.{length, drop, getD, drop-of-length-le}
 use lib.Seq.{drop-cons}
 
@@ -15,3 +16,8 @@ module _ {A B : Type 0} (f : B → A → B) (s r : B) (l : List A) (i : ℕ) whe
 
   pub fold-done : length l ≤ i → foldl f s (drop i l) ≡ r → s ≡ r
   fold-done h p = rw drop-of-length-le at p
+
+pub map-at : {A B : Type 0} (f : A → B) (l : List A) (i : ℕ) (d : A) (e : B) → i < length l → getD (map f l) i e ≡ f (getD l i d)
+map-at f [] i d e h = absurd (not-suc-le-zero h)
+map-at f (x ∷ l) zero d e h = refl
+map-at f (x ∷ l) (suc i) d e h = map-at f l i d e (le-of-suc-le-suc h)

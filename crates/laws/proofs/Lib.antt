@@ -1,9 +1,11 @@
--- Tests and what they say; choices, folds and writes in the shape of a function's needs; equal lists; masks; ascending lists.
+-- Tests and what they say; choices, folds and writes in the shape of a function's needs; equal lists; masks; ascending lists; the pigeonhole.
 pub mod Tests
 pub mod Bytes
 pub mod Choices
 pub mod Folds
 pub mod Writes
+pub mod Wrote
 pub mod Bits
 pub mod Masks
 pub mod Ascending
+pub mod Pigeonhole

@@ -3,7 +3,7 @@
 use Prim.Native.Nat.{ℕ, zero, suc, _+_, _-_, _*_, _/_, _%_, _^_, _<_, _≤_}
 use mathlib.Core.Bool.{Bool, true, false, not, cond}
 use mathlib.Core.Logic.{_≢_, _⊎_, inl, inr, ⊎-elim}
-use mathlib.Core.Path.{_≡_, refl, sym, ap, _∙_}
+use mathlib.Core.Path.{_≡_, refl, sym, ap, subst, _∙_}
 use native.Mathlib.Omega.{arith}
 use native.Mathlib.Nat.{one-mul, zero-mul, zero-add, mod-eq-of-lt, div-eq-of-lt}
 use native.Mathlib.Numerals.{one-add, add-one}
@@ -13,8 +13,8 @@ use lib.Dec.{T, eqb, eqb→eq, eqb·zero-suc, eqb·suc-zero, eqb·suc-suc}
 use lib.Pow.{pow-pos, pow-mono, shl-exact}
 use borrow.Author.Tests.{ne-eqb}
 use Rattle.laws.specs.Mask.{bit, inMask, maskOf}
-use Rattle.laws.proofs.Bits.{bit-zero, bit-suc, bit-lt, bit-or, bit-and, bit-none, bit-pow, bit-pow-other}
-use Rattle.laws.proofs.Tests.{lt-or-le, eq-or-ne}
+use Rattle.laws.proofs.Bits.{bit-zero, bit-suc, bit-lt, bit-or, bit-and, bit-ext, bit-none, bit-pow, bit-pow-other}
+use Rattle.laws.proofs.Tests.{same-test, lt-or-le, eq-or-ne}
 
 -- a number of n digits has none above
 pub digit-out : (m n k : ℕ) → m < 2 ^ n → n ≤ k → bit m k ≡ 0
@@ -87,6 +87,14 @@ pub mask-of-in : (n : ℕ) (f : ℕ → Bool) (k : ℕ) → T (inMask (maskOf n 
 mask-of-in n f k t =
     ⊎-elim (λ (b : k < n). (b, rw (mask-member n f k b) at t))
     (λ (b : n ≤ k). let e : bit (maskOf n f) k ≡ 1 = eqb→eq (bit (maskOf n f) k) 1 t in absurd (omega (arith, mask-out n f k b))) (lt-or-le k n)
+
+-- without members from n on it is below 2 to the power n
+pub mask-below : (m n : ℕ) → ((k : ℕ) → T (inMask m k) → k < n) → m < 2 ^ n
+mask-below m n below =
+    let members : (k : ℕ) → inMask (maskOf n (inMask m)) k ≡ inMask m k =
+    λ k. same-test (inMask (maskOf n (inMask m)) k) (inMask m k) (λ t. mask-of-in n (inMask m) k t .1) (λ t. in-mask-of n (inMask m) k (below k t) t) in
+    subst (λ x. x < 2 ^ n)
+    (bit-ext (maskOf n (inMask m)) m (λ k. sym (digit-test (maskOf n (inMask m)) k) ∙ ap (λ b. cond b 1 0) (members k) ∙ digit-test m k)) (mask-lt n (inMask m))
 
 -- ---- the machine's shifts and tests
 

@@ -1,5 +1,6 @@
--- General definitions: a choice by a flag, bytes, masks, ascending lists.
+-- General definitions: a choice by a flag, bytes, writes into a lent buffer, masks, ascending lists.
 pub mod Choice
 pub mod Bytes
+pub mod Wrote
 pub mod Mask
 pub mod Ascending

@@ -1,2 +1,2 @@
 -- The pairs found, and handed to the caller.
-pub mod Found
+pub mod ListedPairs

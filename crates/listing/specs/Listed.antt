@@ -6,6 +6,7 @@ use mathlib.Core.Option.{Option, none, some}
 use mathlib.Core.Path.{_≡_}
 use lib.Dec.{leb}
 use lib.ListN.{length, take}
+use Rattle.limits.specs.Limits.{pairRoom}
 use Rattle.laws.specs.Ascending.{Ascends}
 use Rattle.semantics.specs.Pairs.{Critical, pairList}
 use Rattle.text.specs.declared.Refusal.{Refusal}
@@ -13,9 +14,10 @@ use Rattle.plan.specs.Settled.{tablePlan}
 use Rattle.plan.specs.Rules.{refusedIf, planOf, pairsRefusal}
 use Rattle.buffers.specs.LittleEndian.{listBytes}
 use Rattle.answers.specs.declared.Listing.{Listing}
-use Rattle.answers.specs.Answers.{filled, listingOf, listingNumber}
+use Rattle.laws.specs.Wrote.{filled}
+use Rattle.answers.specs.Answers.{listingOf, listingNumber}
 
--- the words of the critical pairs of procedure p of a text's plan
+-- the critical pairs of procedure p of a text's plan
 abbrev pub pairsOf : List ℕ → ℕ → List ℕ
 pairsOf text p = pairList (planOf text .procs) p
 
@@ -24,7 +26,7 @@ abbrev pub written : Option Refusal → List ℕ → List ℕ → List ℕ
 written none given before = filled given before
 written (some r) given before = before
 
--- demand 2: "For each procedure the listed pairs are exactly the critical pairs of the published definition, none missing and none added", "ascending without
+-- demand 2: for each procedure the listed pairs are exactly the critical pairs of the published definition, none missing and none added, "ascending without
 -- repeats"
 pub record Exact (text : List ℕ) (p : ℕ) : Type 0 where
   pub critical : (w : ℕ) → List·Memᴰ w (pairsOf text p) ↔ Critical (planOf text .procs) p w
@@ -44,16 +46,16 @@ pub record ListedBytes (text : List ℕ) (p : ℕ) (before : List ℕ) (r : ℕ)
 
 -- ---- the steps
 
--- the answer, and where nothing is refused the words at the start of the list
-pub record WordsFound (refused : Option Refusal) (words : List ℕ) (r : Listing) (list : List ℕ) : Type 0 where
-  pub answer : r ≡ listingOf refused (length words)
-  pub listed : refused ≡ none → take (length words) list ≡ words
-  pub few : refused ≡ none → length words < 129
+-- the answer, and where nothing is refused the pairs at the start of the list
+pub record ListFound (refused : Option Refusal) (pairs : List ℕ) (r : Listing) (list : List ℕ) : Type 0 where
+  pub answer : r ≡ listingOf refused (length pairs)
+  pub listed : refused ≡ none → take (length pairs) list ≡ pairs
+  pub few : refused ≡ none → length pairs < pairRoom
 
 -- of a procedure of a table: rule 11 where it is not there
 abbrev pub TablePairs : List ℕ → ℕ → Listing → List ℕ → Type 0
-TablePairs ws p r list = WordsFound (refusedIf 11 (leb (length (tablePlan ws .procs)) p)) (pairList (tablePlan ws .procs) p) r list
+TablePairs ws p r list = ListFound (refusedIf 11 (leb (length (tablePlan ws .procs)) p)) (pairList (tablePlan ws .procs) p) r list
 
 -- of a procedure of a text, where `lent` words are lent for them
 abbrev pub PairsFound : List ℕ → ℕ → ℕ → Listing → List ℕ → Type 0
-PairsFound text p lent r list = WordsFound (pairsRefusal text p lent) (pairsOf text p) r list
+PairsFound text p lent r list = ListFound (pairsRefusal text p lent) (pairsOf text p) r list

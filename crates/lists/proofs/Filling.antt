@@ -1,4 +1,4 @@
--- The lists while they are filled: those of the threads below t are pair lists, for a turn changes only the words from place 128 × t on and the count of t. At the
+-- The lists while they are filled: those of the threads below t are pair lists, for a turn changes only the pairs from its own place on and the count of t. At the
 -- end these are the lists of all threads.
 use Prim.Native.Nat.{ℕ, zero, suc, _+_, _*_, _^_, _≤_, _<_}
 use mathlib.Core.List.{List, [], _∷_, _++_, map, map-append, List·Memᴰ}
@@ -7,114 +7,121 @@ use mathlib.Core.Path.{_≡_, refl, sym, ap, _∙_, subst}
 use native.Mathlib.Omega.{arith}
 use lib.ListN.{length, take, drop, getD, set, length-set}
 use lib.Seq.{getD-take, getD-set-same, getD-set-other, take-suc}
+use Rattle.limits.specs.Limits.{maxThreads, maxPairs, pairRoom}
+use Rattle.laws.specs.Wrote.{Wrote}
 use Rattle.laws.proofs.Tests.{eq-or-ne}
 use Rattle.semantics.specs.Plan.{Block}
 use Rattle.semantics.specs.Pairs.{pairList}
 use Rattle.plan.specs.Settled.{tablePlan}
-use Rattle.conflict.specs.Entries.{row, rows}
-use Rattle.lists.specs.Lists.{PairTable, Placed, Asked, ThreadLists}
-use Rattle.lists.proofs.Words.{word-small, placed-here, placed-before}
+use Rattle.candidates.specs.Candidates.{listsBelow, row, rows}
+use Rattle.procs.specs.declared.Layout.{Layout}
+use Rattle.procs.specs.Laid.{Laid}
+use Rattle.pairs.proofs.Lists.{few-pairs}
+use Rattle.lists.specs.Lists.{PairTable, ListsAsked, ThreadLists}
+use Rattle.lists.proofs.Pairs.{pair-small, listed-there, kept-before}
 
 -- the list of thread u is the pair list of procedure p
 pub record ListedAt (ps : List Block) (p : ℕ) (lists counts : List ℕ) (u : ℕ) : Type 0 where
-  pub short : getD counts u 0 ≤ 128
-  pub words : row lists counts u ≡ pairList ps p
+  pub short : getD counts u 0 ≤ maxPairs
+  pub pairs : row lists counts u ≡ pairList ps p
 
-pub record Filling (table starts : List ℕ) (procs : ℕ) (threads : List ℕ) (n : ℕ) (lists₀ counts₀ lists counts : List ℕ) (t : ℕ) : Type 0 where
-  pub asked : Asked table starts procs threads n lists₀ counts₀
-  pub within : t ≤ n
+pub record Filling (table : List ℕ) (l : Layout) (lists₀ counts₀ lists counts : List ℕ) (t : ℕ) : Type 0 where
+  pub asked : ListsAsked table l lists₀ counts₀
+  pub within : t ≤ l .threads
   pub same-lists : length lists ≡ length lists₀
   pub same-counts : length counts ≡ length counts₀
-  pub each : (u : ℕ) → u < t → ListedAt (tablePlan table .procs) (getD threads u 0) lists counts u
+  pub each : (u : ℕ) → u < t → ListedAt (tablePlan table .procs) (getD (l .runs) u 0) lists counts u
 
-pub filling-none : (table starts : List ℕ) (procs : ℕ) (threads : List ℕ) (n : ℕ) (lists counts : List ℕ) → Asked table starts procs threads n lists counts
-    → Filling table starts procs threads n lists counts lists counts 0
-filling-none table starts procs threads n lists counts s =
+pub filling-none : (table : List ℕ) (l : Layout) (lists counts : List ℕ) → ListsAsked table l lists counts → Filling table l lists counts lists counts 0
+filling-none table l lists counts s =
     record { asked = s; within = omega arith; same-lists = refl; same-counts = refl; each = λ u h. absurd (omega arith) }
 
 -- ---- the lists thread by thread
 
 rows-listed : (ps : List Block) (threads lists counts : List ℕ) (n : ℕ) → n ≤ length threads
     → ((u : ℕ) → u < n → ListedAt ps (getD threads u 0) lists counts u) → rows lists counts n ≡ map (pairList ps) (take n threads)
-unfolding rows
+unfolding rows listsBelow
 rows-listed ps threads lists counts zero h each = refl
 rows-listed ps threads lists counts (suc n) h each =
     ap (λ ls. ls ++ (row lists counts n ∷ [])) (rows-listed ps threads lists counts n (omega arith) (λ u b. each u (omega arith)))
-    ∙ ap (λ l. map (pairList ps) (take n threads) ++ (l ∷ [])) (each n (omega arith) .words)
+    ∙ ap (λ l. map (pairList ps) (take n threads) ++ (l ∷ [])) (each n (omega arith) .pairs)
     ∙ sym (ap (map (pairList ps)) (take-suc threads n 0 (omega arith)) ∙ map-append (pairList ps) (take n threads) (getD threads n 0 ∷ []))
 
-module _ (table starts : List ℕ) (procs : ℕ) (threads : List ℕ) (n : ℕ) (lists₀ counts₀ lists counts : List ℕ) (t : ℕ)
-    (s : Filling table starts procs threads n lists₀ counts₀ lists counts t) where
-  few-threads : n ≤ 6
-  few-threads = omega (arith, s .asked .threads-all, s .asked .forms .plan .settled .few-threads)
+module _ (table : List ℕ) (l : Layout) (lists₀ counts₀ lists counts : List ℕ) (t : ℕ) (s : Filling table l lists₀ counts₀ lists counts t) where
+  laid : Laid table l
+  laid = s .asked .forms .laid
 
-  present : (u : ℕ) → u < n → getD threads u 0 < length (tablePlan table .procs)
+  few-threads : l .threads ≤ maxThreads
+  few-threads = omega (arith, laid .threads-all, s .asked .forms .plan .settled .few-threads)
+
+  present : (u : ℕ) → u < l .threads → getD (l .runs) u 0 < length (tablePlan table .procs)
   present u h =
-      let e : getD (tablePlan table .threads) u 0 ≡ getD threads u 0 = ap (λ l. getD l u 0) (sym (s .asked .threads-are)) ∙ getD-take n threads u 0 h in
-      rw (← e) (s .asked .forms .plan .settled .threads-present u (omega (arith, s .asked .threads-all)))
+      let e : getD (tablePlan table .threads) u 0 ≡ getD (l .runs) u 0 = ap (λ x. getD x u 0) (sym (laid .runs-are)) ∙ getD-take (l .threads) (l .runs) u 0 h in
+      rw (← e) (s .asked .forms .plan .settled .threads-present u (omega (arith, laid .threads-all)))
 
-  pub thread-there : t < n → t < length threads
-  thread-there h = omega (arith, s .asked .threads-there)
-
-  pub forms-there : PairTable table starts procs
+  pub forms-there : PairTable table l
   forms-there = s .asked .forms
 
-  pub proc-there : t < n → getD threads t 0 < procs
-  proc-there h = omega (arith, s .asked .forms .procs-all, present t h)
+  module _ (n : ℕ) (c : n ≡ l .threads) (h : t < n) where
+    pub proc-there : getD (l .runs) t 0 < l .procs
+    proc-there = omega (arith, laid .procs-all, present t (omega arith))
 
-  pub list-fits : t < n → 128 * t < 2 ^ 64
-  list-fits h = omega (arith, few-threads)
+    pub list-fits : maxPairs * t < 2 ^ 64
+    list-fits = omega (arith, few-threads)
 
-  pub list-room : t < n → 128 * t + 129 ≤ length lists
-  list-room h = omega (arith, few-threads, s .same-lists, s .asked .words)
+    pub list-room : maxPairs * t + pairRoom ≤ length lists
+    list-room = omega (arith, few-threads, s .same-lists, s .asked .pairs)
 
-  pub count-there : t < n → t < length counts
-  count-there h = omega (arith, few-threads, s .same-counts, s .asked .room)
+    pub thread-there : t < maxThreads
+    thread-there = omega (arith, few-threads)
 
-  -- a turn
-  module _ (r : ℕ) (after : List ℕ) (h : t < n) (p : Placed (pairList (tablePlan table .procs) (getD threads t 0)) lists (128 * t) r after) where
-    listed-here : ListedAt (tablePlan table .procs) (getD threads t 0) after (set counts t r) t
-    listed-here =
-        let e : getD (set counts t r) t 0 ≡ r = getD-set-same counts t r 0 (count-there h) in
-        record {
-          short = omega (arith, p .few);
-          words = ap (λ k. take k (drop (128 * t) after)) e
-              ∙ placed-here (pairList (tablePlan table .procs) (getD threads t 0)) lists (128 * t) r after p (omega (arith, list-room h));
-        }
+    pub count-there : t < length counts
+    count-there = omega (arith, few-threads, s .same-counts, s .asked .room)
 
-    listed-before : (u : ℕ) → u < t → ListedAt (tablePlan table .procs) (getD threads u 0) after (set counts t r) u
-    listed-before u b =
-        let e : getD (set counts t r) u 0 ≡ getD counts u 0 = getD-set-other counts t u r 0 (λ (q : u ≡ t). omega arith) in
-        record {
-          short = omega (arith, s .each u b .short);
-          words = ap (λ k. take k (drop (128 * u) after)) e
-              ∙ placed-before (pairList (tablePlan table .procs) (getD threads t 0)) lists (128 * t) r after p (omega (arith, list-room h))
-              (getD counts u 0) (128 * u) (omega (arith, s .each u b .short))
-              ∙ s .each u b .words;
-        }
+    -- a turn
+    module _ (r : ℕ) (after : List ℕ) (p : Wrote lists after (maxPairs * t) (maxPairs * t + r) (pairList (tablePlan table .procs) (getD (l .runs) t 0))) where
+      listed-here : ListedAt (tablePlan table .procs) (getD (l .runs) t 0) after (set counts t r) t
+      listed-here =
+          let e : getD (set counts t r) t 0 ≡ r = getD-set-same counts t r 0 (count-there) in
+          record {
+            short = omega (arith, p .place, few-pairs table (getD (l .runs) t 0) (s .asked .forms .none-refused) (present t (omega arith)));
+            pairs = ap (λ k. take k (drop (maxPairs * t) after)) e
+                ∙ listed-there (pairList (tablePlan table .procs) (getD (l .runs) t 0)) lists (maxPairs * t) r after p;
+          }
 
-    pub filling-more : length after ≡ length lists → Filling table starts procs threads n lists₀ counts₀ after (set counts t r) (t + 1)
-    filling-more k = record {
-      asked = s .asked;
-      within = omega arith;
-      same-lists = k ∙ s .same-lists;
-      same-counts = length-set counts t r ∙ s .same-counts;
-      each = λ u b. ⊎-elim (λ (e : u ≡ t). rw e listed-here) (λ (d : u ≢ t). listed-before u (omega arith)) (eq-or-ne u t);
-    }
+      listed-before : (u : ℕ) → u < t → ListedAt (tablePlan table .procs) (getD (l .runs) u 0) after (set counts t r) u
+      listed-before u b =
+          let e : getD (set counts t r) u 0 ≡ getD counts u 0 = getD-set-other counts t u r 0 (λ (q : u ≡ t). omega arith) in
+          record {
+            short = omega (arith, s .each u b .short);
+            pairs = ap (λ k. take k (drop (maxPairs * u) after)) e
+                ∙ kept-before (pairList (tablePlan table .procs) (getD (l .runs) t 0)) lists (maxPairs * t) r after p
+                (getD counts u 0) (maxPairs * u) (omega (arith, s .each u b .short))
+                ∙ s .each u b .pairs;
+          }
+
+      pub filling-more : length after ≡ length lists → Filling table l lists₀ counts₀ after (set counts t r) (t + 1)
+      filling-more k = record {
+        asked = s .asked;
+        within = omega arith;
+        same-lists = k ∙ s .same-lists;
+        same-counts = length-set counts t r ∙ s .same-counts;
+        each = λ u b. ⊎-elim (λ (e : u ≡ t). rw e listed-here) (λ (d : u ≢ t). listed-before u (omega arith)) (eq-or-ne u t);
+      }
 
   -- the end
-  pub filled : n ≤ t → ThreadLists table n lists counts
-  filled h =
-      let all : (u : ℕ) → u < n → ListedAt (tablePlan table .procs) (getD threads u 0) lists counts u = λ u b. s .each u (omega arith) in
+  pub filling-done : (n : ℕ) → n ≡ l .threads → n ≤ t → ThreadLists table (l .threads) lists counts
+  filling-done n c h =
+      let all : (u : ℕ) → u < l .threads → ListedAt (tablePlan table .procs) (getD (l .runs) u 0) lists counts u = λ u b. s .each u (omega arith) in
       record {
-        listed = rows-listed (tablePlan table .procs) threads lists counts n (s .asked .threads-there) all
-            ∙ ap (map (pairList (tablePlan table .procs))) (s .asked .threads-are);
+        listed = rows-listed (tablePlan table .procs) (l .runs) lists counts (l .threads) (laid .threads-there) all
+            ∙ ap (map (pairList (tablePlan table .procs))) (laid .runs-are);
         given = record {
           few = few-threads;
-          words = omega (arith, s .same-lists, s .asked .words);
+          pairs = omega (arith, s .same-lists, s .asked .pairs);
           threads = omega (arith, s .same-counts, s .asked .room);
           short = λ u b. all u b .short;
-          small = λ u w b m. word-small (tablePlan table .procs) (s .asked .forms .plan .settled .sound) (getD threads u 0) w (present u b)
-              (subst (List·Memᴰ w) (all u b .words) m);
+          small = λ u w b m. pair-small (tablePlan table .procs) (s .asked .forms .plan .settled .sound) (getD (l .runs) u 0) w (present u b)
+              (subst (List·Memᴰ w) (all u b .pairs) m);
         };
       }

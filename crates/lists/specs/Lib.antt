@@ -1,2 +1,2 @@
--- The pair lists of a plan's threads in one table of words.
+-- The pair lists of a plan's threads in one table of pairs.
 pub mod Lists

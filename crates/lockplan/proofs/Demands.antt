@@ -1,6 +1,5 @@
--- The three demands. What a call promises cites the refusals, the plan and the words that are computed; by the theorems of crate `demands` these are the first rule broken,
--- the plan that the text is written of, and the words of the published critical pairs. A number for C is read back first. The end of a deadlock's schedule is a moment that
--- a run reaches, so free and deadlock exclude each other.
+-- What a call promises cites the refusals, the plan and the pairs that are computed; crate `demands` shows that these are the first rule broken, the plan that the text is written
+-- of and the published critical pairs. The end of a deadlock's schedule is a moment that a run reaches, so free and deadlock exclude each other.
 use Prim.Native.Nat.{ℕ, _/_, _<_, _≤_}
 use native.Mathlib.Omega.{arith}
 use mathlib.Core.Path.{_≡_, refl, sym, ap, _∙_}
@@ -8,11 +7,12 @@ use mathlib.Core.List.{List, []}
 use mathlib.Core.Logic.{_↔_}
 use mathlib.Core.Option.{Option, none, some, Option·none-ne-some, Option·some-injective}
 use lib.ListN.{length}
+use Rattle.limits.specs.Limits.{maxPairs, maxEntries}
 use Rattle.laws.specs.Mask.{inMask}
 use Rattle.text.specs.declared.Refusal.{Refusal}
 use Rattle.text.specs.Lines.{refusal}
 use Rattle.semantics.specs.Plan.{LockPlan}
-use Rattle.semantics.proofs.PairList.{pair-list-ascends}
+use Rattle.semantics.proofs.Critical.PairList.{pair-list-ascends}
 use Rattle.plan.specs.Rules.{planOf, verdictRefusal, pairsRefusal}
 use Rattle.buffers.specs.LittleEndian.{listBytes}
 use Rattle.demands.specs.Broken.{Rule, FirstBroken, AcceptedText}
@@ -99,8 +99,8 @@ demand-1 text before after = record {
 
 -- ---- demand 2
 
--- the words listed of an accepted text
-module _ (text : List ℕ) (p lent : ℕ) (x : AcceptedText text) (there : p < length (x .plan .procs)) (enough : 128 ≤ lent) where
+-- the pairs listed of an accepted text
+module _ (text : List ℕ) (p lent : ℕ) (x : AcceptedText text) (there : p < length (x .plan .procs)) (enough : maxPairs ≤ lent) where
   unrefused : pairsRefusal text p lent ≡ none
   unrefused = pairs-accepted-exactly text p lent .1 (enough, x, there)
 
@@ -147,7 +147,7 @@ judges-exactly plan (Deadlock m T) es j =
     }
 judges-exactly plan (Refused x) es j = absurd (Option·none-ne-some x (j .0))
 
-module _ (text : List ℕ) (lent : ℕ) (x : AcceptedText text) (enough : 6144 ≤ lent) where
+module _ (text : List ℕ) (lent : ℕ) (x : AcceptedText text) (enough : maxEntries ≤ lent) where
   judged-exactly : (v : Verdict) (es : List ℕ) → Judgement (verdictRefusal text lent) (planOf text) v es → JudgesExactly (x .plan) v es
   judged-exactly v es j = judges-exactly (x .plan) v es (rw (verdict-accepted-exactly text lent .1 (enough, x), accepted-plan text x) at j)
 

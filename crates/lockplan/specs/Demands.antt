@@ -7,6 +7,7 @@ use mathlib.Core.Logic.{_↔_}
 use mathlib.Core.Option.{some}
 use mathlib.Core.Path.{_≡_}
 use lib.ListN.{length}
+use Rattle.limits.specs.Limits.{maxPairs, maxEntries}
 use Rattle.laws.specs.Mask.{inMask}
 use Rattle.laws.specs.Ascending.{Ascends}
 use Rattle.text.specs.declared.Refusal.{Refusal}
@@ -22,7 +23,8 @@ use Rattle.answers.specs.declared.Verdict.the-variants.{Free, Deadlock, Refused
 use Rattle.answers.specs.declared.Listing.{Listing}
 use Rattle.answers.specs.declared.Listing.the-variants.{Pairs}
 use Rattle.answers.specs.declared.Listing.the-variants as listing
-use Rattle.answers.specs.Answers.{filled, readListing, readVerdict}
+use Rattle.laws.specs.Wrote.{filled}
+use Rattle.answers.specs.Answers.{readListing, readVerdict}
 use Rattle.listing.specs.Listed.{Listed, ListedBytes}
 use Rattle.verdict.specs.Judged.{Judged, JudgedBytes}
 
@@ -35,12 +37,12 @@ pub record RefusesExactly (rules : List Rule) (Kept : Type 0) (Refuses : Refusal
 
 -- of the verdict, where so many entries are lent
 abbrev pub VerdictRefuses : List ℕ → ℕ → Verdict → List ℕ → List ℕ → Type 0
-VerdictRefuses text lent v before after = RefusesExactly (verdictRules text lent) ((6144 ≤ lent) × AcceptedText text) (λ x. v ≡ Refused x) before after
+VerdictRefuses text lent v before after = RefusesExactly (verdictRules text lent) ((maxEntries ≤ lent) × AcceptedText text) (λ x. v ≡ Refused x) before after
 
 -- of the pair list of procedure p, where so many words are lent
 abbrev pub PairsRefuse : List ℕ → ℕ → ℕ → Listing → List ℕ → List ℕ → Type 0
 PairsRefuse text p lent r before after =
-    RefusesExactly (pairsRules text p lent) ((128 ≤ lent) × (x : AcceptedText text) × (p < length (x .plan .procs))) (λ x. r ≡ listing.Refused x) before after
+    RefusesExactly (pairsRules text p lent) ((maxPairs ≤ lent) × (x : AcceptedText text) × (p < length (x .plan .procs))) (λ x. r ≡ listing.Refused x) before after
 
 -- Demand 1: each text that keeps the rules is accepted, and each other is refused with the number of the first rule broken and its line, and nothing is written.
 pub record Demand1 (text before after : List ℕ) : Type 0 where
@@ -49,18 +51,18 @@ pub record Demand1 (text before after : List ℕ) : Type 0 where
   pub pair-list : (p : ℕ) (r : Listing) → Listed text p before r after → PairsRefuse text p (length before) r before after
   pub lockplan-pairs : (p n : ℕ) → ListedBytes text p before n after → PairsRefuse text p (length before / 8) (readListing n) before after
 
--- so many words are listed, ascending without repeats, and a word is listed exactly when it is that of a critical pair of procedure p by source 000's Definition 4.1
-pub record ListsExactly (ps : List Block) (p : ℕ) (r : Listing) (words : List ℕ) : Type 0 where
-  pub number : r ≡ Pairs (length words)
-  pub exact : (w : ℕ) → List·Memᴰ w words ↔ PublishedCritical ps p w
-  pub ascending : Ascends words
+-- so many pairs are listed, ascending without repeats, and a pair is listed exactly when it is a critical pair of procedure p by source 000's Definition 4.1
+pub record ListsExactly (ps : List Block) (p : ℕ) (r : Listing) (pairs : List ℕ) : Type 0 where
+  pub number : r ≡ Pairs (length pairs)
+  pub exact : (w : ℕ) → List·Memᴰ w pairs ↔ PublishedCritical ps p w
+  pub ascending : Ascends pairs
 
--- Demand 2: for each procedure of an accepted text the listed pairs are exactly its critical pairs, none missing and none added; their words fill the buffer's start.
+-- Demand 2: for each procedure of an accepted text the listed pairs are exactly its critical pairs, none missing and none added; they fill the buffer's start.
 pub record Demand2 (text before after : List ℕ) : Type 0 where
-  pub pair-list : (p : ℕ) (r : Listing) → Listed text p before r after → (x : AcceptedText text) → p < length (x .plan .procs) → 128 ≤ length before
-      → (words : List ℕ) × ListsExactly (x .plan .procs) p r words × (after ≡ filled words before)
-  pub lockplan-pairs : (p n : ℕ) → ListedBytes text p before n after → (x : AcceptedText text) → p < length (x .plan .procs) → 128 ≤ length before / 8
-      → (words : List ℕ) × ListsExactly (x .plan .procs) p (readListing n) words × (after ≡ filled (listBytes 8 words) before)
+  pub pair-list : (p : ℕ) (r : Listing) → Listed text p before r after → (x : AcceptedText text) → p < length (x .plan .procs) → maxPairs ≤ length before
+      → (pairs : List ℕ) × ListsExactly (x .plan .procs) p r pairs × (after ≡ filled pairs before)
+  pub lockplan-pairs : (p n : ℕ) → ListedBytes text p before n after → (x : AcceptedText text) → p < length (x .plan .procs) → maxPairs ≤ length before / 8
+      → (pairs : List ℕ) × ListsExactly (x .plan .procs) p (readListing n) pairs × (after ≡ filled (listBytes 8 pairs) before)
 
 -- some run of the plan's gateway reaches a stuck set
 pub record StuckReached (plan : LockPlan) : Type 0 where
@@ -78,7 +80,7 @@ pub record JudgesExactly (plan : LockPlan) (v : Verdict) (schedule : List ℕ) :
 
 -- Demand 3: of an accepted text the verdict is exact, and the entries of its schedule fill the buffer's start.
 pub record Demand3 (text before after : List ℕ) : Type 0 where
-  pub judge : (v : Verdict) → Judged text before v after → (x : AcceptedText text) → 6144 ≤ length before
+  pub judge : (v : Verdict) → Judged text before v after → (x : AcceptedText text) → maxEntries ≤ length before
       → (schedule : List ℕ) × JudgesExactly (x .plan) v schedule × (after ≡ filled schedule before)
-  pub lockplan-verdict : (n : ℕ) → JudgedBytes text before n after → (x : AcceptedText text) → 6144 ≤ length before / 2
+  pub lockplan-verdict : (n : ℕ) → JudgedBytes text before n after → (x : AcceptedText text) → maxEntries ≤ length before / 2
       → (schedule : List ℕ) × JudgesExactly (x .plan) (readVerdict n) schedule × (after ≡ filled (listBytes 2 schedule) before)

@@ -5,6 +5,8 @@ ghost use Rattle.procedure_text.specs.ProcText.{procText};
 ghost use Rattle.verdict.specs.Judged.{Judged, JudgedBytes};
 pub use answers::Listing;
 pub use answers::Verdict;
+use limits::MAX_ENTRIES;
+use limits::PAIR_ROOM;
 
 // The verdict on a plan text: whether its gateway can come to two or more threads stuck on each other, with a schedule at the start of `out` where it can.
 pub fn judge(text: &[u8], out: &mut [u16]) -> Verdict
@@ -13,12 +15,12 @@ pub fn judge(text: &[u8], out: &mut [u16]) -> Verdict
     verdict::judge_text(text, out)
 }
 
-// The critical pairs of a procedure: their words, ascending, at the start of `out`.
+// The critical pairs of a procedure, as 64-bit words, ascending, at the start of `out`.
 pub fn pair_list(text: &[u8], proc: usize, out: &mut [u64]) -> Listing
     ensures { λ r. ⌜ Listed (now (text .entry)) proc (now (out .entry)) r (now (out .exit)) ⌝ }
 {
-    let mut list = [0u64; 129];
-    listing::list_words(text, proc, out, &mut list)
+    let mut list = [0u64; PAIR_ROOM];
+    listing::list_pairs(text, proc, out, &mut list)
 }
 
 // The part of the text that a procedure is: empty where the plan is refused or the procedure is absent.
@@ -33,15 +35,15 @@ pub fn proc_text(text: &[u8], proc: usize) -> &[u8]
 pub extern "C" fn lockplan_verdict(text: &[u8], out: &mut [u8]) -> u64
     ensures { λ r. ⌜ JudgedBytes (now (text .entry)) (now (out .entry)) r (now (out .exit)) ⌝ }
 {
-    let mut entries = [0u16; 6144];
+    let mut entries = [0u16; MAX_ENTRIES];
     verdict::verdict_bytes(text, out, &mut entries)
 }
 
-// The pair list for C: words as eight bytes each, lowest first.
+// The pair list for C: pairs as eight bytes each, lowest first.
 #[no_mangle]
 pub extern "C" fn lockplan_pairs(text: &[u8], proc: u64, out: &mut [u8]) -> u64
     ensures { λ r. ⌜ ListedBytes (now (text .entry)) proc (now (out .entry)) r (now (out .exit)) ⌝ }
 {
-    let mut list = [0u64; 129];
+    let mut list = [0u64; PAIR_ROOM];
     listing::list_bytes(text, proc as usize, out, &mut list)
 }

@@ -6,10 +6,11 @@ use mathlib.Core.Path.{_≡_, sym, ap, _∙_}
 use borrow.Author.Tests.{eq-eqb, ne-eqb}
 use lib.Bits.{bitAnd}
 use lib.Dec.{eqb}
+use Rattle.limits.specs.Limits.{lockCount}
 use Rattle.laws.specs.Mask.{inMask}
 use Rattle.laws.proofs.Masks.{shl-one, test-bit}
 
-module _ (m l b : ℕ) (h : l < 32) (e : b ≡ 2 ^ l) where
+module _ (m l b : ℕ) (h : l < lockCount) (e : b ≡ 2 ^ l) where
   -- `m & lock_bit(l) != 0`
   pub has-lock : not (eqb (bitAnd m b) 0) ≡ inMask m l
   has-lock = ap (λ x. not (eqb (bitAnd m x) 0)) (e ∙ sym (shl-one 64 l (omega arith))) ∙ test-bit 64 m l (omega arith)

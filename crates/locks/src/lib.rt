@@ -1,37 +1,47 @@
 // Lock sets as masks, and the numbers that a mask, a thread or a choice is packed into: the one place where they are put together and taken apart.
 ghost use mathlib.Core.Path.{_≡_};
 ghost use Prim.Native.Nat.{_+_, _*_, _/_, _%_, _<_, _^_};
+ghost use Rattle.limits.specs.Limits.{lockCount, maskSize};
+ghost use Rattle.laws.specs.Mask.{inMask};
 
 // The bit of a lock in a mask.
 pub fn lock_bit(lock: u64) -> u64
-    requires { ⌜ lock < 32 ⌝ }
+    requires { ⌜ lock < lockCount ⌝ }
     ensures { λ r. ⌜ r ≡ 2 ^ lock ⌝ }
 {
     1u64 << lock
 }
 
-// ---- the word of a pair: the wanted lock in its 5 lowest digits, the mask of the held locks above them
+// Whether a lock is in a mask.
+pub fn has_lock(mask: u64, lock: u64) -> bool
+    requires { ⌜ lock < lockCount ⌝ }
+    ensures { λ r. ⌜ r ≡ inMask mask lock ⌝ }
+{
+    mask & lock_bit(lock) != 0
+}
 
-pub fn word_of(mask: u64, lock: u64) -> u64
-    requires { ⌜ mask < 2 ^ 32 ⌝ }
-    ensures { λ r. ⌜ (lock < 32 → r ≡ mask * 32 + lock) ⌝ }
+// ---- a pair: the wanted lock in its 5 lowest digits, the mask of the held locks above them
+
+pub fn pair_of(mask: u64, lock: u64) -> u64
+    requires { ⌜ mask < maskSize ⌝ }
+    ensures { λ r. ⌜ (lock < lockCount → r ≡ mask * 32 + lock) ⌝ }
 {
     (mask << 5) | lock
 }
 
-pub fn held_in(word: u64) -> u64
-    ensures { λ r. ⌜ r ≡ word / 32 ⌝ }
+pub fn held_in(pair: u64) -> u64
+    ensures { λ r. ⌜ r ≡ pair / 32 ⌝ }
 {
-    word >> 5
+    pair >> 5
 }
 
-pub fn wanted_in(word: u64) -> u64
-    ensures { λ r. ⌜ r ≡ word % 32 ⌝ }
+pub fn wanted_in(pair: u64) -> u64
+    ensures { λ r. ⌜ r ≡ pair % 32 ⌝ }
 {
-    word & 31
+    pair & 31
 }
 
-// ---- an entry: a thread in its 3 lowest digits, a word or a choice above them
+// ---- an entry or a candidate: a thread in its 3 lowest digits, a choice or a pair above them
 
 pub fn entry_of(thread: u64, rest: u64) -> u64
     requires { ⌜ (thread < 8) × (rest < 2 ^ 61) ⌝ }
@@ -55,7 +65,7 @@ pub fn rest_in(entry: u64) -> u64
 // ---- a step of a path: its choice in the 2 lowest digits, the mask of the locks held after it above them
 
 pub fn step_of(choice: u64, mask: u64) -> u64
-    requires { ⌜ (choice < 4) × (mask < 2 ^ 32) ⌝ }
+    requires { ⌜ (choice < 4) × (mask < maskSize) ⌝ }
     ensures { λ r. ⌜ r ≡ choice + 4 * mask ⌝ }
 {
     (mask << 2) | choice

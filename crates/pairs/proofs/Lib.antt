@@ -1,4 +1,4 @@
--- Insertion, the numbers of a table, the words collected from it form by form, and that these are the pairs of the tree.
+-- Insertion, the numbers of a table, the pairs collected from it form by form, and that these are the pairs of the tree.
 pub mod Insertion
 pub mod Numbers
 pub mod Collecting

@@ -1,3 +1,3 @@
 -- The part of a text that a procedure is.
-pub mod Laws
+pub mod Turns
 pub mod Lines

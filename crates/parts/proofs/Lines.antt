@@ -11,13 +11,13 @@ use lib.Dec.{eqb·suc-zero}
 use borrow.Author.Tests.{ne-eqb}
 use Rattle.text.specs.declared.Form.{Form}
 use Rattle.text.specs.declared.Form.the-variants.{Plan, Proc, Close, Skip, Call, Hold, Loop, Either, One, Two}
-use Rattle.text.specs.Forms.{write}
+use Rattle.text.specs.Forms.{write, kindIn}
 use Rattle.text.specs.Lines.{textOf}
 use Rattle.text.proofs.Written.{write-unbroken}
 use Rattle.semantics.specs.Plan.{Block, done, skip, call, hold, loop, either, end, LockPlan, bodyIn}
 use Rattle.plan.specs.Grammar.{blockForms, procForms, threadForms, forms}
 use Rattle.plan.specs.Rules.{procLineFrom}
-use Rattle.parts.specs.Parts.{leftAfter, skipLines, bytesIn, linesSpan, beginsOther, formsBefore, formsToClosing}
+use Rattle.parts.specs.Parts.{leftAfter, skipLines, bytesIn, linesSpan, formsBefore, formsToClosing}
 
 -- ---- lines counted in forms
 
@@ -67,7 +67,7 @@ lines-forms fs a n =
 
 -- up to the first form that begins another thing
 before-block : (b : Block) (fs : List Form) → take (formsBefore (blockForms b fs)) (blockForms b fs) ≡ blockForms b (take (formsBefore fs) fs)
-unfolding blockForms formsBefore beginsOther
+unfolding blockForms formsBefore kindIn
 before-block done fs = refl
 before-block (skip r) fs = ap (λ l. Skip ∷ l) (before-block r fs)
 before-block (call n r) fs = ap (λ l. Call n ∷ l) (before-block r fs)
@@ -103,7 +103,7 @@ passes-then p xs ys fs a b = record {
 }
 
 passes-block : (p : ℕ) (b : Block) (fs : List Form) → Passes p (blockForms b fs) fs
-unfolding blockForms procLineFrom
+unfolding blockForms procLineFrom kindIn
 passes-block p done fs = passes-none p fs
 passes-block p (skip r) fs = passes-more p Skip (blockForms r fs) fs (λ n. refl) (passes-block p r fs)
 passes-block p (call q r) fs = passes-more p (Call q) (blockForms r fs) fs (λ n. refl) (passes-block p r fs)
@@ -135,19 +135,19 @@ record ProcAt (n : ℕ) (p : ℕ) (ps : List Block) (xs : List Form) : Type 0 wh
   ends : formsBefore later ≡ 0
 
 begins-procs : (ps : List Block) (gs : List Form) → formsBefore gs ≡ 0 → formsBefore (procForms ps gs) ≡ 0
-unfolding procForms formsBefore beginsOther
+unfolding procForms formsBefore kindIn
 begins-procs [] gs h = h
 begins-procs (b ∷ ps) gs h = refl
 
 later-line : (p n : ℕ) (xs : List Form) → procLineFrom n (suc p) (Proc ∷ xs) ≡ procLineFrom (suc n) p xs
-unfolding procLineFrom
+unfolding procLineFrom kindIn
 later-line p n xs = let q : suc p - 1 ≡ p = omega arith in rw (eqb·suc-zero p, q)
 
 regroup : (n a b : ℕ) → suc n + a + b ≡ n + suc (a + b)
 regroup n a b = omega arith
 
 proc-at : (ps : List Block) (gs : List Form) (p n : ℕ) → p < length ps → formsBefore gs ≡ 0 → ProcAt n p ps (procForms ps gs)
-unfolding procForms procLineFrom bodyIn
+unfolding procForms procLineFrom bodyIn kindIn
 proc-at [] gs p n h e = absurd (omega arith)
 proc-at (b ∷ ps) gs zero n h e = record { place = 0; line = omega arith; later = procForms ps gs; there = refl; ends = begins-procs ps gs e }
 proc-at (b ∷ ps) gs (suc p) n h e =
@@ -164,39 +164,39 @@ proc-at (b ∷ ps) gs (suc p) n h e =
     }
 
 begins-threads : (ns : List ℕ) (fs : List Form) → 0 < length ns → formsBefore (threadForms ns fs) ≡ 0
-unfolding threadForms formsBefore beginsOther
+unfolding threadForms formsBefore kindIn
 begins-threads [] fs h = absurd (omega arith)
 begins-threads (n ∷ ns) fs h = refl
 
 -- a closing line is the last
 closing : (later : List Form) → formsBefore later ≡ 0 → take (formsBefore (Close ∷ later)) (Close ∷ later) ≡ Close ∷ []
-unfolding formsBefore beginsOther
+unfolding formsBefore kindIn
 closing later z = rw z
 
 -- a procedure's closing line, with no bracket open
 closed : (later : List Form) → formsBefore later ≡ 0 → formsBefore (Close ∷ later) ≡ formsToClosing 0 (Close ∷ later)
-unfolding formsBefore beginsOther formsToClosing
+unfolding formsBefore kindIn formsToClosing
 closed later z = rw z
 
 -- the end of a bracket within the procedure
-closes : (depth : ℕ) (fs : List Form) → formsBefore fs ≡ formsToClosing depth fs → formsBefore (Close ∷ fs) ≡ formsToClosing (suc depth) (Close ∷ fs)
-unfolding formsBefore beginsOther formsToClosing
-closes depth fs h = let e : suc depth - 1 ≡ depth = omega arith in rw (eqb·suc-zero depth, e) (ap suc h)
+closes : (depth : ℕ) (fs : List Form) → formsBefore fs ≡ formsToClosing depth fs → formsBefore (Close ∷ fs) ≡ formsToClosing (depth + 1) (Close ∷ fs)
+unfolding formsBefore kindIn formsToClosing
+closes depth fs h = let e : depth + 1 - 1 ≡ depth = omega arith in rw (ne-eqb (depth + 1) 0 (λ z. omega arith), e) (ap suc h)
 
 -- the closing line is the last before the next form that begins another thing
 closing-block : (b : Block) (depth : ℕ) (fs : List Form) → formsBefore fs ≡ formsToClosing depth fs → formsBefore (blockForms b fs) ≡ formsToClosing depth (blockForms b fs)
-unfolding blockForms formsBefore beginsOther formsToClosing
+unfolding blockForms formsBefore kindIn formsToClosing
 closing-block done depth fs h = h
 closing-block (skip r) depth fs h = ap suc (closing-block r depth fs h)
 closing-block (call n r) depth fs h = ap suc (closing-block r depth fs h)
-closing-block (hold l b r) depth fs h = ap suc (closing-block b (suc depth) (Close ∷ blockForms r fs) (closes depth (blockForms r fs) (closing-block r depth fs h)))
-closing-block (loop b r) depth fs h = ap suc (closing-block b (suc depth) (Close ∷ blockForms r fs) (closes depth (blockForms r fs) (closing-block r depth fs h)))
+closing-block (hold l b r) depth fs h = ap suc (closing-block b (depth + 1) (Close ∷ blockForms r fs) (closes depth (blockForms r fs) (closing-block r depth fs h)))
+closing-block (loop b r) depth fs h = ap suc (closing-block b (depth + 1) (Close ∷ blockForms r fs) (closes depth (blockForms r fs) (closing-block r depth fs h)))
 closing-block (either a b r) depth fs h =
     let gs = blockForms r fs in
-    let after-b = closes (suc depth) (Close ∷ gs) (closes depth gs (closing-block r depth fs h)) in
-    let from-b = closing-block b (suc (suc depth)) (Close ∷ Close ∷ gs) after-b in
-    let after-a = closes (suc depth) (Two ∷ blockForms b (Close ∷ Close ∷ gs)) (ap suc from-b) in
-    ap (λ n. suc (suc n)) (closing-block a (suc (suc depth)) (Close ∷ Two ∷ blockForms b (Close ∷ Close ∷ gs)) after-a)
+    let after-b = closes (depth + 1) (Close ∷ gs) (closes depth gs (closing-block r depth fs h)) in
+    let from-b = closing-block b (depth + 1 + 1) (Close ∷ Close ∷ gs) after-b in
+    let after-a = closes (depth + 1) (Two ∷ blockForms b (Close ∷ Close ∷ gs)) (ap suc from-b) in
+    ap (λ n. suc (suc n)) (closing-block a (depth + 1 + 1) (Close ∷ Two ∷ blockForms b (Close ∷ Close ∷ gs)) after-a)
 closing-block (end l r) depth fs h = closing-block r depth fs h
 
 -- the lines from a procedure's first line, whose number is `line`, to its last
@@ -207,7 +207,7 @@ pub record ProcLines (plan : LockPlan) (p line : ℕ) : Type 0 where
       ≡ textOf (procForms (bodyIn (plan .procs) p ∷ []) [])
 
 pub proc-lines : (plan : LockPlan) (p : ℕ) → p < length (plan .procs) → 0 < length (plan .threads) → (line : ℕ) → line ≡ procLineFrom 1 p (forms plan) → ProcLines plan p line
-unfolding forms procLineFrom procForms
+unfolding forms procLineFrom procForms kindIn
 proc-lines plan p h t line e =
     let gs = threadForms (plan .threads) (Close ∷ []) in
     let fs = procForms (plan .procs) gs in

@@ -1,13 +1,14 @@
 -- Parts of a text by the numbers of its lines.
 use Prim.Native.Nat.{ℕ, suc, _+_, _-_}
-use mathlib.Core.Bool.{Bool, true, false, cond}
+use mathlib.Core.Bool.{_&&_, cond}
 use mathlib.Core.List.{List, [], _∷_}
 use mathlib.Core.Path.{_≡_}
 use lib.Dec.{eqb}
 use lib.ListN.{take, drop}
 use denote.Ref.{RefT}
 use Rattle.text.specs.declared.Form.{Form}
-use Rattle.text.specs.declared.Form.the-variants.{Plan, Proc, Thread, Close, Skip, Call, Hold, Loop, Either, One, Two}
+use Rattle.text.specs.Forms.{isClose, beginsOther}
+use Rattle.plan.specs.Limits.{depthAfter}
 
 -- the lines still to be passed after a byte: "each line ended by byte 10"
 unfoldable pub leftAfter : ℕ → ℕ → ℕ
@@ -43,35 +44,9 @@ linesSpan text a b = span (skipLines a text) (skipLines b text - skipLines a tex
 -- a two, of which `depth` are open before
 unfoldable pub formsToClosing : ℕ → List Form → ℕ
 formsToClosing depth [] = 0
-formsToClosing depth (f ∷ fs) = elim f [
-  | Plan ↦ suc (formsToClosing depth fs)
-  | Proc ↦ suc (formsToClosing depth fs)
-  | Thread n ↦ suc (formsToClosing depth fs)
-  | Close ↦ cond (eqb depth 0) 1 (suc (formsToClosing (depth - 1) fs))
-  | Skip ↦ suc (formsToClosing depth fs)
-  | Call n ↦ suc (formsToClosing depth fs)
-  | Hold l ↦ suc (formsToClosing (suc depth) fs)
-  | Loop ↦ suc (formsToClosing (suc depth) fs)
-  | Either ↦ suc (formsToClosing (suc depth) fs)
-  | One ↦ suc (formsToClosing (suc depth) fs)
-  | Two ↦ suc (formsToClosing (suc depth) fs)
-]
+formsToClosing depth (f ∷ fs) = cond (isClose f && eqb depth 0) 1 (suc (formsToClosing (depthAfter f depth) fs))
 
--- forms that do not stand within a procedure
-unfoldable pub beginsOther : Form → Bool
-beginsOther Plan = true
-beginsOther Proc = true
-beginsOther (Thread n) = true
-beginsOther Close = false
-beginsOther Skip = false
-beginsOther (Call n) = false
-beginsOther (Hold l) = false
-beginsOther Loop = false
-beginsOther Either = false
-beginsOther One = false
-beginsOther Two = false
-
--- how many forms stand before the first such one
+-- how many forms stand before the first that does not stand within a procedure
 unfoldable pub formsBefore : List Form → ℕ
 formsBefore [] = 0
 formsBefore (f ∷ fs) = cond (beginsOther f) 0 (suc (formsBefore fs))

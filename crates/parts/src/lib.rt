@@ -3,8 +3,7 @@ ghost use mathlib.Core.Path.{_≡_};
 ghost use Prim.Native.Nat.{_+_, _-_, _≤_};
 ghost use lib.ListN.{length, drop};
 ghost use Rattle.plan.specs.Table.{tableForms};
-ghost use Rattle.parts.specs.Parts.{leftAfter, skipLines, beginsOther, formsBefore, PartAt, linesSpan};
-use text::Form;
+ghost use Rattle.parts.specs.Parts.{leftAfter, skipLines, formsBefore, PartAt, linesSpan};
 
 // The lines still to be passed after a byte.
 fn left_after(byte: u8, lines: usize) -> usize
@@ -35,33 +34,14 @@ fn line_start(text: &[u8], lines: usize) -> usize
     i
 }
 
-// Whether a form begins a procedure, a thread or a plan.
-fn begins_other(form: Form) -> bool
-    ensures { λ r. ⌜ r ≡ beginsOther form ⌝ }
-{
-    match form {
-        Form::Plan => true,
-        Form::Proc => true,
-        Form::Thread(_) => true,
-        Form::Close => false,
-        Form::Skip => false,
-        Form::Call(_) => false,
-        Form::Hold(_) => false,
-        Form::Loop => false,
-        Form::Either => false,
-        Form::One => false,
-        Form::Two => false,
-    }
-}
-
-// The place of the first such form at or after `at`, or the table's end.
+// The place of the first form at or after `at` that does not stand within a procedure, or the table's end.
 fn proc_end(table: &[u64], at: usize) -> usize
     requires { ⌜ at ≤ length (now table) ⌝ }
     ensures { λ r. ⌜ r ≡ at + formsBefore (tableForms (drop at (now (table .entry)))) ⌝ }
 {
     let mut i = at;
     while i < table.len() {
-        if begins_other(plan::form_at(table[i])) {
+        if text::begins_other(plan::form_at(table[i])) {
             return i;
         }
         i += 1;

@@ -12,6 +12,7 @@ use lib.ListN.{length, drop, getD, drop-of-length-le}
 use lib.Seq.{drop-cons}
 use mir.Val.{hasKey}
 use types.Run.{OneOf, miss}
+use Rattle.limits.specs.Limits.{lockCount}
 use Rattle.laws.proofs.Tests.{lt-or-le}
 use Rattle.text.proofs.Form.{the-type}
 use Rattle.text.specs.declared.Form.{Form}
@@ -83,7 +84,7 @@ module _ (C : ℕ → Type 0) (later fs : List Form) where
   call-only n P g (end l r) v e = absurd v
 
   pub hold-only : (n : ℕ) (P : Block → Type 0)
-      → ((b r : Block) → n < 32 → Written C b → Written C r → fs ≡ blockForms b (Close ∷ blockForms r (Close ∷ later)) → P (hold n b r))
+      → ((b r : Block) → n < lockCount → Written C b → Written C r → fs ≡ blockForms b (Close ∷ blockForms r (Close ∷ later)) → P (hold n b r))
       → (b : Block) → Written C b → Hold n ∷ fs ≡ blockForms b (Close ∷ later) → P b
   unfolding Written blockForms
   hold-only n P g done v e = let z : _≡_ {A = ℕ} 0 1 = cc in absurd (omega arith)

@@ -7,15 +7,15 @@ use mathlib.Core.List.{List}
 use mathlib.Core.Path.{_≡_, refl, sym, ap, _∙_}
 use lib.ListN.{length, take, set, length-set}
 use lib.Seq.{take-take, take-set-le, take-suc-set}
-use Rattle.paths.specs.Walks.{Kept, PutAt}
+use Rattle.paths.specs.Walks.{FrontKept, PutAt}
 
-pub kept-same : (s : List ℕ) (n : ℕ) → n ≤ length s → Kept s n s n
+pub kept-same : (s : List ℕ) (n : ℕ) → n ≤ length s → FrontKept s n s n
 kept-same s n h = record { grows = le-refl n; room = h; size = refl; same = refl }
 
 shorter : (n k : ℕ) (s t : List ℕ) → n ≤ k → take k s ≡ take k t → take n s ≡ take n t
 shorter n k s t h e = sym (take-take n k s h) ∙ ap (take n) e ∙ take-take n k t h
 
-pub kept-then : {s s₁ s₂ : List ℕ} {n k j : ℕ} → Kept s n s₁ k → Kept s₁ k s₂ j → Kept s n s₂ j
+pub kept-then : {s s₁ s₂ : List ℕ} {n k j : ℕ} → FrontKept s n s₁ k → FrontKept s₁ k s₂ j → FrontKept s n s₂ j
 kept-then {s} {s₁} {s₂} {n} {k} a b = record {
   grows = omega arith;
   room = b .room;
@@ -24,7 +24,7 @@ kept-then {s} {s₁} {s₂} {n} {k} a b = record {
 }
 
 -- back to the first n
-pub kept-back : {s s₁ s₂ : List ℕ} {n k j : ℕ} → Kept s n s₁ k → Kept s₁ n s₂ j → Kept s n s₂ j
+pub kept-back : {s s₁ s₂ : List ℕ} {n k j : ℕ} → FrontKept s n s₁ k → FrontKept s₁ n s₂ j → FrontKept s n s₂ j
 kept-back a b = record { grows = b .grows; room = b .room; size = b .size ∙ a .size; same = b .same ∙ a .same }
 
 -- ---- a step that is put

@@ -3,6 +3,6 @@ pub mod Locks
 pub mod Blocks
 pub mod Buffers
 pub mod Walking
-pub mod Wishes
+pub mod Wanted
 pub mod Measure
-pub mod Found
+pub mod PathWritten

@@ -9,18 +9,19 @@ use mathlib.Core.Path.{_≡_, refl, sym, ap, _∙_}
 use denote.Enum.Declared.{tagOf}
 use lib.ListN.{length, take, getD}
 use types.Run.{OneOf}
+use Rattle.limits.specs.Limits.{lockCount}
 use Rattle.text.specs.declared.Form.{Form}
 use Rattle.text.specs.declared.Form.the-variants.{Close, Skip, Call, Hold, Loop, Either, One, Two}
 use Rattle.text.proofs.Form.{the-type}
 use Rattle.semantics.specs.Plan.{Block, skip, call, hold, loop, either, bodyIn}
 use Rattle.semantics.specs.Sizes.{sizeWith, sizeAt}
-use Rattle.semantics.proofs.Remainders.{body-below}
-use Rattle.semantics.proofs.Paths.{stepOf, holding, put, Walked, found, passed, andThen, gives, walkWith, walkAt}
+use Rattle.semantics.proofs.Thread.Remainders.{body-below}
+use Rattle.semantics.specs.Paths.{stepOf, holding, put, Walked, found, passed, andThen, gives, walkWith, walkAt}
 use Rattle.plan.specs.Grammar.{blockForms}
 use Rattle.plan.specs.Table.{formAt}
 use Rattle.paths.specs.declared.Stop.{Stop}
 use Rattle.paths.specs.declared.Way.{Way}
-use Rattle.paths.specs.Walks.{procsIn, formsFrom, Within, Inside, sizeIn, walkIn, Kept, PutAt, Ready, stopped, outcomeOf, BlockWalked, Walks, Left, StatementWalked, Passes}
+use Rattle.paths.specs.Walks.{procsIn, formsFrom, InPlan, Inside, sizeIn, walkIn, FrontKept, PutAt, WalkReady, stopped, outcomeOf, BlockWalked, Walks, Left, StatementWalked, StatementWalks}
 use Rattle.paths.proofs.Buffers.{kept-same, kept-then, kept-back}
 use Rattle.paths.proofs.Measure.{measure}
 use Rattle.paths.proofs.Blocks.{other-form, none-begins, statement-begins, table-more, table-none, table-behind}
@@ -73,7 +74,7 @@ enter-walks {ws} {way} c u i = record {
 
 -- The walk from place `at` has come to place i: what is left of the block, behind the first `count` entries.
 pub record Along (ws : List ℕ) (way : Way) (at : ℕ) (before : List ℕ) (n i count : ℕ) (after : List ℕ) : Type 0 where
-  pub buffer : Kept before n after count
+  pub buffer : FrontKept before n after count
   pub forward : at ≤ i
   pub left : (b : Block) (later : List Form) → formsFrom ws at ≡ blockForms b (Close ∷ later) → Inside ws b → n + sizeIn ws way b ≤ length before
       → Left ws way (take n before) n b later i count after
@@ -91,7 +92,7 @@ module _ {ws : List ℕ} {way : Way} {at n i count : ℕ} {s s₁ : List ℕ} (a
     buffer = a .buffer;
     forward = λ z. a .forward;
     walked = λ b later f v k. let l = a .left b later f v k in
-        absurd (none-begins (Within ws) later [] (l .rest) (l .inside) (sym (table-none ws i h) ∙ l .forms));
+        absurd (none-begins (InPlan ws) later [] (l .rest) (l .inside) (sym (table-none ws i h) ∙ l .forms));
   })
 
   module _ (f : Form) (here : i < length ws) (is : f ≡ formAt (getD ws i 0)) where
@@ -104,14 +105,14 @@ module _ {ws : List ℕ} {way : Way} {at n i count : ℕ} {s s₁ : List ℕ} (a
       buffer = a .buffer;
       forward = λ z. omega (arith, a .forward);
       walked = λ b later g v k. let l = a .left b later g v k in
-          let end = close-only (Within ws) later (formsFrom ws (i + 1))
+          let end = close-only (InPlan ws) later (formsFrom ws (i + 1))
           (λ x. (walkIn ws way (take count s₁) x ≡ passed (take count s₁)) × (formsFrom ws (i + 1) ≡ later)) (λ e. (refl, e)) (l .rest) (l .inside)
           (rw c at (form-left l)) in
           record { outcome = l .same ∙ end .0; next = λ z. end .1; short = omega (arith, l .short) };
     })
 
     -- a statement more
-    module _ (tags : OneOf (0 ∷ 1 ∷ 2 ∷ 4 ∷ 5 ∷ 6 ∷ 7 ∷ 8 ∷ 9 ∷ 10 ∷ []) (tagOf the-type f)) {r : Stop} {s₂ : List ℕ} (p : Passes ws way f (i + 1) s₁ count r s₂) where
+    module _ (tags : OneOf (0 ∷ 1 ∷ 2 ∷ 4 ∷ 5 ∷ 6 ∷ 7 ∷ 8 ∷ 9 ∷ 10 ∷ []) (tagOf the-type f)) {r : Stop} {s₂ : List ℕ} (p : StatementWalks ws way f (i + 1) s₁ count r s₂) where
       statement-passed : {b : Block} {later : List Form} (l : Left ws way (take n s) n b later i count s₁) → n + sizeIn ws way b ≤ length s
           → StatementWalked ws way (take count s₁) count (l .rest) later r s₂
       statement-passed {b} {later} l k =
@@ -155,24 +156,24 @@ left-passed : {ws : List ℕ} {way : Way} {path : List ℕ} {n : ℕ} {b : Block
     → StatementWalked ws way path n b later (stopped false i count) s
 left-passed l = record { reached = λ z. not-both z refl; left = λ z. l; short = omega (arith, l .short) }
 
-pub passes-as : {ws : List ℕ} {way : Way} {at n : ℕ} {s s₁ : List ℕ} {r : Stop} (f g : Form) → f ≡ g → Passes ws way g at s n r s₁ → Passes ws way f at s n r s₁
+pub passes-as : {ws : List ℕ} {way : Way} {at n : ℕ} {s s₁ : List ℕ} {r : Stop} (f g : Form) → f ≡ g → StatementWalks ws way g at s n r s₁ → StatementWalks ws way f at s n r s₁
 passes-as f g e p = rw e p
 
 pub other-passes : {ws : List ℕ} {way : Way} {at n : ℕ} {s : List ℕ} (r : Stop) (f : Form) → r ≡ stopped false at n → n ≤ length s
-    → OneOf (0 ∷ 1 ∷ 2 ∷ 3 ∷ 9 ∷ 10 ∷ []) (tagOf the-type f) → Passes ws way f at s n r s
+    → OneOf (0 ∷ 1 ∷ 2 ∷ 3 ∷ 9 ∷ 10 ∷ []) (tagOf the-type f) → StatementWalks ws way f at s n r s
 other-passes {ws} {way} {at} {n} {s} r f e h tags = rw e (record {
   buffer = kept-same s n h;
   forward = λ z. le-refl at;
-  walked = λ b later c g v k. absurd (statement-begins (Within ws) later (formsFrom ws at) f tags c b v g);
+  walked = λ b later c g v k. absurd (statement-begins (InPlan ws) later (formsFrom ws at) f tags c b v g);
 })
 
 module _ {ws : List ℕ} {way : Way} {at n k : ℕ} {s s₁ : List ℕ} (r : Stop) (e : r ≡ stopped false at k) (u : PutAt s n (stepOf 0 (way .mask)) k s₁) where
-  pub skip-passes : Passes ws way Skip at s n r s₁
+  pub skip-passes : StatementWalks ws way Skip at s n r s₁
   unfolding walkWith sizeWith
   skip-passes = rw e (record {
     buffer = u .buffer;
     forward = λ z. le-refl at;
-    walked = λ b later c g v. skip-only (Within ws) later (formsFrom ws at) (Passing ws way s n later (stopped false at k) s₁) (go later) b v g;
+    walked = λ b later c g v. skip-only (InPlan ws) later (formsFrom ws at) (Passing ws way s n later (stopped false at k) s₁) (go later) b v g;
   })
     where
       go : (later : List Form) (x : Block) → Inside ws x → formsFrom ws at ≡ blockForms x (Close ∷ later) → Passing ws way s n later (stopped false at k) s₁ (skip x)
@@ -185,12 +186,12 @@ module _ {ws : List ℕ} {way : Way} {at n k : ℕ} {s s₁ : List ℕ} (r : Sto
       })
 
   -- a call that goes too deep
-  pub call-passes-none : (p : ℕ) → way .depth ≡ 0 → Passes ws way (Call p) at s n r s₁
+  pub call-passes-none : (p : ℕ) → way .depth ≡ 0 → StatementWalks ws way (Call p) at s n r s₁
   unfolding walkWith sizeWith
   call-passes-none p z = rw e (record {
     buffer = u .buffer;
     forward = λ z. le-refl at;
-    walked = λ b later c g v. call-only (Within ws) later (formsFrom ws at) p (Passing ws way s n later (stopped false at k) s₁) (go later) b v g;
+    walked = λ b later c g v. call-only (InPlan ws) later (formsFrom ws at) p (Passing ws way s n later (stopped false at k) s₁) (go later) b v g;
   })
     where
       go : (later : List Form) (x : Block) → p < length (procsIn ws) → Inside ws x → formsFrom ws at ≡ blockForms x (Close ∷ later)
@@ -199,17 +200,17 @@ module _ {ws : List ℕ} {way : Way} {at n k : ℕ} {s s₁ : List ℕ} (r : Sto
         rest = x;
         forms = g;
         inside = v;
-        same = ap (λ o. andThen o (λ q. walkIn ws way q x)) (no-depth (procsIn ws) (way .depth) (way .word) p (way .mask) (put (take n s) 0 (way .mask)) z)
+        same = ap (λ o. andThen o (λ q. walkIn ws way q x)) (no-depth (procsIn ws) (way .depth) (way .pair) p (way .mask) (put (take n s) 0 (way .mask)) z)
             ∙ ap (λ q. walkIn ws way q x) (sym (u .put (omega arith)));
         short = omega (arith, u .one);
       })
 
 -- a call: the walk of the procedure
-module _ {ws starts : List ℕ} {way : Way} {p q n : ℕ} {s s₁ : List ℕ} {i : Stop} (ready : Ready ws starts way s n) (z : way .depth ≡ 0 → ⊥)
+module _ {ws starts : List ℕ} {way : Way} {p q n : ℕ} {s s₁ : List ℕ} {i : Stop} (ready : WalkReady ws starts way s n) (z : way .depth ≡ 0 → ⊥)
     (begin : p < length starts → q ≡ getD starts p 0)
-    (w : Walks ws (record { depth = way .depth - 1; mask = way .mask; word = way .word }) q s n (put (take n s) 0 (way .mask)) (n + 1) i s₁) where
+    (w : Walks ws (record { depth = way .depth - 1; mask = way .mask; pair = way .pair }) q s n (put (take n s) 0 (way .mask)) (n + 1) i s₁) where
   called : p < length (procsIn ws) → n + 1 + sizeAt (way .depth) (procsIn ws) p ≤ length s → (later : List Form) × BlockWalked ws
-      (record { depth = way .depth - 1; mask = way .mask; word = way .word }) (put (take n s) 0 (way .mask)) (n + 1) (bodyIn (procsIn ws) p) later i s₁
+      (record { depth = way .depth - 1; mask = way .mask; pair = way .pair }) (put (take n s) 0 (way .mask)) (n + 1) (bodyIn (procsIn ws) p) later i s₁
   called c h =
       let there = ready .begins .stands p c in
       let y = size-deeper (procsIn ws) (way .depth) p z in
@@ -219,12 +220,12 @@ module _ {ws starts : List ℕ} {way : Way} {p q n : ℕ} {s s₁ : List ℕ} {i
             (body-below (procsIn ws) (λ q. q) (ready .plan .settled .sound) (length (procsIn ws)) p (omega arith)) (omega arith),
       )
 
-  pub call-passes : {at : ℕ} → Passes ws way (Call p) at s n (stopped (i .reached) at (i .count)) s₁
+  pub call-passes : {at : ℕ} → StatementWalks ws way (Call p) at s n (stopped (i .reached) at (i .count)) s₁
   unfolding walkWith sizeWith
   call-passes {at} = record {
     buffer = w .buffer;
     forward = λ z. le-refl at;
-    walked = λ b later c g v. call-only (Within ws) later (formsFrom ws at) p (Passing ws way s n later (stopped (i .reached) at (i .count)) s₁) (go later) b v g;
+    walked = λ b later c g v. call-only (InPlan ws) later (formsFrom ws at) p (Passing ws way s n later (stopped (i .reached) at (i .count)) s₁) (go later) b v g;
   }
     where
       go : (later : List Form) (x : Block) → p < length (procsIn ws) → Inside ws x → formsFrom ws at ≡ blockForms x (Close ∷ later)
@@ -232,7 +233,7 @@ module _ {ws starts : List ℕ} {way : Way} {p q n : ℕ} {s s₁ : List ℕ} {i
       go later x c v g h =
           let y = size-deeper (procsIn ws) (way .depth) p z in
           let o = called c (omega arith) .1 in
-          let deeper = one-deeper (procsIn ws) (way .depth) (way .word) p (way .mask) (put (take n s) 0 (way .mask)) z in
+          let deeper = one-deeper (procsIn ws) (way .depth) (way .pair) p (way .mask) (put (take n s) 0 (way .mask)) z in
           record {
             reached = λ f. ap (λ o. andThen o (λ q. walkIn ws way q x)) (deeper ∙ was-found o f);
             left = λ f. record {
@@ -245,28 +246,28 @@ module _ {ws starts : List ℕ} {way : Way} {p q n : ℕ} {s s₁ : List ℕ} {i
             short = omega (arith, o .short);
           }
 
--- a hold: it gives the word, or its block is walked
+-- a hold: it gives the pair, or its block is walked
 module _ (ws : List ℕ) (way : Way) (path : List ℕ) (l : ℕ) (x y : Block) where
-  hold-here : gives (way .word) (way .mask) l ≡ true → walkIn ws way path (hold l x y) ≡ found path
+  hold-here : gives (way .pair) (way .mask) l ≡ true → walkIn ws way path (hold l x y) ≡ found path
   unfolding walkWith
   hold-here e = rw e
 
-  hold-then : gives (way .word) (way .mask) l ≡ false → walkIn ws way path (hold l x y)
-      ≡ andThen (walkIn ws (record { depth = way .depth; mask = holding (way .mask) l; word = way .word }) (put path 0 (holding (way .mask) l)) x)
+  hold-then : gives (way .pair) (way .mask) l ≡ false → walkIn ws way path (hold l x y)
+      ≡ andThen (walkIn ws (record { depth = way .depth; mask = holding (way .mask) l; pair = way .pair }) (put path 0 (holding (way .mask) l)) x)
       (λ q. walkIn ws way (put q 0 (way .mask)) y)
   unfolding walkWith
   hold-then e = rw e
 
-pub hold-passes-here : {ws : List ℕ} {way : Way} {at n l : ℕ} {s : List ℕ} {t : Bool} → n ≤ length s → (l < 32 → t ≡ gives (way .word) (way .mask) l) → t ≡ true
-    → Passes ws way (Hold l) at s n (stopped true at n) s
+pub hold-passes-here : {ws : List ℕ} {way : Way} {at n l : ℕ} {s : List ℕ} {t : Bool} → n ≤ length s → (l < lockCount → t ≡ gives (way .pair) (way .mask) l) → t ≡ true
+    → StatementWalks ws way (Hold l) at s n (stopped true at n) s
 unfolding sizeWith
 hold-passes-here {ws} {way} {at} {n} {l} {s} room g f = record {
   buffer = kept-same s n room;
   forward = λ h. le-refl at;
-  walked = λ b later c e v. hold-only (Within ws) later (formsFrom ws at) l (Passing ws way s n later (stopped true at n) s) (go later) b v e;
+  walked = λ b later c e v. hold-only (InPlan ws) later (formsFrom ws at) l (Passing ws way s n later (stopped true at n) s) (go later) b v e;
 }
   where
-    go : (later : List Form) (x y : Block) → l < 32 → Inside ws x → Inside ws y → formsFrom ws at ≡ blockForms x (Close ∷ blockForms y (Close ∷ later))
+    go : (later : List Form) (x y : Block) → l < lockCount → Inside ws x → Inside ws y → formsFrom ws at ≡ blockForms x (Close ∷ blockForms y (Close ∷ later))
         → Passing ws way s n later (stopped true at n) s (hold l x y)
     go later x y c v v′ e h = record {
       reached = λ z. hold-here ws way (take n s) l x y (sym (g c) ∙ f);
@@ -274,40 +275,40 @@ hold-passes-here {ws} {way} {at} {n} {l} {s} room g f = record {
       short = omega arith;
     }
 
-module _ (way : Way) {ws : List ℕ} {at n l m : ℕ} {s s₁ : List ℕ} {t : Bool} {i : Stop} (g : l < 32 → t ≡ gives (way .word) (way .mask) l) (f : t ≡ false)
-    (with : l < 32 → m ≡ holding (way .mask) l)
-    (w : Walks ws (record { depth = way .depth; mask = m; word = way .word }) at s n (put (take n s) 0 m) (n + 1) i s₁) where
-  held-then : (x y : Block) (o : Walked) → l < 32 → walkIn ws (record { depth = way .depth; mask = m; word = way .word }) (put (take n s) 0 m) x ≡ o
+module _ (way : Way) {ws : List ℕ} {at n l m : ℕ} {s s₁ : List ℕ} {t : Bool} {i : Stop} (g : l < lockCount → t ≡ gives (way .pair) (way .mask) l) (f : t ≡ false)
+    (with : l < lockCount → m ≡ holding (way .mask) l)
+    (w : Walks ws (record { depth = way .depth; mask = m; pair = way .pair }) at s n (put (take n s) 0 m) (n + 1) i s₁) where
+  held-then : (x y : Block) (o : Walked) → l < lockCount → walkIn ws (record { depth = way .depth; mask = m; pair = way .pair }) (put (take n s) 0 m) x ≡ o
       → walkIn ws way (take n s) (hold l x y) ≡ andThen o (λ q. walkIn ws way (put q 0 (way .mask)) y)
   held-then x y o c e =
       hold-then ws way (take n s) l x y (sym (g c) ∙ f)
       ∙ ap (λ o. andThen o (λ q. walkIn ws way (put q 0 (way .mask)) y))
-      (ap (λ z. walkIn ws (record { depth = way .depth; mask = z; word = way .word }) (put (take n s) 0 z) x) (sym (with c)) ∙ e)
+      (ap (λ z. walkIn ws (record { depth = way .depth; mask = z; pair = way .pair }) (put (take n s) 0 z) x) (sym (with c)) ∙ e)
 
-  pub hold-passes-found : i .reached ≡ true → Passes ws way (Hold l) at s n i s₁
+  pub hold-passes-found : i .reached ≡ true → StatementWalks ws way (Hold l) at s n i s₁
   unfolding sizeWith
   hold-passes-found a = record {
     buffer = w .buffer;
     forward = λ b. not-both a b;
-    walked = λ b later c e v. hold-only (Within ws) later (formsFrom ws at) l (Passing ws way s n later i s₁) (go later) b v e;
+    walked = λ b later c e v. hold-only (InPlan ws) later (formsFrom ws at) l (Passing ws way s n later i s₁) (go later) b v e;
   }
     where
-      go : (later : List Form) (x y : Block) → l < 32 → Inside ws x → Inside ws y → formsFrom ws at ≡ blockForms x (Close ∷ blockForms y (Close ∷ later))
+      go : (later : List Form) (x y : Block) → l < lockCount → Inside ws x → Inside ws y → formsFrom ws at ≡ blockForms x (Close ∷ blockForms y (Close ∷ later))
           → Passing ws way s n later i s₁ (hold l x y)
       go later x y c v v′ e h =
           let o = w .walked x (blockForms y (Close ∷ later)) e v (omega arith) in
           record { reached = λ b. held-then x y (found (take (i .count) s₁)) c (was-found o a); left = λ b. not-both a b; short = omega (arith, o .short) }
 
   pub hold-passes : {j : ℕ} {s₂ : List ℕ} (r : Stop) → i .reached ≡ false → PutAt s₁ (i .count) (stepOf 0 (way .mask)) j s₂ → r ≡ stopped false (i .next) j
-      → Passes ws way (Hold l) at s n r s₂
+      → StatementWalks ws way (Hold l) at s n r s₂
   unfolding sizeWith
   hold-passes {j} {s₂} r a u d = rw d (record {
     buffer = kept-then (w .buffer) (u .buffer);
     forward = λ b. w .forward a;
-    walked = λ b later c e v. hold-only (Within ws) later (formsFrom ws at) l (Passing ws way s n later (stopped false (i .next) j) s₂) (go later) b v e;
+    walked = λ b later c e v. hold-only (InPlan ws) later (formsFrom ws at) l (Passing ws way s n later (stopped false (i .next) j) s₂) (go later) b v e;
   })
     where
-      go : (later : List Form) (x y : Block) → l < 32 → Inside ws x → Inside ws y → formsFrom ws at ≡ blockForms x (Close ∷ blockForms y (Close ∷ later))
+      go : (later : List Form) (x y : Block) → l < lockCount → Inside ws x → Inside ws y → formsFrom ws at ≡ blockForms x (Close ∷ blockForms y (Close ∷ later))
           → Passing ws way s n later (stopped false (i .next) j) s₂ (hold l x y)
       go later x y c v v′ e h =
           let o = w .walked x (blockForms y (Close ∷ later)) e v (omega arith) in
@@ -322,12 +323,12 @@ module _ (way : Way) {ws : List ℕ} {at n l m : ℕ} {s s₁ : List ℕ} {t : B
 
 -- a loop
 module _ {ws : List ℕ} {way : Way} {at n : ℕ} {s s₁ : List ℕ} {i : Stop} (w : Walks ws way at s n (put (take n s) 1 (way .mask)) (n + 1) i s₁) where
-  pub loop-passes-found : i .reached ≡ true → Passes ws way Loop at s n i s₁
+  pub loop-passes-found : i .reached ≡ true → StatementWalks ws way Loop at s n i s₁
   unfolding walkWith sizeWith
   loop-passes-found a = record {
     buffer = w .buffer;
     forward = λ b. not-both a b;
-    walked = λ b later c e v. loop-only (Within ws) later (formsFrom ws at) (Passing ws way s n later i s₁) (go later) b v e;
+    walked = λ b later c e v. loop-only (InPlan ws) later (formsFrom ws at) (Passing ws way s n later i s₁) (go later) b v e;
   }
     where
       go : (later : List Form) (x y : Block) → Inside ws x → Inside ws y → formsFrom ws at ≡ blockForms x (Close ∷ blockForms y (Close ∷ later))
@@ -341,12 +342,12 @@ module _ {ws : List ℕ} {way : Way} {at n : ℕ} {s s₁ : List ℕ} {i : Stop}
           }
 
   pub loop-passes : {j : ℕ} {s₂ : List ℕ} (r : Stop) → i .reached ≡ false → PutAt s₁ n (stepOf 2 (way .mask)) j s₂ → r ≡ stopped false (i .next) j
-      → Passes ws way Loop at s n r s₂
+      → StatementWalks ws way Loop at s n r s₂
   unfolding walkWith sizeWith
   loop-passes {j} {s₂} r a u d = rw d (record {
     buffer = kept-back (w .buffer) (u .buffer);
     forward = λ b. w .forward a;
-    walked = λ b later c e v. loop-only (Within ws) later (formsFrom ws at) (Passing ws way s n later (stopped false (i .next) j) s₂) (go later) b v e;
+    walked = λ b later c e v. loop-only (InPlan ws) later (formsFrom ws at) (Passing ws way s n later (stopped false (i .next) j) s₂) (go later) b v e;
   })
     where
       go : (later : List Form) (x y : Block) → Inside ws x → Inside ws y → formsFrom ws at ≡ blockForms x (Close ∷ blockForms y (Close ∷ later))
@@ -371,12 +372,12 @@ module _ {ws : List ℕ} {way : Way} {at q n : ℕ} {s s₁ : List ℕ} {i : Sto
   unfolding sizeWith
   one-walked x y z v later e h = w .walked x later (table-behind ws at q One (blockForms x (Close ∷ later)) (behind .1) e) v (omega arith)
 
-  pub either-passes-found : i .reached ≡ true → Passes ws way Either at s n i s₁
+  pub either-passes-found : i .reached ≡ true → StatementWalks ws way Either at s n i s₁
   unfolding walkWith sizeWith
   either-passes-found a = record {
     buffer = w .buffer;
     forward = λ b. not-both a b;
-    walked = λ b later c e v. either-only (Within ws) later (formsFrom ws at) (Passing ws way s n later i s₁) (go later) b v e;
+    walked = λ b later c e v. either-only (InPlan ws) later (formsFrom ws at) (Passing ws way s n later i s₁) (go later) b v e;
   }
     where
       go : (later : List Form) (x y z : Block) → Inside ws x → Inside ws y → Inside ws z
@@ -398,12 +399,12 @@ module _ {ws : List ℕ} {way : Way} {at q n : ℕ} {s s₁ : List ℕ} {i : Sto
 
   pub either-passes : {q₂ q₃ : ℕ} {i₂ : Stop} {s₂ : List ℕ} → i .reached ≡ false → (i .next ≤ q₂) × (i .next < length ws → q₂ ≡ i .next + 1)
       → Walks ws way q₂ s₁ n (put (take n s₁) 2 (way .mask)) (n + 1) i₂ s₂ → (i₂ .next ≤ q₃) × (i₂ .next < length ws → q₃ ≡ i₂ .next + 1)
-      → Passes ws way Either at s n (stopped (i₂ .reached) q₃ (i₂ .count)) s₂
+      → StatementWalks ws way Either at s n (stopped (i₂ .reached) q₃ (i₂ .count)) s₂
   unfolding walkWith sizeWith
   either-passes {q₂} {q₃} {i₂} {s₂} a behind₂ w₂ behind₃ = record {
     buffer = kept-back (w .buffer) (w₂ .buffer);
     forward = λ b. omega (arith, behind .0, w .forward a, behind₂ .0, w₂ .forward b, behind₃ .0);
-    walked = λ b later c e v. either-only (Within ws) later (formsFrom ws at) (Passing ws way s n later (stopped (i₂ .reached) q₃ (i₂ .count)) s₂) (go later) b v e;
+    walked = λ b later c e v. either-only (InPlan ws) later (formsFrom ws at) (Passing ws way s n later (stopped (i₂ .reached) q₃ (i₂ .count)) s₂) (go later) b v e;
   }
     where
       go : (later : List Form) (x y z : Block) → Inside ws x → Inside ws y → Inside ws z

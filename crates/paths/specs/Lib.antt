@@ -1,3 +1,3 @@
 -- What the walk of a procedure writes down, the path that it finds, and the lock that a block wants first.
 pub mod Walks
-pub mod Wishes
+pub mod Wanted

@@ -1,15 +1,16 @@
 -- The walk of a block in a table of forms, and what it writes into a lent buffer: what `walkWith` of the theory says of the block's tree.
-use Prim.Native.Nat.{ℕ, _+_, _^_, _<_, _≤_}
+use Prim.Native.Nat.{ℕ, _+_, _<_, _≤_}
 use mathlib.Core.Bool.{Bool, true, false}
 use mathlib.Core.List.{List, [], _∷_, _++_, List·Memᴰ}
 use mathlib.Core.Path.{_≡_}
 use lib.ListN.{length, take, drop}
+use Rattle.limits.specs.Limits.{maskSize, maxSize}
 use Rattle.text.specs.declared.Form.{Form}
 use Rattle.text.specs.declared.Form.the-variants.{Close}
 use Rattle.semantics.specs.Plan.{Block, Written}
 use Rattle.semantics.specs.Sizes.{sizeWith, sizeAt, sizeOf}
 use Rattle.semantics.specs.Pairs.{pairs}
-use Rattle.semantics.proofs.Paths.{Walked, found, passed, walkWith, walkAt, PathFound}
+use Rattle.semantics.specs.Paths.{Walked, found, passed, walkWith, walkAt, PathFound}
 use Rattle.plan.specs.Grammar.{blockForms}
 use Rattle.plan.specs.Table.{tableForms}
 use Rattle.plan.specs.Settled.{tablePlan, PlanTable}
@@ -25,22 +26,24 @@ procsIn ws = tablePlan ws .procs
 abbrev pub formsFrom : List ℕ → ℕ → List Form
 formsFrom ws at = tableForms (drop at ws)
 
+-- the number of a procedure of the plan
+abbrev pub InPlan : List ℕ → ℕ → Type 0
+InPlan ws q = q < length (procsIn ws)
+
 -- a block whose calls go to procedures of the plan
-abbrev pub Within : List ℕ → ℕ → Type 0
-Within ws q = q < length (procsIn ws)
-
 abbrev pub Inside : List ℕ → Block → Type 0
-Inside ws b = Written (Within ws) b
+Inside ws b = Written (InPlan ws) b
 
--- the size of a block, and its walk behind a path, as a way says: for its word, with the locks of its mask, where calls go less than its depth
+-- the size of a block, where calls go less deep than a way says
 abbrev pub sizeIn : List ℕ → Way → Block → ℕ
 sizeIn ws way b = sizeWith (sizeAt (way .depth) (procsIn ws)) b
 
+-- the walk of a block behind a path, as a way says: for its pair, with the locks of its mask
 abbrev pub walkIn : List ℕ → Way → List ℕ → Block → Walked
-walkIn ws way path b = walkWith (walkAt (way .depth) (procsIn ws) (way .word)) (way .word) (way .mask) path b
+walkIn ws way path b = walkWith (walkAt (way .depth) (procsIn ws) (way .pair)) (way .pair) (way .mask) path b
 
 -- A buffer that goes on from its first n entries to its first k: those n stay.
-pub record Kept (before : List ℕ) (n : ℕ) (after : List ℕ) (k : ℕ) : Type 0 where
+pub record FrontKept (before : List ℕ) (n : ℕ) (after : List ℕ) (k : ℕ) : Type 0 where
   pub grows : n ≤ k
   pub room : k ≤ length after
   pub size : length after ≡ length before
@@ -48,17 +51,18 @@ pub record Kept (before : List ℕ) (n : ℕ) (after : List ℕ) (k : ℕ) : Typ
 
 -- The entry e is put behind the first n entries, where there is room for it.
 pub record PutAt (before : List ℕ) (n e : ℕ) (k : ℕ) (after : List ℕ) : Type 0 where
-  pub buffer : Kept before n after k
+  pub buffer : FrontKept before n after k
   pub one : k ≤ n + 1
   pub put : n < length before → take k after ≡ take n before ++ (e ∷ [])
 
 -- what a walk asks: a plan's table with the places of its procedures, a mask of locks, and a place in the buffer
-pub record Ready (ws starts : List ℕ) (way : Way) (steps : List ℕ) (n : ℕ) : Type 0 where
+pub record WalkReady (ws starts : List ℕ) (way : Way) (steps : List ℕ) (n : ℕ) : Type 0 where
   pub plan : PlanTable ws
   pub begins : Starts ws starts
-  pub locks : way .mask < 2 ^ 32
+  pub locks : way .mask < maskSize
   pub room : n ≤ length steps
 
+-- where a walk stopped
 abbrev pub stopped : Bool → ℕ → ℕ → Stop
 stopped reached next count = record { reached = reached; next = next; count = count }
 
@@ -78,7 +82,7 @@ pub record BlockWalked (ws : List ℕ) (way : Way) (path : List ℕ) (n : ℕ) (
 -- The walk of the forms from a place on, behind a path of k steps: of the block that they begin with, if they do with one, and there is room for its size. The first
 -- n entries of the buffer stay.
 pub record Walks (ws : List ℕ) (way : Way) (at : ℕ) (before : List ℕ) (n : ℕ) (path : List ℕ) (k : ℕ) (r : Stop) (after : List ℕ) : Type 0 where
-  pub buffer : Kept before n after (r .count)
+  pub buffer : FrontKept before n after (r .count)
   pub forward : r .reached ≡ false → at ≤ r .next
   pub walked : (b : Block) (later : List Form) → formsFrom ws at ≡ blockForms b (Close ∷ later) → Inside ws b
       → k + sizeIn ws way b ≤ length before → BlockWalked ws way path k b later r after
@@ -100,26 +104,25 @@ pub record StatementWalked (ws : List ℕ) (way : Way) (path : List ℕ) (n : �
   pub short : r .count ≤ n + sizeIn ws way b
 
 -- The walk of the statement whose first form is f and whose other forms stand from a place on: of the block that begins with it, if one does.
-pub record Passes (ws : List ℕ) (way : Way) (f : Form) (at : ℕ) (before : List ℕ) (n : ℕ) (r : Stop) (after : List ℕ) : Type 0 where
-  pub buffer : Kept before n after (r .count)
+pub record StatementWalks (ws : List ℕ) (way : Way) (f : Form) (at : ℕ) (before : List ℕ) (n : ℕ) (r : Stop) (after : List ℕ) : Type 0 where
+  pub buffer : FrontKept before n after (r .count)
   pub forward : r .reached ≡ false → at ≤ r .next
   pub walked : (b : Block) (later : List Form) → (f ≡ Close → ⊥) → f ∷ formsFrom ws at ≡ blockForms b (Close ∷ later) → Inside ws b
       → n + sizeIn ws way b ≤ length before → StatementWalked ws way (take n before) n b later r after
 
 -- ---- the path
 
--- what the path to a word asks: the word is one of the pairs of procedure p, whose size is within rule 9, and the buffer has room for it
-pub record Asked (ws starts : List ℕ) (procs p word : ℕ) (steps : List ℕ) : Type 0 where
+-- what the path to a pair asks: the pair is one of the pairs of procedure p, whose size is within rule 9
+pub record PathAsked (ws starts : List ℕ) (procs p pair : ℕ) : Type 0 where
   pub plan : PlanTable ws
   pub begins : Starts ws starts
   pub count : procs ≡ length (procsIn ws)
   pub present : p < procs
-  pub small : sizeOf (procsIn ws) p ≤ 1024
-  pub room : 1025 ≤ length steps
-  pub member : List·Memᴰ word (pairs (length (procsIn ws)) (procsIn ws) p)
+  pub small : sizeOf (procsIn ws) p ≤ maxSize
+  pub member : List·Memᴰ pair (pairs (length (procsIn ws)) (procsIn ws) p)
 
--- The path to the word of procedure p is found, and is the first r entries.
-pub record PathWritten (ws : List ℕ) (p word r : ℕ) (steps : List ℕ) : Type 0 where
-  pub found : PathFound (length (procsIn ws)) (procsIn ws) p word
+-- The path to the pair of procedure p is found, and is the first r entries.
+pub record PathWritten (ws : List ℕ) (p pair r : ℕ) (steps : List ℕ) : Type 0 where
+  pub found : PathFound (length (procsIn ws)) (procsIn ws) p pair
   pub written : take r steps ≡ found .path
   pub count : r ≡ length (found .path)

@@ -3,11 +3,16 @@ ghost use mathlib.Core.Path.{_≡_};
 ghost use mathlib.Core.Bool.{false};
 ghost use Prim.Native.Nat.{_+_, _^_, _<_, _≤_};
 ghost use lib.ListN.{length, getD, take};
+ghost use Rattle.limits.specs.Limits.{lockCount, maskSize, maxSize};
 ghost use Rattle.text.specs.declared.Form.the-variants.{Call, Hold, Loop, Either};
-ghost use Rattle.semantics.proofs.Paths.{stepOf, gives, holding, put as putStep};
-ghost use Rattle.paths.specs.Walks.{stopped, PutAt, Ready, Walks, Passes, Asked, PathWritten};
-ghost use Rattle.paths.specs.Wishes.{WishAt};
+ghost use Rattle.semantics.specs.Paths.{stepOf, gives, holding, put as putStep};
+ghost use Rattle.paths.specs.Walks.{stopped, PutAt, WalkReady, Walks, StatementWalks, PathAsked, PathWritten};
+ghost use Rattle.paths.specs.Wanted.{FirstWantedAt};
+use limits::LOCK_COUNT;
 use text::Form;
+
+// A form's number is a 16-bit one.
+const LOCKS: u16 = LOCK_COUNT as u16;
 
 // Where a walk stopped: at the hold that was looked for or not, the next place of the table, and how many steps are written.
 pub struct Stop {
@@ -16,18 +21,18 @@ pub struct Stop {
     pub count: usize,
 }
 
-// How a walk goes: how deep calls may go, the locks that are held, and the word that is looked for.
+// How a walk goes: how deep calls may go, the locks that are held, and the pair that is looked for.
 pub struct Way {
     pub depth: usize,
     pub mask: u64,
-    pub word: u64,
+    pub pair: u64,
 }
 
 // The mask of one lock: none for a number that no lock has.
 fn mask_of(l: u16) -> u64
-    ensures { λ r. ⌜ (r < 2 ^ 32) × (l < 32 → r ≡ 2 ^ l) ⌝ }
+    ensures { λ r. ⌜ (r < maskSize) × (l < lockCount → r ≡ 2 ^ l) ⌝ }
 {
-    if l < 32 {
+    if l < LOCKS {
         return locks::lock_bit(l as u64);
     }
     0
@@ -35,26 +40,26 @@ fn mask_of(l: u16) -> u64
 
 // The locks of a mask, and l.
 fn with_lock(mask: u64, l: u16) -> u64
-    requires { ⌜ mask < 2 ^ 32 ⌝ }
-    ensures { λ r. ⌜ (r < 2 ^ 32) × (l < 32 → r ≡ holding mask l) ⌝ }
+    requires { ⌜ mask < maskSize ⌝ }
+    ensures { λ r. ⌜ (r < maskSize) × (l < lockCount → r ≡ holding mask l) ⌝ }
 {
     mask | mask_of(l)
 }
 
-// Whether a hold of l that is begun with the locks of a mask gives the word.
-fn gives_word(mask: u64, l: u16, word: u64) -> bool
-    requires { ⌜ mask < 2 ^ 32 ⌝ }
-    ensures { λ r. ⌜ (l < 32 → r ≡ gives word mask l) ⌝ }
+// Whether a hold of l that is begun with the locks of a mask gives the pair.
+fn gives_pair(mask: u64, l: u16, pair: u64) -> bool
+    requires { ⌜ mask < maskSize ⌝ }
+    ensures { λ r. ⌜ (l < lockCount → r ≡ gives pair mask l) ⌝ }
 {
     if mask & mask_of(l) != 0 {
         return false;
     }
-    locks::word_of(mask, l as u64) == word
+    locks::pair_of(mask, l as u64) == pair
 }
 
 // One step more, with the mask after it, where the buffer has room.
 fn put(steps: &mut [u64], n: usize, choice: u64, mask: u64) -> usize
-    requires { ⌜ (n ≤ length (now steps)) × (choice < 4) × (mask < 2 ^ 32) ⌝ }
+    requires { ⌜ (n ≤ length (now steps)) × (choice < 4) × (mask < maskSize) ⌝ }
     ensures { λ r. ⌜ PutAt (now (steps .entry)) n (stepOf choice mask) r (now (steps .exit)) ⌝ }
 {
     if n < steps.len() {
@@ -96,9 +101,9 @@ fn passed(next: usize, count: usize) -> Stop
     }
 }
 
-// The walk of the block at a place, along its statements, up to the hold that gives the word, or to the block's end.
+// The walk of the block at a place, along its statements, up to the hold that gives the pair, or to the block's end.
 fn walk(table: &[u64], starts: &[u64], way: Way, at: usize, steps: &mut [u64], n: usize) -> Stop
-    requires { ⌜ Ready (now table) (now starts) way (now steps) n ⌝ }
+    requires { ⌜ WalkReady (now table) (now starts) way (now steps) n ⌝ }
     ensures { λ r. ⌜ Walks (now (table .entry)) way at (now (steps .entry)) n (take n (now (steps .entry))) n r (now (steps .exit)) ⌝ }
 {
     let mut i = at;
@@ -129,7 +134,7 @@ fn enter(
     steps: &mut [u64],
     n: usize,
 ) -> Stop
-    requires { ⌜ Ready (now table) (now starts) way (now steps) n × (choice < 4) ⌝ }
+    requires { ⌜ WalkReady (now table) (now starts) way (now steps) n × (choice < 4) ⌝ }
     ensures { λ r. ⌜ Walks (now (table .entry)) way at (now (steps .entry)) n
         (putStep (take n (now (steps .entry))) choice (way .mask)) (n + 1) r (now (steps .exit)) ⌝ }
 {
@@ -147,8 +152,8 @@ fn walk_statement(
     steps: &mut [u64],
     n: usize,
 ) -> Stop
-    requires { ⌜ Ready (now table) (now starts) way (now steps) n ⌝ }
-    ensures { λ r. ⌜ Passes (now (table .entry)) way form at (now (steps .entry)) n r (now (steps .exit)) ⌝ }
+    requires { ⌜ WalkReady (now table) (now starts) way (now steps) n ⌝ }
+    ensures { λ r. ⌜ StatementWalks (now (table .entry)) way form at (now (steps .entry)) n r (now (steps .exit)) ⌝ }
 {
     match form {
         Form::Skip => passed(at, put(steps, n, 0, way.mask)),
@@ -170,8 +175,8 @@ fn walk_call(
     steps: &mut [u64],
     n: usize,
 ) -> Stop
-    requires { ⌜ Ready (now table) (now starts) way (now steps) n ⌝ }
-    ensures { λ r. ⌜ Passes (now (table .entry)) way (Call p) at (now (steps .entry)) n r (now (steps .exit)) ⌝ }
+    requires { ⌜ WalkReady (now table) (now starts) way (now steps) n ⌝ }
+    ensures { λ r. ⌜ StatementWalks (now (table .entry)) way (Call p) at (now (steps .entry)) n r (now (steps .exit)) ⌝ }
 {
     if way.depth == 0 {
         return passed(at, put(steps, n, 0, way.mask));
@@ -179,7 +184,7 @@ fn walk_call(
     let deeper = Way {
         depth: way.depth - 1,
         mask: way.mask,
-        word: way.word,
+        pair: way.pair,
     };
     let inside = enter(table, starts, deeper, start_of(starts, p), 0, steps, n);
     Stop {
@@ -189,7 +194,7 @@ fn walk_call(
     }
 }
 
-// A hold of l, unless it gives the word.
+// A hold of l, unless it gives the pair.
 fn walk_hold(
     table: &[u64],
     starts: &[u64],
@@ -199,10 +204,10 @@ fn walk_hold(
     steps: &mut [u64],
     n: usize,
 ) -> Stop
-    requires { ⌜ Ready (now table) (now starts) way (now steps) n ⌝ }
-    ensures { λ r. ⌜ Passes (now (table .entry)) way (Hold l) at (now (steps .entry)) n r (now (steps .exit)) ⌝ }
+    requires { ⌜ WalkReady (now table) (now starts) way (now steps) n ⌝ }
+    ensures { λ r. ⌜ StatementWalks (now (table .entry)) way (Hold l) at (now (steps .entry)) n r (now (steps .exit)) ⌝ }
 {
-    if gives_word(way.mask, l, way.word) {
+    if gives_pair(way.mask, l, way.pair) {
         return Stop {
             reached: true,
             next: at,
@@ -212,7 +217,7 @@ fn walk_hold(
     let held = Way {
         depth: way.depth,
         mask: with_lock(way.mask, l),
-        word: way.word,
+        pair: way.pair,
     };
     let inside = enter(table, starts, held, at, 0, steps, n);
     if inside.reached {
@@ -231,8 +236,8 @@ fn walk_loop(
     steps: &mut [u64],
     n: usize,
 ) -> Stop
-    requires { ⌜ Ready (now table) (now starts) way (now steps) n ⌝ }
-    ensures { λ r. ⌜ Passes (now (table .entry)) way Loop at (now (steps .entry)) n r (now (steps .exit)) ⌝ }
+    requires { ⌜ WalkReady (now table) (now starts) way (now steps) n ⌝ }
+    ensures { λ r. ⌜ StatementWalks (now (table .entry)) way Loop at (now (steps .entry)) n r (now (steps .exit)) ⌝ }
 {
     let inside = enter(table, starts, way, at, 1, steps, n);
     if inside.reached {
@@ -251,8 +256,8 @@ fn walk_either(
     steps: &mut [u64],
     n: usize,
 ) -> Stop
-    requires { ⌜ Ready (now table) (now starts) way (now steps) n ⌝ }
-    ensures { λ r. ⌜ Passes (now (table .entry)) way Either at (now (steps .entry)) n r (now (steps .exit)) ⌝ }
+    requires { ⌜ WalkReady (now table) (now starts) way (now steps) n ⌝ }
+    ensures { λ r. ⌜ StatementWalks (now (table .entry)) way Either at (now (steps .entry)) n r (now (steps .exit)) ⌝ }
 {
     let one = enter(table, starts, way, after(table, at), 1, steps, n);
     if one.reached {
@@ -266,24 +271,24 @@ fn walk_either(
     }
 }
 
-// The path to the hold of procedure p that gives the word, into the start of `steps`: each step is its choice plus 4 times the mask after it. What stands
+// The path to the hold of procedure p that gives the pair, into the start of `steps`: each step is its choice plus 4 times the mask after it. What stands
 // behind the path is left open.
 pub fn path_to(
     table: &[u64],
     starts: &[u64],
     procs: usize,
     p: usize,
-    word: u64,
+    pair: u64,
     steps: &mut [u64],
 ) -> usize
-    requires { ⌜ Asked (now table) (now starts) procs p word (now steps) ⌝ }
-    ensures { λ r. ⌜ PathWritten (now (table .entry)) p word r (now (steps .exit)) ⌝ }
+    requires { ⌜ PathAsked (now table) (now starts) procs p pair × (maxSize ≤ length (now steps)) ⌝ }
+    ensures { λ r. ⌜ PathWritten (now (table .entry)) p pair r (now (steps .exit)) ⌝ }
 {
     let start = starts[p] as usize;
     let way = Way {
         depth: procs - 1,
         mask: 0,
-        word,
+        pair,
     };
     let stop = walk(table, starts, way, start, steps, 0);
     stop.count
@@ -291,7 +296,7 @@ pub fn path_to(
 
 // The lock that the block at a place begins with a hold of, as a mask: none where it begins with something else.
 pub fn first_hold(table: &[u64], start: usize) -> u64
-    ensures { λ r. ⌜ WishAt (now (table .entry)) start r ⌝ }
+    ensures { λ r. ⌜ FirstWantedAt (now (table .entry)) start r ⌝ }
 {
     if table.len() <= start {
         return 0;

@@ -10,15 +10,16 @@ use native.Mathlib.Omega.{arith}
 use native.Mathlib.Nat.{add-zero}
 use lib.ListN.{length, getD}
 use borrow.Author.Tests.{le-ltb, lt-leb}
+use Rattle.limits.specs.Limits.{maxProcs, maxStatements, maxThreads, maxBrackets}
 use Rattle.laws.specs.Choice.{pick}
 use Rattle.text.specs.declared.Form.{Form}
 use Rattle.text.specs.declared.Form.the-variants.{Plan, Proc, Thread, Close, Skip, Call, Hold, Loop, Either, One, Two}
 use Rattle.semantics.specs.Plan.{Block, done, skip, call, hold, loop, either, end, LockPlan, bodyIn, Written}
-use Rattle.semantics.proofs.Remainders.{written-weaken}
-use Rattle.text.specs.Forms.{numberIn}
+use Rattle.semantics.proofs.Thread.Remainders.{written-weaken}
+use Rattle.text.specs.Forms.{numberIn, kindIn}
 use Rattle.plan.specs.declared.Counts.{Counts}
 use Rattle.plan.specs.Grammar.{blockForms, procForms, threadForms, forms, Grammatical, planIn}
-use Rattle.plan.specs.Limits.{counts, counted, overLimit, testedBy, leastBad, breaks, breaking, breakingLine, noCounts}
+use Rattle.plan.specs.Limits.{asCounts, counted, overLimit, testedBy, leastBad, breaks, breaking, breakingLine, noCounts}
 use Rattle.plan.specs.Rules.{formsRefusal}
 use Rattle.plan.proofs.Trees.{plan-of-forms}
 use Rattle.plan.proofs.Accepts.{forms-accepted}
@@ -27,24 +28,24 @@ use Rattle.plan.proofs.Kept.{Keeps, Kept, kept}
 use Rattle.plan.specs.Settled.{statements, allStatements, nesting, Settled}
 use Rattle.plan.proofs.Sound.{recount, forms-settled}
 
-within : (n s t o : ℕ) → n ≤ 64 → s ≤ 1024 → t ≤ 6 → o ≤ 16 → overLimit (counts n s t o) ≡ false
+within : (n s t o : ℕ) → n ≤ maxProcs → s ≤ maxStatements → t ≤ maxThreads → o ≤ maxBrackets → overLimit (asCounts n s t o) ≡ false
 unfolding overLimit pick
-within n s t o a b c d = rw (le-ltb 64 n a, le-ltb 1024 s b, le-ltb 6 t c, le-ltb 16 o d)
+within n s t o a b c d = rw (le-ltb maxProcs n a, le-ltb maxStatements s b, le-ltb maxThreads t c, le-ltb maxBrackets o d)
 
-module _ (n t : ℕ) (few-procs : n ≤ 64) (few-threads : t ≤ 6) where
-  keeps : (f : Form) (s o : ℕ) → s ≤ 1024 → o ≤ 16 → breaks 6 (counts n s t o) f ≡ false → breaks 7 (counts n s t o) f ≡ false → breaks 8 (counts n s t o) f ≡ false
-      → Keeps (counts n s t o) f
+module _ (n t : ℕ) (few-procs : n ≤ maxProcs) (few-threads : t ≤ maxThreads) where
+  keeps : (f : Form) (s o : ℕ) → s ≤ maxStatements → o ≤ maxBrackets → breaks 6 (asCounts n s t o) f ≡ false → breaks 7 (asCounts n s t o) f ≡ false → breaks 8 (asCounts n s t o) f ≡ false
+      → Keeps (asCounts n s t o) f
   keeps f s o a b lock callee thread = record { limits = within n s t o few-procs a few-threads b; lock = lock; callee = callee; thread = thread }
 
   -- the forms of a block that keeps the rules, where what follows keeps them
   abbrev Passes : Block → Type 0
-  Passes b = (s o : ℕ) (fs : List Form) → s + statements b ≤ 1024 → o + nesting b ≤ 16 → Kept (counts n (s + statements b) t o) fs
-      → Kept (counts n s t o) (blockForms b fs)
+  Passes b = (s o : ℕ) (fs : List Form) → s + statements b ≤ maxStatements → o + nesting b ≤ maxBrackets → Kept (asCounts n (s + statements b) t o) fs
+      → Kept (asCounts n s t o) (blockForms b fs)
 
   -- behind the form of a loop or a hold
-  bracket-kept : (b r : Block) → Passes b → Passes r → (s o : ℕ) (fs : List Form) → s + statements (loop b r) ≤ 1024 → o + nesting (loop b r) ≤ 16
-      → Kept (counts n (s + statements (loop b r)) t o) fs → Kept (counts n (s + 1) t (o + 1)) (blockForms b (Close ∷ blockForms r fs))
-  unfolding Kept statements nesting counted breaks testedBy leastBad numberIn pick
+  bracket-kept : (b r : Block) → Passes b → Passes r → (s o : ℕ) (fs : List Form) → s + statements (loop b r) ≤ maxStatements → o + nesting (loop b r) ≤ maxBrackets
+      → Kept (asCounts n (s + statements (loop b r)) t o) fs → Kept (asCounts n (s + 1) t (o + 1)) (blockForms b (Close ∷ blockForms r fs))
+  unfolding Kept statements nesting counted breaks testedBy leastBad numberIn pick kindIn
   bracket-kept b r pass-b pass-r s o fs h d k =
       let s₁ = s + 1 + statements b in
       let gs = blockForms r fs in
@@ -54,7 +55,7 @@ module _ (n t : ℕ) (few-procs : n ≤ 64) (few-threads : t ≤ 6) where
       (keeps Close s₁ (o + 1 - 1) (omega arith) (omega arith) refl refl refl, recount n t s₁ s₁ o (o + 1 - 1) gs refl (omega arith) r′)
 
   block-kept : (b : Block) → Written (λ q. q + 1 < n) b → Passes b
-  unfolding Kept blockForms Written statements nesting counted breaks testedBy leastBad numberIn pick
+  unfolding Kept blockForms Written statements nesting counted breaks testedBy leastBad numberIn pick kindIn
   block-kept done w s o fs h d k = recount n t (s + 0) s o o fs (omega arith) refl k
   block-kept (skip r) w s o fs h d k = (
     keeps Skip (s + 1) o (omega arith) (omega arith) refl refl refl,
@@ -99,13 +100,13 @@ module _ (n t : ℕ) (few-procs : n ≤ 64) (few-threads : t ≤ 6) where
       )
   block-kept (end l r) w s o fs h d k = absurd w
 
-procs-kept : (bs : List Block) (n s : ℕ) (fs : List Form) → n + length bs ≤ 64 → s + allStatements bs ≤ 1024
-    → ((p : ℕ) → Written (λ q. q < n + p) (bodyIn bs p)) → ((p : ℕ) → nesting (bodyIn bs p) ≤ 16)
-    → Kept (counts (n + length bs) (s + allStatements bs) 0 0) fs → Kept (counts n s 0 0) (procForms bs fs)
-unfolding Kept procForms bodyIn allStatements counted breaks testedBy leastBad numberIn pick
+procs-kept : (bs : List Block) (n s : ℕ) (fs : List Form) → n + length bs ≤ maxProcs → s + allStatements bs ≤ maxStatements
+    → ((p : ℕ) → Written (λ q. q < n + p) (bodyIn bs p)) → ((p : ℕ) → nesting (bodyIn bs p) ≤ maxBrackets)
+    → Kept (asCounts (n + length bs) (s + allStatements bs) 0 0) fs → Kept (asCounts n s 0 0) (procForms bs fs)
+unfolding Kept procForms bodyIn allStatements counted breaks testedBy leastBad numberIn pick kindIn
 procs-kept [] n s fs h i w d k = rw (add-zero n, add-zero s) at k
 procs-kept (b ∷ bs) n s fs h i w d k =
-    let few : n + 1 ≤ 64 = omega arith in
+    let few : n + 1 ≤ maxProcs = omega arith in
     let procs : n + suc (length bs) ≡ n + 1 + length bs = omega arith in
     let all : s + (statements b + allStatements bs) ≡ s + statements b + allStatements bs = omega arith in
     let later : (p : ℕ) → Written (λ q. q < n + 1 + p) (bodyIn bs p) =
@@ -117,9 +118,9 @@ procs-kept (b ∷ bs) n s fs h i w d k =
           (keeps (n + 1) 0 few (omega arith) Close (s + statements b) 0 (omega arith) (omega arith) refl refl refl, rest),
     )
 
-threads-kept : (ns : List ℕ) (n s t : ℕ) → n ≤ 64 → s ≤ 1024 → t + length ns ≤ 6 → ((i : ℕ) → i < length ns → getD ns i 0 < n)
-    → Kept (counts n s t 0) (threadForms ns (Close ∷ []))
-unfolding Kept threadForms counted breaks testedBy leastBad numberIn pick
+threads-kept : (ns : List ℕ) (n s t : ℕ) → n ≤ maxProcs → s ≤ maxStatements → t + length ns ≤ maxThreads → ((i : ℕ) → i < length ns → getD ns i 0 < n)
+    → Kept (asCounts n s t 0) (threadForms ns (Close ∷ []))
+unfolding Kept threadForms counted breaks testedBy leastBad numberIn pick kindIn
 threads-kept [] n s t a b c h = (keeps n t a (omega arith) Close s 0 b (omega arith) refl refl refl, tt)
 threads-kept (m ∷ ns) n s t a b c h = (
   keeps n (t + 1) a (omega arith) (Thread m) s 0 b (omega arith) refl refl (lt-leb n m (h 0 (omega arith))),
@@ -127,12 +128,12 @@ threads-kept (m ∷ ns) n s t a b c h = (
 )
 
 pub settled-kept : (plan : LockPlan) → Settled plan → Kept noCounts (forms plan)
-unfolding Kept forms counted breaks testedBy leastBad numberIn pick
+unfolding Kept forms counted breaks testedBy leastBad numberIn pick kindIn
 settled-kept plan x =
     let n = length (plan .procs) in
     let s = allStatements (plan .procs) in
-    let few : 0 + n ≤ 64 = omega (arith, x .few-procs) in
-    let small : 0 + s ≤ 1024 = omega (arith, x .few-statements) in
+    let few : 0 + n ≤ maxProcs = omega (arith, x .few-procs) in
+    let small : 0 + s ≤ maxStatements = omega (arith, x .few-statements) in
     let threads =
     threads-kept (plan .threads) (0 + n) (0 + s) 0 few small (omega (arith, x .few-threads)) (λ i h. omega (arith, x .threads-present i h)) in
     let written : (p : ℕ) → Written (λ q. q < 0 + p) (bodyIn (plan .procs) p) =

@@ -29,7 +29,7 @@ record Follows (f : Form) (K : List Form → Type 0) (fs : List Form) : Type 0 w
   goes-on : K later
 
 -- a block, its closing line, and then what K says
-record Within (empty : Bool) (K : List Form → Type 0) (fs : List Form) : Type 0 where
+record BlockThen (empty : Bool) (K : List Form → Type 0) (fs : List Form) : Type 0 where
   block : Block
   well : WellFormed empty block
   later : List Form
@@ -48,9 +48,9 @@ record Procs (least : ℕ) (fs : List Form) : Type 0 where
 -- what follows the closing line of the innermost block
 unfoldable AfterBlock : List Bracket → List Form → Type 0
 AfterBlock [] = Procs 0
-AfterBlock (statement ∷ ks) = Within true (AfterBlock ks)
-AfterBlock (one ∷ ks) = Follows Two (Within false (Follows Close (Within true (AfterBlock ks))))
-AfterBlock (two ∷ ks) = Follows Close (Within true (AfterBlock ks))
+AfterBlock (statement ∷ ks) = BlockThen true (AfterBlock ks)
+AfterBlock (one ∷ ks) = Follows Two (BlockThen false (Follows Close (BlockThen true (AfterBlock ks))))
+AfterBlock (two ∷ ks) = Follows Close (BlockThen true (AfterBlock ks))
 
 -- what a plan's text has from a state on
 unfoldable Rest : State → List Form → Type 0
@@ -59,8 +59,8 @@ Rest first-proc = Procs 1
 Rest next-proc = Procs 0
 Rest next-thread = λ fs. (ns : List ℕ) × (fs ≡ threadForms ns (Close ∷ []))
 Rest finished = λ fs. fs ≡ []
-Rest (in-block empty ks) = Within empty (AfterBlock ks)
-Rest (needs-one ks) = Follows One (Within false (AfterBlock (one ∷ ks)))
+Rest (in-block empty ks) = BlockThen empty (AfterBlock ks)
+Rest (needs-one ks) = Follows One (BlockThen false (AfterBlock (one ∷ ks)))
 Rest (needs-two ks) = AfterBlock (one ∷ ks)
 Rest (ends-either ks) = AfterBlock (two ∷ ks)
 
@@ -68,20 +68,20 @@ module _ (K : List Form → Type 0) (fs : List Form) where
   follows : (f : Form) → K fs → Follows f K (f ∷ fs)
   follows f k = record { later = fs; split = refl; goes-on = k }
 
-  closes : K fs → Within true K (Close ∷ fs)
+  closes : K fs → BlockThen true K (Close ∷ fs)
   unfolding blockForms WellFormed
   closes k = record { block = done; well = tt; later = fs; split = refl; goes-on = k }
 
   module _ (empty : Bool) where
-    skip-front : Within true K fs → Within empty K (Skip ∷ fs)
+    skip-front : BlockThen true K fs → BlockThen empty K (Skip ∷ fs)
     unfolding blockForms WellFormed
     skip-front w = record { block = skip (w .block); well = w .well; later = w .later; split = ap (λ l. Skip ∷ l) (w .split); goes-on = w .goes-on }
 
-    call-front : (n : ℕ) → Within true K fs → Within empty K (Call n ∷ fs)
+    call-front : (n : ℕ) → BlockThen true K fs → BlockThen empty K (Call n ∷ fs)
     unfolding blockForms WellFormed
     call-front n w = record { block = call n (w .block); well = w .well; later = w .later; split = ap (λ l. Call n ∷ l) (w .split); goes-on = w .goes-on }
 
-    hold-front : (l : ℕ) → Within false (Within true K) fs → Within empty K (Hold l ∷ fs)
+    hold-front : (l : ℕ) → BlockThen false (BlockThen true K) fs → BlockThen empty K (Hold l ∷ fs)
     unfolding blockForms WellFormed
     hold-front l w =
         let r = w .goes-on in
@@ -93,7 +93,7 @@ module _ (K : List Form → Type 0) (fs : List Form) where
           goes-on = r .goes-on;
         }
 
-    loop-front : Within false (Within true K) fs → Within empty K (Loop ∷ fs)
+    loop-front : BlockThen false (BlockThen true K) fs → BlockThen empty K (Loop ∷ fs)
     unfolding blockForms WellFormed
     loop-front w =
         let r = w .goes-on in
@@ -105,7 +105,7 @@ module _ (K : List Form → Type 0) (fs : List Form) where
           goes-on = r .goes-on;
         }
 
-    either-front : Follows One (Within false (Follows Two (Within false (Follows Close (Within true K))))) fs → Within empty K (Either ∷ fs)
+    either-front : Follows One (BlockThen false (Follows Two (BlockThen false (Follows Close (BlockThen true K))))) fs → BlockThen empty K (Either ∷ fs)
     unfolding blockForms WellFormed
     either-front w =
         let a = w .goes-on in
@@ -120,7 +120,7 @@ module _ (K : List Form → Type 0) (fs : List Form) where
           goes-on = r .goes-on;
         }
 
-proc-front : (least : ℕ) → least ≤ 1 → (fs : List Form) → Within false (Procs 0) fs → Procs least (Proc ∷ fs)
+proc-front : (least : ℕ) → least ≤ 1 → (fs : List Form) → BlockThen false (Procs 0) fs → Procs least (Proc ∷ fs)
 unfolding procForms bodyIn
 proc-front least h fs w =
     let k = w .goes-on in
@@ -158,13 +158,13 @@ rest-step (calls {e} {ks} {n}) fs r = call-front (AfterBlock ks) fs e n r
 rest-step (holds {e} {ks} {l}) fs r = hold-front (AfterBlock ks) fs e l r
 rest-step (loops {e} {ks}) fs r = loop-front (AfterBlock ks) fs e r
 rest-step (chooses {e} {ks}) fs r = either-front (AfterBlock ks) fs e r
-rest-step (begins-one {ks}) fs r = follows (Within false (AfterBlock (one ∷ ks))) fs One r
-rest-step (begins-two {ks}) fs r = follows (Within false (AfterBlock (two ∷ ks))) fs Two r
+rest-step (begins-one {ks}) fs r = follows (BlockThen false (AfterBlock (one ∷ ks))) fs One r
+rest-step (begins-two {ks}) fs r = follows (BlockThen false (AfterBlock (two ∷ ks))) fs Two r
 rest-step ends-proc fs r = closes (Procs 0) fs r
 rest-step (ends-statement {ks}) fs r = closes (AfterBlock (statement ∷ ks)) fs r
 rest-step (ends-one {ks}) fs r = closes (AfterBlock (one ∷ ks)) fs r
 rest-step (ends-two {ks}) fs r = closes (AfterBlock (two ∷ ks)) fs r
-rest-step (ends-choice {ks}) fs r = follows (Within true (AfterBlock ks)) fs Close r
+rest-step (ends-choice {ks}) fs r = follows (BlockThen true (AfterBlock ks)) fs Close r
 
 -- the text ends
 at-end : (s : State) (line : ℕ) → misplacedFrom s line [] ≡ none → Rest s []

@@ -12,18 +12,18 @@ use Rattle.laws.specs.Ascending.{insertOnce, ascending}
 use Rattle.laws.specs.Choice.{pick}
 use Rattle.laws.specs.Mask.{bit}
 use Rattle.laws.proofs.Tests.{T-and}
-use Rattle.text.specs.Forms.{numberIn}
-use Rattle.text.specs.Kinds.{kindOf, planKind, twoKind, threadKind, callKind, holdKind, numbered, wordKind}
-use Rattle.text.specs.Kinds.{betweenWord, afterWord, numberOf, appendDigit, leadingOf, digitOf}
+use Rattle.text.specs.Forms.{numberIn, kindIn}
+use Rattle.text.specs.Kinds.{kindOf, planKind, twoKind, threadKind, callKind, holdKind, numbered, keywordKind}
+use Rattle.text.specs.Kinds.{betweenKeyword, afterKeyword, numberOf, appendDigit, leadingOf, digitOf}
 use Rattle.text.specs.Lines.{split, formsIn, formsOf, unreadable, unreadableLine}
 use Rattle.semantics.specs.Plan.{bodyIn, _⨾_}
 use Rattle.semantics.specs.Sizes.{sizeWith, sizeAt, sizeOf, sizes, threadSizes}
 use Rattle.semantics.specs.Run.{up, down, move, compatible, withAll, apart, threadAt, stepIn, step, run, start}
 use Rattle.semantics.specs.Pairs.{heldFrom, pairsWith, pairsAt, pairList}
 use Rattle.semantics.specs.Cases.{setOf}
-use Rattle.semantics.proofs.ConflictSearch.{any, unmet, searchFrom}
-use Rattle.semantics.proofs.LargestStuck.{atHold, round, rounds}
-use Rattle.semantics.proofs.CaseTest.{written, soundFrom, all, sameList, wordsFrom, sameBelow, stuckAre, answers, passes, passes-facts}
+use Rattle.semantics.specs.Conflict.{any, unmet, searchFrom}
+use Rattle.semantics.proofs.Stuck.LargestStuck.{atHold, round, rounds}
+use Rattle.semantics.proofs.Analysis.CaseTest.{written, soundFrom, all, pairsFrom, sameBelow, stuckAre, answers, passes, passes-facts}
 use Rattle.plan.specs.Grammar.{inFront, behind, planIn}
 use Rattle.plan.specs.Structure.{among, only, closeBlock, onClose, advanceOf, misplaced, misplacedLine}
 use Rattle.plan.specs.Limits.{counted, overLimit, testedBy, leastBad, breaks, breaking, breakingLine}
@@ -46,7 +46,7 @@ notRefused (some q) = false
 
 unfoldable comesOut : List ℕ → Outcome → Bool
 comesOut text (refusedBy r l) = refusedWith (planRefusal text) r l
-comesOut text (accepted words a) = notRefused (planRefusal text) && passes (planOf text) words a
+comesOut text (accepted pairs a) = notRefused (planRefusal text) && passes (planOf text) pairs a
 
 unfoldable right : List Example → Bool
 right [] = true
@@ -54,12 +54,12 @@ right (e ∷ es) = comesOut (e .text) (e .outcome) && right es
 
 examples-right : T (right (reference ++ limits))
 unfolding right comesOut reference limits rule3 rule4 rule5 rule678 rule9 copies loops eithers kindOf planKind twoKind threadKind callKind
-    holdKind numbered wordKind betweenWord afterWord numberOf appendDigit leadingOf digitOf split formsIn formsOf unreadable unreadableLine
+    holdKind numbered keywordKind betweenKeyword afterKeyword numberOf appendDigit leadingOf digitOf split formsIn formsOf unreadable unreadableLine
     pick orElse bind equal inFront behind planIn among only closeBlock onClose advanceOf misplaced misplacedLine counted overLimit testedBy leastBad
-    numberIn breaks breaking breakingLine tooLong formsRefusal readerRefusal planOf procLineFrom lowestFrom procRefusal tooLarge
+    numberIn kindIn breaks breaking breakingLine tooLong formsRefusal readerRefusal planOf procLineFrom lowestFrom procRefusal tooLarge
     tooManyPairs planRefusal bodyIn _⨾_ sizeWith sizeAt sizeOf sizes threadSizes heldFrom pairsWith pairsAt pairList up down insertOnce
     ascending move compatible withAll apart threadAt stepIn step run start bit any unmet searchFrom atHold round rounds written
-    soundFrom all sameList wordsFrom sameBelow setOf stuckAre answers passes
+    soundFrom all pairsFrom sameBelow setOf stuckAre answers passes
 examples-right = tt
 
 -- ---- what it implies
@@ -75,9 +75,9 @@ not-refused none h = refl
 comes-out : (text : List ℕ) (o : Outcome) → T (comesOut text o) → Gives text o
 unfolding comesOut
 comes-out text (refusedBy r l) h = refused-with (planRefusal text) r l h
-comes-out text (accepted words a) h =
-    let (x, y) = T-and (notRefused (planRefusal text)) (passes (planOf text) words a) h in
-    record { kept = not-refused (planRefusal text) x; facts = passes-facts (planOf text) words a y }
+comes-out text (accepted pairs a) h =
+    let (x, y) = T-and (notRefused (planRefusal text)) (passes (planOf text) pairs a) h in
+    record { kept = not-refused (planRefusal text) x; facts = passes-facts (planOf text) pairs a y }
 
 all-come-out : (es : List Example) → T (right es) → (e : Example) → List·Memᴰ e es → Gives (e .text) (e .outcome)
 unfolding right
@@ -97,6 +97,6 @@ reference-facts e m = examples-facts e (Memᴰ·append-left limits m)
 
 -- "procedure 8 has size 766", procedure 9 "size 1,534"
 pub doubling-sizes : (sizeOf (planOf to8 .procs) 8 ≡ 766) × (sizeOf (planOf to9 .procs) 9 ≡ 1534)
-unfolding kindOf planKind twoKind threadKind callKind holdKind numbered wordKind betweenWord afterWord numberOf appendDigit leadingOf digitOf
+unfolding kindOf planKind twoKind threadKind callKind holdKind numbered keywordKind betweenKeyword afterKeyword numberOf appendDigit leadingOf digitOf
     split formsIn formsOf pick equal inFront behind planIn planOf bodyIn sizeWith sizeAt sizeOf
 doubling-sizes = (refl, refl)

@@ -1,14 +1,15 @@
--- The table while it is filled: its first n words are the forms of the lines read so far, and with the forms of the lines that are left they are the text's.
+-- The table while it is filled: its first n codes are the forms of the lines read so far, and with the forms of the lines that are left they are the text's.
 use Prim.Native.Nat.{ℕ, _+_, _-_, _*_, _<_, _≤_}
 use native.Mathlib.Numerals.{add-one}
 use native.Mathlib.Omega.{arith}
 use mathlib.Core.Path.{_≡_, refl, sym, ap, _∙_}
-use mathlib.Core.List.{List, [], _∷_, _++_, map, append-nil}
+use mathlib.Core.List.{List, [], _∷_, _++_, map-append, append-nil}
 use mathlib.Core.Option.{Option, none, some, Option·none-ne-some, orElse}
 use Rattle.laws.proofs.Tests.{first-none}
 use borrow.Author.Tests.{lt-ltb, le-ltb}
 use lib.ListN.{length, take, set, length-map, length-take}
 use lib.Seq.{length-take-le, take-suc-set, append-snoc}
+use Rattle.limits.specs.Limits.{maxBytes, maxForms}
 use Rattle.text.specs.declared.Form.{Form}
 use Rattle.text.specs.declared.Refusal.{Refusal}
 use Rattle.text.specs.declared.Line.{Line}
@@ -23,7 +24,7 @@ use Rattle.plan.specs.declared.Reading.the-variants.{Accepted, Refused}
 use Rattle.plan.specs.Table.{codeOf, formAt, tableForms, withLine}
 use Rattle.plan.specs.Rules.{refusedAt, tooLong, formsRefusal, readerRefusal, readingOf, Tabled}
 use Rattle.plan.proofs.Codes.{form-of-code}
-use Rattle.plan.proofs.Laws.{first-refuses}
+use Rattle.plan.proofs.Passes.{first-refuses}
 
 -- lines up to the place `at` are in the table, n of them, of two bytes at least
 pub record Filling (text table : List ℕ) (at n : ℕ) : Type 0 where
@@ -43,13 +44,9 @@ read-again q a r g e = sym g ∙ e
 pub line-put : (f : Form) (w n : ℕ) (table : List ℕ) → w ≡ codeOf f → set table n w ≡ set table n (codeOf f)
 line-put f w n table k = ap (set table n) k
 
-map-append : (f : ℕ → Form) (xs ys : List ℕ) → map f (xs ++ ys) ≡ map f xs ++ map f ys
-map-append f [] ys = refl
-map-append f (x ∷ xs) ys = ap (λ l. f x ∷ l) (map-append f xs ys)
-
 module _ (text table : List ℕ) (at n : ℕ) (q : Line) (s : Filling text table at n) (e : q ≡ lineAt text at (n + 1)) where
   pub filling-more : (f : Form) (next : ℕ) (table₀ table₁ : List ℕ) → q ≡ Read f next → table₁ ≡ withLine q n table
-      → length text ≤ 32768 → 16384 ≤ length table₀ → length table ≡ length table₀
+      → length text ≤ maxBytes → maxForms ≤ length table₀ → length table ≡ length table₀
       → at < length text → Filling text table₁ next (n + 1)
   filling-more f next table₀ table₁ g k a b c h =
       let room : n < length table = omega arith in
@@ -74,8 +71,8 @@ module _ (text table : List ℕ) (at n : ℕ) (q : Line) (s : Filling text table
         forms = λ none-refused. absurd (Option·none-ne-some _ (sym (rw (← u) at none-refused)));
       }
 
-pub filling-done : (text table table₀ : List ℕ) (at n : ℕ) → Filling text table at n → length text ≤ at → length text ≤ 32768
-    → 16384 ≤ length table₀ → length table ≡ length table₀
+pub filling-done : (text table table₀ : List ℕ) (at n : ℕ) → Filling text table at n → length text ≤ at → length text ≤ maxBytes
+    → maxForms ≤ length table₀ → length table ≡ length table₀
     → Tabled (refusedAt 3 (unreadableLine text)) text (Accepted n) table
 unfolding readingOf
 filling-done text table table₀ at n s h a b c =
@@ -96,18 +93,24 @@ unfolding readingOf
 accepted-count none m n e = cc
 accepted-count (some r) m n e = let z : _≡_ {A = ℕ} 0 1 = cc in absurd (omega arith)
 
+-- an answer that refuses
+pub refused-is : (a : Option Refusal) (m : ℕ) (x : Refusal) → readingOf a m ≡ Refused x → a ≡ some x
+unfolding readingOf
+refused-is none m x e = let z : _≡_ {A = ℕ} 0 1 = cc in absurd (omega arith)
+refused-is (some w) m x e = let k : w ≡ x = cc in ap {B = Option Refusal} some k
+
 -- ---- the rules 2, 3, and then those over the table
 
-pub plan-long : (text table : List ℕ) → 32768 < length text → Tabled (readerRefusal text) text (Refused (refusal 2 0)) table
+pub plan-long : (text table : List ℕ) → maxBytes < length text → Tabled (readerRefusal text) text (Refused (refusal 2 0)) table
 unfolding readerRefusal tooLong orElse readingOf
-plan-long text table h = rw (lt-ltb 32768 (length text) h) (record { answer = refl; forms = λ e. absurd (Option·none-ne-some _ (sym e)) })
+plan-long text table h = rw (lt-ltb maxBytes (length text) h) (record { answer = refl; forms = λ e. absurd (Option·none-ne-some _ (sym e)) })
 
 -- of a text that is not too long the first rule is 3
-from-rule-3 : (text : List ℕ) → length text ≤ 32768 → readerRefusal text ≡ orElse (refusedAt 3 (unreadableLine text)) (formsRefusal (formsOf text))
+from-rule-3 : (text : List ℕ) → length text ≤ maxBytes → readerRefusal text ≡ orElse (refusedAt 3 (unreadableLine text)) (formsRefusal (formsOf text))
 unfolding readerRefusal tooLong orElse
-from-rule-3 text h = rw (le-ltb 32768 (length text) h)
+from-rule-3 text h = rw (le-ltb maxBytes (length text) h)
 
-module _ (text table : List ℕ) (q : Reading) (t : Tabled (refusedAt 3 (unreadableLine text)) text q table) (h : length text ≤ 32768) where
+module _ (text table : List ℕ) (q : Reading) (t : Tabled (refusedAt 3 (unreadableLine text)) text q table) (h : length text ≤ maxBytes) where
   pub plan-unreadable : (x : Refusal) → q ≡ Refused x → Tabled (readerRefusal text) text q table
   plan-unreadable x g = record {
     answer = rw (from-rule-3 text h) (first-refuses (refusedAt 3 (unreadableLine text)) (formsRefusal (formsOf text)) q (length (formsOf text)) x (t .answer) g);
@@ -115,26 +118,26 @@ module _ (text table : List ℕ) (q : Reading) (t : Tabled (refusedAt 3 (unreada
   }
 
   module _ (n : ℕ) (g : q ≡ Accepted n) where
-    pub plan-count : n ≡ length (formsOf text)
-    plan-count = accepted-count (refusedAt 3 (unreadableLine text)) (length (formsOf text)) n (sym (t .answer) ∙ g)
+    pub filled-count : n ≡ length (formsOf text)
+    filled-count = accepted-count (refusedAt 3 (unreadableLine text)) (length (formsOf text)) n (sym (t .answer) ∙ g)
 
-    pub plan-room : (table₀ : List ℕ) → 16384 ≤ length table₀ → length table ≡ length table₀ → n ≤ length table
-    plan-room table₀ a b = omega (arith, plan-count, few-forms text)
+    pub filled-room : (table₀ : List ℕ) → maxForms ≤ length table₀ → length table ≡ length table₀ → n ≤ length table
+    filled-room table₀ a b = omega (arith, filled-count, few-forms text)
 
-    part-length : length (take (n - 0) table) ≤ 16384
-    part-length = rw (length-take) (omega (arith, plan-count, few-forms text))
+    part-length : length (take (n - 0) table) ≤ maxForms
+    part-length = rw (length-take) (omega (arith, filled-count, few-forms text))
 
     pub part-small : length (take (n - 0) table) < 65536
     part-small = omega (arith, part-length)
 
-    pub part-fits : (stack : List ℕ) → 16384 ≤ length stack → length (take (n - 0) table) ≤ length stack
+    pub part-fits : (stack : List ℕ) → maxForms ≤ length stack → length (take (n - 0) table) ≤ length stack
     part-fits stack a = omega (arith, part-length)
 
     pub plan-readable : (r : Reading) → r ≡ readingOf (formsRefusal (tableForms (take (n - 0) table))) (length (take (n - 0) table))
         → Tabled (readerRefusal text) text r table
     unfolding orElse
     plan-readable r e =
-        let z : n - 0 ≡ length (formsOf text) = omega (arith, plan-count) in
+        let z : n - 0 ≡ length (formsOf text) = omega (arith, filled-count) in
         let none-refused : refusedAt 3 (unreadableLine text) ≡ none =
         accepted-none (refusedAt 3 (unreadableLine text)) (length (formsOf text)) n (sym (t .answer) ∙ g) in
         let fs : tableForms (take (n - 0) table) ≡ formsOf text = rw z (t .forms none-refused) in

@@ -8,6 +8,7 @@ use native.Mathlib.Omega.{arith}
 use lib.Dec.{ltb}
 use Rattle.laws.proofs.Tests.{first-none}
 use borrow.Author.Tests.{ltb-false}
+use Rattle.limits.specs.Limits.{maxProcs, maxStatements, maxThreads, maxBrackets}
 use Rattle.laws.specs.Choice.{pick}
 use Rattle.text.specs.declared.Form.{Form}
 use Rattle.plan.specs.declared.Counts.{Counts}
@@ -15,7 +16,7 @@ use Rattle.plan.specs.Limits.{counted, overLimit, breaks, breaking, brea
 use Rattle.plan.specs.Structure.{misplacedLine}
 use Rattle.text.specs.declared.Refusal.{Refusal}
 use Rattle.text.specs.Lines.{refusal}
-use Rattle.plan.specs.Rules.{refusedAt, formsRefusal}
+use Rattle.plan.specs.Rules.{refusedAt, refusedIf, formsRefusal}
 
 -- no rule is broken by a form, where c counts what has been read, the form too
 pub record Keeps (c : Counts) (f : Form) : Type 0 where
@@ -45,9 +46,14 @@ kept-from (f ∷ fs) c line five six seven eight =
     let u = unnamed (breaks 8 d f) line (breaking 8 d (suc line) fs) eight in
     (record { limits = x .0; lock = y .0; callee = z .0; thread = u .0 }, kept-from fs d (suc line) (x .1) (y .1) (z .1) (u .1))
 
-no-line : (rule : ℕ) (o : Option ℕ) → refusedAt rule o ≡ none → o ≡ none
+-- a rule that refuses nothing names no line
+pub no-line : (rule : ℕ) (o : Option ℕ) → refusedAt rule o ≡ none → o ≡ none
 no-line rule none h = refl
 no-line rule (some line) h = absurd (Option·some-ne-none (refusal rule line) h)
+
+pub unflagged : (rule : ℕ) (b : Bool) → refusedIf rule b ≡ none → b ≡ false
+unflagged rule true h = absurd (Option·some-ne-none (refusal rule 0) h)
+unflagged rule false h = refl
 
 -- what rules 4 to 8 say of forms that none of them refuses
 pub kept : (fs : List Form) → formsRefusal fs ≡ none → (misplacedLine fs ≡ none) × Kept noCounts fs
@@ -66,10 +72,10 @@ kept fs h =
 
 -- 5: "64 procedures, 1,024 statements, 6 threads, or 16 brackets"
 pub record WithinLimits (c : Counts) : Type 0 where
-  pub procs : c .procs ≤ 64
-  pub statements : c .statements ≤ 1024
-  pub threads : c .threads ≤ 6
-  pub depth : c .depth ≤ 16
+  pub procs : c .procs ≤ maxProcs
+  pub statements : c .statements ≤ maxStatements
+  pub threads : c .threads ≤ maxThreads
+  pub depth : c .depth ≤ maxBrackets
 
 neither : (a b : Bool) → pick a true b ≡ false → (a ≡ false) × (b ≡ false)
 unfolding pick
@@ -79,7 +85,7 @@ neither false b h = (refl, h)
 pub within-limits : (c : Counts) → overLimit c ≡ false → WithinLimits c
 unfolding overLimit
 within-limits c h =
-    let x = neither (ltb 64 (c .procs)) _ h in
-    let y = neither (ltb 1024 (c .statements)) _ (x .1) in
-    let z = neither (ltb 6 (c .threads)) (ltb 16 (c .depth)) (y .1) in
-    record { procs = ltb-false 64 _ (x .0); statements = ltb-false 1024 _ (y .0); threads = ltb-false 6 _ (z .0); depth = ltb-false 16 _ (z .1) }
+    let x = neither (ltb maxProcs (c .procs)) _ h in
+    let y = neither (ltb maxStatements (c .statements)) _ (x .1) in
+    let z = neither (ltb maxThreads (c .threads)) (ltb maxBrackets (c .depth)) (y .1) in
+    record { procs = ltb-false maxProcs _ (x .0); statements = ltb-false maxStatements _ (y .0); threads = ltb-false maxThreads _ (z .0); depth = ltb-false maxBrackets _ (z .1) }

@@ -5,14 +5,16 @@ pub mod States
 pub mod Accepts
 pub mod Denotes
 pub mod FirstMisplaced
--- Rules 5 to 8.
+-- Rules 5 to 8, and a rule of procedures.
 pub mod Kept
 pub mod Sound
 pub mod Allowed
--- A form as a word of a table, and the table while it is filled.
+pub mod Lowest
+-- A form as a code in a table, and the table while it is filled.
 pub mod Codes
 pub mod Filling
+pub mod AcceptedTable
 -- The laws that the proofs of the functions cite.
-pub mod Laws
+pub mod Passes
 -- The reference cases.
 pub mod Examples

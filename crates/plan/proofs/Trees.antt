@@ -8,7 +8,7 @@ use lib.ListN.{length}
 use Rattle.text.specs.declared.Form.{Form}
 use Rattle.text.specs.declared.Form.the-variants.{Proc, Thread, Close, Skip, Call, Hold, Loop, Either, Two}
 use Rattle.semantics.specs.Plan.{Block, done, skip, call, hold, loop, either, end, _⨾_, LockPlan, bodyIn, WellFormed}
-use Rattle.semantics.proofs.Remainders.{⨾-done}
+use Rattle.semantics.proofs.Thread.Remainders.{⨾-done}
 use Rattle.plan.specs.Grammar.{blockForms, procForms, threadForms, forms, Grammatical, Behind, inFront, behind, planIn}
 
 -- what stands behind a place, part by part

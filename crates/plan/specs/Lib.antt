@@ -1,4 +1,4 @@
--- The grammar of plans; where a form may stand, and the same as the grammar has it; the limits; the rules in checking order; a form as a word of a table; what the rules settle;
+-- The grammar of plans; where a form may stand, and the same as the grammar has it; the limits; the rules in checking order; a form as a code in a table; what the rules settle;
 -- where procedures begin; the reference cases as texts.
 pub mod Grammar
 pub mod Structure

@@ -1,11 +1,14 @@
 -- What rules 4 to 8 settle of a plan's tree: exactly this (theorem `rules-plan`). Later crates rest on it.
 use Prim.Native.Nat.{ℕ, _+_, _<_, _≤_, max}
 use mathlib.Core.List.{List, [], _∷_}
+use mathlib.Core.Option.{none}
 use mathlib.Core.Path.{_≡_}
 use lib.ListN.{length, getD}
+use Rattle.limits.specs.Limits.{maxProcs, maxStatements, maxThreads, maxBrackets}
 use Rattle.semantics.specs.Plan.{Block, done, skip, call, hold, loop, either, end, LockPlan, bodyIn, Sound}
 use Rattle.plan.specs.Grammar.{forms, planIn}
 use Rattle.plan.specs.Table.{tableForms}
+use Rattle.plan.specs.Rules.{tooLarge, tooManyPairs}
 
 -- how many statements a block has, those within others too
 unfoldable pub statements : Block → ℕ
@@ -37,10 +40,10 @@ pub record Settled (plan : LockPlan) : Type 0 where
   pub threads-present : (t : ℕ) → t < length (plan .threads) → getD (plan .threads) t 0 < length (plan .procs)
   pub some-proc : 0 < length (plan .procs)
   pub some-thread : 0 < length (plan .threads)
-  pub few-procs : length (plan .procs) ≤ 64
-  pub few-statements : allStatements (plan .procs) ≤ 1024
-  pub few-threads : length (plan .threads) ≤ 6
-  pub few-open : (p : ℕ) → nesting (bodyIn (plan .procs) p) ≤ 16
+  pub few-procs : length (plan .procs) ≤ maxProcs
+  pub few-statements : allStatements (plan .procs) ≤ maxStatements
+  pub few-threads : length (plan .threads) ≤ maxThreads
+  pub few-open : (p : ℕ) → nesting (bodyIn (plan .procs) p) ≤ maxBrackets
 
 -- the plan of a table of forms
 abbrev pub tablePlan : List ℕ → LockPlan
@@ -50,3 +53,9 @@ tablePlan ws = planIn (tableForms ws)
 pub record PlanTable (ws : List ℕ) : Type 0 where
   pub written : tableForms ws ≡ forms (tablePlan ws)
   pub settled : Settled (tablePlan ws)
+
+-- the table of a plan that keeps the rules 4 to 10: what an accepted text leaves (theorem `rules-kept`)
+pub record RulesKept (ws : List ℕ) : Type 0 where
+  pub plan : PlanTable ws
+  pub sizes : tooLarge (tableForms ws) ≡ none
+  pub pairs : tooManyPairs (tableForms ws) ≡ none

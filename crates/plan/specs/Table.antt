@@ -1,4 +1,4 @@
--- A form as a word of a table: its kind plus 16 times its number. A form is read back from its word (theorem `form-of-code`).
+-- A form as a code in a table: its kind plus 16 times its number. A form is read back from its code (theorem `form-of-code`).
 use mathlib.Core.Bool.{cond}
 use Prim.Native.Nat.{ℕ, _+_, _*_, _/_, _%_}
 use mathlib.Core.List.{List, map}
@@ -6,27 +6,18 @@ use lib.Dec.{eqb}
 use lib.ListN.{set}
 use Rattle.text.specs.declared.Form.{Form}
 use Rattle.text.specs.declared.Form.the-variants.{Plan, Proc, Thread, Close, Skip, Call, Hold, Loop, Either, One, Two}
+use Rattle.text.specs.Forms.{kindNumber, numberIn}
 use Rattle.text.specs.declared.Line.{Line}
 use Rattle.text.specs.declared.Line.the-variants.{Read, Refused}
 
 unfoldable pub codeOf : Form → ℕ
-codeOf Plan = 0
-codeOf Proc = 1
-codeOf (Thread n) = 2 + 16 * n
-codeOf Close = 3
-codeOf Skip = 4
-codeOf (Call n) = 5 + 16 * n
-codeOf (Hold l) = 6 + 16 * l
-codeOf Loop = 7
-codeOf Either = 8
-codeOf One = 9
-codeOf Two = 10
+codeOf f = kindNumber f + 16 * numberIn f
 
--- the number in a word
+-- the number in a code
 abbrev pub numberAt : ℕ → ℕ
 numberAt w = w / 16 % 65536
 
--- the form of a word; a word of no form reads as `)`
+-- the form of a code; a code of no form reads as `)`
 unfoldable pub formAt : ℕ → Form
 formAt w =
     cond (eqb (w % 16) 0) Plan

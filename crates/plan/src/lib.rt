@@ -2,12 +2,20 @@
 ghost use mathlib.Core.Path.{_≡_};
 ghost use Prim.Native.Nat.{_+_, _-_, _≤_, _<_};
 ghost use lib.ListN.{length};
+ghost use Rattle.limits.specs.Limits.{maxBytes, maxForms};
 ghost use Rattle.text.specs.Forms.{numberIn};
 ghost use Rattle.text.specs.Lines.{lineAt, formsOf, unreadableLine};
 ghost use Rattle.plan.specs.Table.{codeOf, formAt, tableForms, withLine};
 ghost use Rattle.plan.specs.Structure.{only, among, closeBlock, onClose, advanceOf, misplacedLine, stackOf, innermost};
-ghost use Rattle.plan.specs.Limits.{Small, counted, overLimit, testedBy, leastBad, breaks, breakingLine};
+ghost use Rattle.plan.specs.Limits.{Small, addIf, depthAfter, counted, overLimit, testedBy, leastBad, breaks, breakingLine};
 ghost use Rattle.plan.specs.Rules.{refusedAt, formsRefusal, readerRefusal, readingOf, Tabled};
+use limits::LOCK_COUNT;
+use limits::MAX_BRACKETS;
+use limits::MAX_BYTES;
+use limits::MAX_FORMS;
+use limits::MAX_PROCS;
+use limits::MAX_STATEMENTS;
+use limits::MAX_THREADS;
 use text::Form;
 use text::Line;
 use text::Refusal;
@@ -34,7 +42,7 @@ pub enum Reading {
     Refused(Refusal),
 }
 
-// The word of a form: its kind plus 16 times its number.
+// The code of a form: its kind plus 16 times its number.
 fn code_of(form: Form) -> u64
     ensures { λ r. ⌜ r ≡ codeOf form ⌝ }
 {
@@ -53,12 +61,12 @@ fn code_of(form: Form) -> u64
     }
 }
 
-// The form of a word.
-pub fn form_at(word: u64) -> Form
-    ensures { λ r. ⌜ r ≡ formAt word ⌝ }
+// The form of a code.
+pub fn form_at(code: u64) -> Form
+    ensures { λ r. ⌜ r ≡ formAt code ⌝ }
 {
-    let kind = word % 16;
-    let n = (word / 16 % 65536) as u16;
+    let kind = code % 16;
+    let n = (code / 16 % 65536) as u16;
     match kind {
         0 => Form::Plan,
         1 => Form::Proc,
@@ -119,7 +127,7 @@ fn on_close(mode: u8, top: u8) -> Advance
 }
 
 // What a form does in a mode with the innermost open bracket.
-fn step_of(mode: u8, top: u8, form: Form) -> Advance
+fn advance_of(mode: u8, top: u8, form: Form) -> Advance
     ensures { λ r. ⌜ r ≡ advanceOf mode top form ⌝ }
 {
     match form {
@@ -127,10 +135,8 @@ fn step_of(mode: u8, top: u8, form: Form) -> Advance
         Form::Proc => in_modes(mode, 1, 2, Advance::Stay(5)),
         Form::Thread(_) => in_modes(mode, 2, 3, Advance::Stay(3)),
         Form::Close => on_close(mode, top),
-        Form::Skip => in_modes(mode, 5, 6, Advance::Stay(6)),
-        Form::Call(_) => in_modes(mode, 5, 6, Advance::Stay(6)),
-        Form::Hold(_) => in_modes(mode, 5, 6, Advance::Push(0)),
-        Form::Loop => in_modes(mode, 5, 6, Advance::Push(0)),
+        Form::Skip | Form::Call(_) => in_modes(mode, 5, 6, Advance::Stay(6)),
+        Form::Hold(_) | Form::Loop => in_modes(mode, 5, 6, Advance::Push(0)),
         Form::Either => in_modes(mode, 5, 6, Advance::Stay(7)),
         Form::One => in_mode(mode, 7, Advance::Push(1)),
         Form::Two => in_mode(mode, 8, Advance::Push(2)),
@@ -165,7 +171,7 @@ fn check_structure(table: &[u64], stack: &mut [u8]) -> Reading
     let mut i: usize = 0;
     while i < table.len() {
         let form = form_at(table[i]);
-        let step = step_of(mode, top_of(stack, depth), form);
+        let step = advance_of(mode, top_of(stack, depth), form);
         i += 1;
         match step {
             Advance::Stay(m) => {
@@ -194,59 +200,35 @@ fn check_structure(table: &[u64], stack: &mut [u8]) -> Reading
     })
 }
 
+// One more, if so.
+fn add_if(yes: bool, n: usize) -> usize
+    requires { ⌜ n ≤ 65536 ⌝ }
+    ensures { λ r. ⌜ r ≡ addIf yes n ⌝ }
+{
+    if yes { n + 1 } else { n }
+}
+
+// The brackets open within the procedure behind a form, where `depth` were open before.
+fn depth_after(form: Form, depth: usize) -> usize
+    requires { ⌜ depth ≤ 65536 ⌝ }
+    ensures { λ r. ⌜ r ≡ depthAfter form depth ⌝ }
+{
+    match form {
+        Form::Close => lower(depth),
+        _ => add_if(text::is_bracket(form), depth),
+    }
+}
+
 // One form more.
 fn count(c: Counts, form: Form) -> Counts
     requires { ⌜ Small c 65536 ⌝ }
     ensures { λ r. ⌜ r ≡ counted c form ⌝ }
 {
-    let mut next = c;
-    match form {
-        Form::Plan => {
-            return next;
-        }
-        Form::Proc => {
-            next.procs = c.procs + 1;
-            return next;
-        }
-        Form::Thread(_) => {
-            next.threads = c.threads + 1;
-            return next;
-        }
-        Form::Close => {
-            next.depth = lower(c.depth);
-            return next;
-        }
-        Form::Skip => {
-            next.statements = c.statements + 1;
-            return next;
-        }
-        Form::Call(_) => {
-            next.statements = c.statements + 1;
-            return next;
-        }
-        Form::Hold(_) => {
-            next.statements = c.statements + 1;
-            next.depth = c.depth + 1;
-            return next;
-        }
-        Form::Loop => {
-            next.statements = c.statements + 1;
-            next.depth = c.depth + 1;
-            return next;
-        }
-        Form::Either => {
-            next.statements = c.statements + 1;
-            next.depth = c.depth + 1;
-            return next;
-        }
-        Form::One => {
-            next.depth = c.depth + 1;
-            return next;
-        }
-        Form::Two => {
-            next.depth = c.depth + 1;
-            return next;
-        }
+    Counts {
+        procs: add_if(text::is_proc(form), c.procs),
+        statements: add_if(text::is_statement(form), c.statements),
+        threads: add_if(text::is_thread(form), c.threads),
+        depth: depth_after(form, c.depth),
     }
 }
 
@@ -254,16 +236,16 @@ fn count(c: Counts, form: Form) -> Counts
 fn over_limit(c: Counts) -> bool
     ensures { λ r. ⌜ r ≡ overLimit c ⌝ }
 {
-    if 64 < c.procs {
+    if MAX_PROCS < c.procs {
         return true;
     }
-    if 1024 < c.statements {
+    if MAX_STATEMENTS < c.statements {
         return true;
     }
-    if 6 < c.threads {
+    if MAX_THREADS < c.threads {
         return true;
     }
-    16 < c.depth
+    MAX_BRACKETS < c.depth
 }
 
 // The rule that tests a form's number, or 0.
@@ -271,17 +253,10 @@ fn tested_by(form: Form) -> u8
     ensures { λ r. ⌜ r ≡ testedBy form ⌝ }
 {
     match form {
-        Form::Plan => 0,
-        Form::Proc => 0,
         Form::Thread(_) => 8,
-        Form::Close => 0,
-        Form::Skip => 0,
         Form::Call(_) => 7,
         Form::Hold(_) => 6,
-        Form::Loop => 0,
-        Form::Either => 0,
-        Form::One => 0,
-        Form::Two => 0,
+        _ => 0,
     }
 }
 
@@ -290,17 +265,10 @@ pub fn number_in(form: Form) -> usize
     ensures { λ r. ⌜ r ≡ numberIn form ⌝ }
 {
     match form {
-        Form::Plan => 0,
-        Form::Proc => 0,
         Form::Thread(n) => n as usize,
-        Form::Close => 0,
-        Form::Skip => 0,
         Form::Call(n) => n as usize,
         Form::Hold(n) => n as usize,
-        Form::Loop => 0,
-        Form::Either => 0,
-        Form::One => 0,
-        Form::Two => 0,
+        _ => 0,
     }
 }
 
@@ -309,7 +277,7 @@ fn least_bad(rule: u8, c: Counts) -> usize
     ensures { λ r. ⌜ r ≡ leastBad rule c ⌝ }
 {
     if rule == 6 {
-        return 32;
+        return LOCK_COUNT;
     }
     if rule == 7 {
         return lower(c.procs);
@@ -392,7 +360,7 @@ fn put_line(text: &[u8], at: usize, table: &mut [u64], n: usize) -> Line
 
 // The text's forms into a table, line after line (rule 3). A form's line has two bytes at least, so a table of half the bytes has room.
 fn fill(text: &[u8], table: &mut [u64]) -> Reading
-    requires { ⌜ (length (now text) ≤ 32768) × (16384 ≤ length (now table)) ⌝ }
+    requires { ⌜ (length (now text) ≤ maxBytes) × (maxForms ≤ length (now table)) ⌝ }
     ensures { λ r. ⌜ Tabled (refusedAt 3 (unreadableLine (now (text .entry)))) (now (text .entry)) r (now (table .exit)) ⌝ }
 {
     let mut at: usize = 0;
@@ -410,12 +378,12 @@ fn fill(text: &[u8], table: &mut [u64]) -> Reading
     Reading::Accepted(n)
 }
 
-// A plan text into a lent table of forms, by the rules 2 to 8 in checking order. The table and the stack are 16,384 long.
+// A plan text into a lent table of forms, by the rules 2 to 8 in checking order. The table and the stack are MAX_FORMS long.
 pub fn read_plan(text: &[u8], table: &mut [u64], stack: &mut [u8]) -> Reading
-    requires { ⌜ (16384 ≤ length (now table)) × (16384 ≤ length (now stack)) ⌝ }
+    requires { ⌜ (maxForms ≤ length (now table)) × (maxForms ≤ length (now stack)) ⌝ }
     ensures { λ r. ⌜ Tabled (readerRefusal (now (text .entry))) (now (text .entry)) r (now (table .exit)) ⌝ }
 {
-    if 32768 < text.len() {
+    if MAX_BYTES < text.len() {
         return Reading::Refused(Refusal { rule: 2, line: 0 });
     }
     let filled = fill(text, table);
@@ -429,7 +397,7 @@ pub fn read_plan(text: &[u8], table: &mut [u64], stack: &mut [u8]) -> Reading
 pub fn check_plan(text: &[u8]) -> Reading
     ensures { λ r. ⌜ r ≡ readingOf (readerRefusal (now (text .entry))) (length (formsOf (now (text .entry)))) ⌝ }
 {
-    let mut table = [0u64; 16384];
-    let mut stack = [0u8; 16384];
+    let mut table = [0u64; MAX_FORMS];
+    let mut stack = [0u8; MAX_FORMS];
     read_plan(text, &mut table, &mut stack)
 }

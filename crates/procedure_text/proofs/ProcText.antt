@@ -4,7 +4,7 @@ use Prim.Native.Nat.{ℕ, zero, suc, _+_, _-_, _<_, _≤_}
 use native.Mathlib.Omega.{arith}
 use mathlib.Core.Path.{_≡_, refl, sym, ap, _∙_}
 use mathlib.Core.List.{List, [], _∷_}
-use mathlib.Core.Option.{Option, none, some, Option·none-ne-some}
+use mathlib.Core.Option.{none}
 use mathlib.Core.Bool.{Bool, true, false}
 use lib.ListN.{length, take, drop, getD}
 use lib.Dec.{ltb}
@@ -22,12 +22,14 @@ use Rattle.plan.specs.Table.{tableForms}
 use Rattle.plan.specs.Settled.{PlanTable, tablePlan}
 use Rattle.plan.specs.Starts.{Starts}
 use Rattle.text.specs.declared.Refusal.{Refusal}
-use Rattle.plan.specs.Rules.{refusedAt, tooLong, formsRefusal, readerRefusal, planRefusal, planOf, procLineFrom, readingOf, Tabled}
+use Rattle.plan.specs.Rules.{refusedAt, tooLong, formsRefusal, readerRefusal, planRefusal, planOf, procLineFrom, Tabled}
+use Rattle.plan.proofs.Kept.{no-line}
+use Rattle.plan.proofs.Filling.{refused-is}
 use Rattle.plan.proofs.Sound.{accepted-text, accepted-settled}
 use Rattle.parts.specs.Parts.{Span, span, bytesIn, PartAt, linesSpan, formsBefore, formsToClosing}
 use Rattle.parts.proofs.Lines.{ProcLines, proc-lines}
-use Rattle.procedure_text.specs.ProcText.{orEmpty, procLines, procText, tableLines}
-use Rattle.checked.proofs.Checked.{plan-kept, plan-forms, plan-table}
+use Rattle.procedure_text.specs.ProcText.{orEmpty, linesOfProc, procText, tableLines}
+use Rattle.plan.proofs.AcceptedTable.{plan-kept, plan-forms, plan-table}
 
 -- an empty part
 pub part-empty : (s r : RefT (List ℕ)) (part : Span) → r .ptr ≡ (s .ptr .0, 0 + s .ptr .1) → r .now ≡ [] → span 0 0 ≡ part → PartAt s part r
@@ -57,14 +59,9 @@ module _ (ws : List ℕ) (p procs : ℕ) (c : procs ≡ length (tablePlan ws .pr
 
 -- ---- of a text
 
-refused-part : (a : Option Refusal) (q : Reading) (n : ℕ) (x : Refusal) (b : Bool) (part : Span) → q ≡ readingOf a n → q ≡ Refused x → span 0 0 ≡ orEmpty a b part
-unfolding readingOf
-refused-part none q n x b part e g = let z : _≡_ {A = ℕ} 0 1 = cc in absurd (omega arith)
-refused-part (some w) q n x b part e g = refl
-
 pub lines-refused : (text : List ℕ) (p : ℕ) (table : List ℕ) (q : Reading) (x : Refusal) → Tabled (planRefusal text) text q table → q ≡ Refused x → span 0 0 ≡ procText text p
 unfolding procText
-lines-refused text p table q x t g = refused-part (planRefusal text) q (length (formsOf text)) x _ _ (t .answer) g
+lines-refused text p table q x t g = rw (refused-is (planRefusal text) (length (formsOf text)) x (sym (t .answer) ∙ g))
 
 drop-forms : (k : ℕ) (ws : List ℕ) → tableForms (drop k ws) ≡ drop k (tableForms ws)
 drop-forms zero ws = refl
@@ -74,19 +71,15 @@ drop-forms (suc k) (w ∷ ws) = drop-forms k ws
 accepted-readable : (text : List ℕ) → planRefusal text ≡ none → unreadableLine text ≡ none
 unfolding planRefusal readerRefusal
 accepted-readable text e =
-    no-line (unreadableLine text) (first-none (refusedAt 3 (unreadableLine text)) (formsRefusal (formsOf text)) (first-none (tooLong text) _ (first-none (readerRefusal text) _ e .0) .1) .0)
-  where
-    no-line : (o : Option ℕ) → refusedAt 3 o ≡ none → o ≡ none
-    no-line none h = refl
-    no-line (some l) h = absurd (Option·none-ne-some _ (sym h))
+    no-line 3 (unreadableLine text) (first-none (refusedAt 3 (unreadableLine text)) (formsRefusal (formsOf text)) (first-none (tooLong text) _ (first-none (readerRefusal text) _ e .0) .1) .0)
 
 -- a procedure of a table that holds the forms of a text's plan: its closing line is the last before the next procedure or thread
 module _ (text ws : List ℕ) (p : ℕ) (t : PlanTable ws) (e : tableForms ws ≡ formsOf text) where
   lines-there : p < length (tablePlan ws .procs) → ProcLines (tablePlan ws) p (procLineFrom 1 p (forms (tablePlan ws)))
   lines-there h = proc-lines (tablePlan ws) p h (t .settled .some-thread) (procLineFrom 1 p (forms (tablePlan ws))) refl
 
-  table-lines : (b : Bool) → ltb p (length (tablePlan ws .procs)) ≡ b → tableLines text ws p ≡ orEmpty none b (procLines text p)
-  unfolding tableLines procLines
+  table-lines : (b : Bool) → ltb p (length (tablePlan ws .procs)) ≡ b → tableLines text ws p ≡ orEmpty none b (linesOfProc text p)
+  unfolding tableLines linesOfProc
   table-lines true h =
       let k = lines-there (ltb-true p (length (tablePlan ws .procs)) h) .closing in
       rw (h, drop-forms (procLineFrom 1 p (tableForms ws)) ws, ← e, t .written, k)
@@ -115,7 +108,7 @@ written-lines text fs plan p e f h t = rw (e, f) (proc-lines plan p h t (procLin
 -- of an accepted text: the forms of the procedure, written down
 pub proc-written : (text : List ℕ) (p : ℕ) → planRefusal text ≡ none → p < length (planOf text .procs)
     → bytesIn text (procText text p) ≡ textOf (procForms (bodyIn (planOf text .procs) p ∷ []) [])
-unfolding procText procLines planRefusal
+unfolding procText linesOfProc planRefusal
 proc-written text p e h =
     let reader = first-none (readerRefusal text) _ e .0 in
     let whole = readable-written text (accepted-readable text e) .written in

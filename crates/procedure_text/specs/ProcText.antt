@@ -14,8 +14,8 @@ use Rattle.parts.specs.Parts.{Span, span, linesSpan, formsBefore, formsToClosin
 
 -- "from the `(proc` line to its closing line, line end included": the lines of procedure p, where the text has it. They are the lines of the procedure's forms (theorem
 -- `proc-written`)
-unfoldable pub procLines : List ℕ → ℕ → Span
-procLines text p =
+unfoldable pub linesOfProc : List ℕ → ℕ → Span
+linesOfProc text p =
     let line = procLineFrom 1 p (formsOf text) in
     linesSpan text (line - 1) (line + formsToClosing 0 (drop line (formsOf text)))
 
@@ -26,7 +26,7 @@ orEmpty (some r) there part = span 0 0
 
 -- "The text call answers with the part of the caller's text from the `(proc` line to its closing line, line end included": which part of the text
 unfoldable pub procText : List ℕ → ℕ → Span
-procText text p = orEmpty (planRefusal text) (ltb p (length (planOf text .procs))) (procLines text p)
+procText text p = orEmpty (planRefusal text) (ltb p (length (planOf text .procs))) (linesOfProc text p)
 
 -- the lines of a procedure of a table, in its text
 unfoldable pub tableLines : List ℕ → List ℕ → ℕ → Span

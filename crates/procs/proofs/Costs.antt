@@ -7,22 +7,24 @@ use mathlib.Core.Path.{_≡_, refl, sym, ap, _∙_}
 use mathlib.Core.List.{List, [], _∷_, map, map-append}
 use lib.ListN.{length, take, drop, getD, length-take}
 use lib.Seq.{take-suc, take-length, getD-take}
+use Rattle.limits.specs.Limits.{sizeRoom}
 use Rattle.text.specs.declared.Form.{Form}
 use Rattle.text.specs.declared.Form.the-variants.{Close, Two}
+use Rattle.text.specs.Forms.{numberIn, kindIn}
 use Rattle.semantics.specs.Plan.{Block, done, skip, call, hold, loop, either, end, bodyIn, Written}
 use Rattle.semantics.specs.Sizes.{sizeWith}
-use Rattle.semantics.proofs.SizeRounds.{sizeRound, sizeRounds, round-length, round-more, rounds-length, rounds-size}
+use Rattle.semantics.proofs.Analysis.SizeRounds.{sizeRound, sizeRounds, round-length, round-more, rounds-length, rounds-size}
 use Rattle.plan.specs.Grammar.{blockForms, procForms, threadForms}
 use Rattle.plan.specs.Table.{formAt, tableForms}
 use Rattle.plan.specs.Settled.{PlanTable, tablePlan}
 use Rattle.plan.specs.Starts.{Starts}
-use Rattle.procs.specs.Passes.{isProc, isThread, costOf, costFrom, entryOf, sizeFrom}
+use Rattle.procs.specs.Passes.{costOf, costFrom, knownSize, sizeFrom}
 use Rattle.procs.specs.Sized.{Sized}
 use Rattle.procs.proofs.Places.{map-drop, PlacedBlock, places-lines, table-placed}
 
 module _ (s : ℕ → ℕ) where
   pub cost-block : (C : ℕ → Type 0) (b : Block) → Written C b → (fs : List Form) → costFrom s (blockForms b fs) ≡ sizeWith s b + costFrom s fs
-  unfolding costFrom costOf isProc isThread blockForms sizeWith Written
+  unfolding costFrom costOf kindIn blockForms sizeWith Written numberIn
   cost-block C done w fs = omega arith
   cost-block C (skip r) w fs = omega (arith, cost-block C r w fs)
   cost-block C (call p r) w fs = omega (arith, cost-block C r (w .1) fs)
@@ -38,7 +40,7 @@ module _ (s : ℕ → ℕ) where
   cost-block C (end l r) w fs = absurd w
 
   cost-behind : (rest : List Block) (ns : List ℕ) → costFrom s (Close ∷ procForms rest (threadForms ns (Close ∷ []))) ≡ 0
-  unfolding costFrom costOf isProc isThread procForms threadForms
+  unfolding costFrom costOf kindIn procForms threadForms numberIn
   cost-behind [] [] = refl
   cost-behind [] (n ∷ ns) = refl
   cost-behind (b ∷ bs) ns = refl
@@ -56,25 +58,25 @@ module _ (ws starts : List ℕ) (t : PlanTable ws) (k : Starts ws starts) where
 
   -- the sizes from the first p starts on are the first p entries of a round
   round-starts : (sizes : List ℕ) (p : ℕ) → p ≤ length (tablePlan ws .procs)
-      → map (sizeFrom ws sizes) (take p starts) ≡ take p (sizeRound 1025 (tablePlan ws .procs) sizes)
+      → map (sizeFrom ws sizes) (take p starts) ≡ take p (sizeRound sizeRoom (tablePlan ws .procs) sizes)
   unfolding sizeFrom
   round-starts sizes zero h = refl
   round-starts sizes (suc p) h =
       ap (map (sizeFrom ws sizes)) (take-suc starts p 0 (omega (arith, k .room)))
       ∙ map-append (sizeFrom ws sizes) (take p starts) (getD starts p 0 ∷ [])
-      ∙ rw (round-starts sizes p (omega arith), start-cost (entryOf sizes) p h) (sym (round-more 1025 (tablePlan ws .procs) sizes p h))
+      ∙ rw (round-starts sizes p (omega arith), start-cost (knownSize sizes) p h) (sym (round-more sizeRoom (tablePlan ws .procs) sizes p h))
 
-  pub round-all : (sizes : List ℕ) → map (sizeFrom ws sizes) (take (length (tablePlan ws .procs)) starts) ≡ sizeRound 1025 (tablePlan ws .procs) sizes
+  pub round-all : (sizes : List ℕ) → map (sizeFrom ws sizes) (take (length (tablePlan ws .procs)) starts) ≡ sizeRound sizeRoom (tablePlan ws .procs) sizes
   round-all sizes =
       round-starts sizes (length (tablePlan ws .procs)) (omega arith)
-      ∙ ap (λ n. take n (sizeRound 1025 (tablePlan ws .procs) sizes)) (sym (round-length 1025 (tablePlan ws .procs) sizes))
-      ∙ take-length (sizeRound 1025 (tablePlan ws .procs) sizes)
+      ∙ ap (λ n. take n (sizeRound sizeRoom (tablePlan ws .procs) sizes)) (sym (round-length sizeRoom (tablePlan ws .procs) sizes))
+      ∙ take-length (sizeRound sizeRoom (tablePlan ws .procs) sizes)
 
 -- a table that begins with what all rounds make
-pub rounds-sized : (ws sizes : List ℕ) (n : ℕ) → n ≡ length (tablePlan ws .procs) → take n sizes ≡ sizeRounds 1025 n (tablePlan ws .procs) → Sized ws sizes
+pub rounds-sized : (ws sizes : List ℕ) (n : ℕ) → n ≡ length (tablePlan ws .procs) → take n sizes ≡ sizeRounds sizeRoom n (tablePlan ws .procs) → Sized ws sizes
 rounds-sized ws sizes n e h =
     record {
-      room = omega (arith, length-take n sizes, ap length h, rounds-length 1025 n (tablePlan ws .procs));
+      room = omega (arith, length-take n sizes, ap length h, rounds-length sizeRoom n (tablePlan ws .procs));
       entries = λ p k. sym (getD-take n sizes p 0 (omega arith)) ∙ ap (λ l. getD l p 0) h
-          ∙ ap (λ d. getD (sizeRounds 1025 d (tablePlan ws .procs)) p 0) e ∙ rounds-size 1025 (tablePlan ws .procs) p;
+          ∙ ap (λ d. getD (sizeRounds sizeRoom d (tablePlan ws .procs)) p 0) e ∙ rounds-size sizeRoom (tablePlan ws .procs) p;
     }

@@ -2,5 +2,8 @@
 pub mod Places
 pub mod Costs
 pub mod WithinSize
--- The laws that the proofs of the functions cite.
-pub mod Laws
+-- The laws that the proofs of the functions cite: what a form costs, the passes, the rounds of sizes, rule 9.
+pub mod CostArms
+pub mod Finding
+pub mod Rounds
+pub mod LargeProcs

@@ -6,19 +6,20 @@ use native.Mathlib.Numerals.{add-one}
 use native.Mathlib.Omega.{arith}
 use mathlib.Core.Path.{_≡_, refl, sym, ap, _∙_}
 use mathlib.Core.List.{List, [], _∷_, map}
-use borrow.Author.Tests.{ne-eqb}
+use mathlib.Core.Bool.{Bool, true, false, _&&_, cond}
+use lib.Dec.{eqb, eqb·suc-zero}
 use lib.ListN.{length, take, drop, getD, length-map, length-drop, length-take}
 use lib.Seq.{drop-drop, getD-take}
 use Rattle.text.specs.declared.Form.{Form}
-use Rattle.text.specs.declared.Form.the-variants.{Plan, Proc, Thread, Close, Skip, Call, Hold, Loop, Either, One, Two}
-use Rattle.text.specs.Forms.{numberIn}
+use Rattle.text.specs.declared.Form.the-variants.{Proc, Close, Two}
+use Rattle.text.specs.Forms.{numberIn, kindIn, isProc}
 use Rattle.semantics.specs.Plan.{Block, done, skip, call, hold, loop, either, end, LockPlan, bodyIn}
 use Rattle.plan.specs.Grammar.{blockForms, procForms, threadForms, forms}
 use Rattle.plan.specs.Table.{formAt, tableForms}
 use Rattle.plan.specs.Rules.{procLineFrom}
 use Rattle.plan.specs.Settled.{PlanTable, tablePlan}
 use Rattle.plan.specs.Starts.{StandsAt, Starts}
-use Rattle.procs.specs.Passes.{isProc, isThread, placesFrom, threadsFrom}
+use Rattle.procs.specs.Passes.{consIf, placesFrom, threadsFrom}
 
 -- ---- lists behind a place
 
@@ -64,7 +65,7 @@ drop-block (either a b r) fs =
 drop-block (end l r) fs = drop-block r fs
 
 pub places-block : (b : Block) (k : ℕ) (fs : List Form) → placesFrom k (blockForms b fs) ≡ placesFrom (k + formCount b) fs
-unfolding formCount blockForms placesFrom isProc
+unfolding formCount blockForms placesFrom kindIn
 places-block done k fs = ap (λ n. placesFrom n fs) (omega arith)
 places-block (skip r) k fs = places-block r (suc k) fs ∙ ap (λ n. placesFrom n fs) (omega arith)
 places-block (call p r) k fs = places-block r (suc k) fs ∙ ap (λ n. placesFrom n fs) (omega arith)
@@ -89,7 +90,7 @@ pub record PlacedBlock (whole fs : List Form) (place : ℕ) (b : Block) : Type 0
 
 pub place-at : (fs whole : List Form) (ps : List Block) (k : ℕ) → drop k whole ≡ procForms ps fs → (p : ℕ) → p < length ps
     → PlacedBlock whole fs (getD (placesFrom k (procForms ps fs)) p 0) (bodyIn ps p)
-unfolding placesFrom procForms isProc bodyIn
+unfolding placesFrom procForms kindIn bodyIn
 place-at fs whole [] k e p h = absurd (omega arith)
 place-at fs whole (b ∷ bs) k e zero h =
     record { within = omega (arith, some-left whole k Proc _ e); rest = bs; written = drop-next whole k Proc _ e }
@@ -100,12 +101,12 @@ place-at fs whole (b ∷ bs) k e (suc p) h =
     (place-at fs whole bs (suc (suc k + formCount b)) (drop-next whole (suc k + formCount b) Close _ behind) p (omega arith))
 
 places-threads : (k : ℕ) (ns : List ℕ) → placesFrom k (threadForms ns (Close ∷ [])) ≡ []
-unfolding placesFrom threadForms isProc
+unfolding placesFrom threadForms kindIn
 places-threads k [] = refl
 places-threads k (n ∷ ns) = places-threads (suc k) ns
 
 pub places-count : (ns : List ℕ) (k : ℕ) (ps : List Block) → length (placesFrom k (procForms ps (threadForms ns (Close ∷ [])))) ≡ length ps
-unfolding placesFrom procForms isProc
+unfolding placesFrom procForms kindIn
 places-count ns k [] = ap length (places-threads k ns)
 places-count ns k (b ∷ bs) =
     ap (λ (l : List ℕ). suc (length l)) (places-block b (suc k) (Close ∷ procForms bs (threadForms ns (Close ∷ []))))
@@ -113,25 +114,20 @@ places-count ns k (b ∷ bs) =
 
 -- the place after a `(proc` is the number of its line
 pub places-lines : (fs : List Form) (k p : ℕ) → getD (placesFrom k fs) p 0 ≡ procLineFrom (suc k) p fs
-unfolding placesFrom procLineFrom isProc
+unfolding placesFrom procLineFrom
 places-lines [] k p = refl
-places-lines (Plan ∷ fs) k p = places-lines fs (suc k) p
-places-lines (Proc ∷ fs) k zero = refl
-places-lines (Proc ∷ fs) k (suc p) = let e : suc p - 1 ≡ p = omega arith in rw (ne-eqb (suc p) 0 (λ z. omega arith), e) (places-lines fs (suc k) p)
-places-lines (Thread n ∷ fs) k p = places-lines fs (suc k) p
-places-lines (Close ∷ fs) k p = places-lines fs (suc k) p
-places-lines (Skip ∷ fs) k p = places-lines fs (suc k) p
-places-lines (Call n ∷ fs) k p = places-lines fs (suc k) p
-places-lines (Hold l ∷ fs) k p = places-lines fs (suc k) p
-places-lines (Loop ∷ fs) k p = places-lines fs (suc k) p
-places-lines (Either ∷ fs) k p = places-lines fs (suc k) p
-places-lines (One ∷ fs) k p = places-lines fs (suc k) p
-places-lines (Two ∷ fs) k p = places-lines fs (suc k) p
+places-lines (f ∷ fs) k p = go (isProc f) p (places-lines fs (suc k))
+  where
+    go : (b : Bool) (p : ℕ) → ((q : ℕ) → getD (placesFrom (suc k) fs) q 0 ≡ procLineFrom (suc (suc k)) q fs)
+        → getD (consIf b (suc k) (placesFrom (suc k) fs)) p 0 ≡ cond (b && eqb p 0) (suc k) (procLineFrom (suc (suc k)) (cond b (p - 1) p) fs)
+    go true zero ih = refl
+    go true (suc p) ih = let e : suc p - 1 ≡ p = omega arith in rw (eqb·suc-zero p, e) (ih p)
+    go false p ih = ih p
 
 -- ---- the threads
 
 threads-block : (b : Block) (fs : List Form) → threadsFrom (blockForms b fs) ≡ threadsFrom fs
-unfolding blockForms threadsFrom isThread
+unfolding blockForms threadsFrom kindIn
 threads-block done fs = refl
 threads-block (skip r) fs = threads-block r fs
 threads-block (call p r) fs = threads-block r fs
@@ -142,17 +138,17 @@ threads-block (either a b r) fs =
 threads-block (end l r) fs = threads-block r fs
 
 threads-procs : (ps : List Block) (fs : List Form) → threadsFrom (procForms ps fs) ≡ threadsFrom fs
-unfolding procForms threadsFrom isThread
+unfolding procForms threadsFrom kindIn
 threads-procs [] fs = refl
 threads-procs (b ∷ bs) fs = threads-block b (Close ∷ procForms bs fs) ∙ threads-procs bs fs
 
 threads-listed : (ns : List ℕ) → threadsFrom (threadForms ns (Close ∷ [])) ≡ ns
-unfolding threadForms threadsFrom isThread numberIn
+unfolding threadForms threadsFrom kindIn numberIn
 threads-listed [] = refl
 threads-listed (n ∷ ns) = ap (λ l. n ∷ l) (threads-listed ns)
 
 pub threads-of : (plan : LockPlan) → threadsFrom (forms plan) ≡ plan .threads
-unfolding forms threadsFrom isThread
+unfolding forms threadsFrom kindIn
 threads-of plan = threads-procs (plan .procs) (threadForms (plan .threads) (Close ∷ [])) ∙ threads-listed (plan .threads)
 
 -- ---- in a table
@@ -163,11 +159,11 @@ threadPart plan = threadForms (plan .threads) (Close ∷ [])
 
 module _ (plan : LockPlan) (fs : List Form) (e : fs ≡ forms plan) where
   pub count-placed : length (placesFrom 0 fs) ≡ length (plan .procs)
-  unfolding forms placesFrom isProc
+  unfolding forms placesFrom kindIn
   count-placed = rw e (places-count (plan .threads) 1 (plan .procs))
 
   pub proc-placed : (p : ℕ) → p < length (plan .procs) → PlacedBlock fs (threadPart plan) (getD (placesFrom 0 fs) p 0) (bodyIn (plan .procs) p)
-  unfolding forms placesFrom isProc
+  unfolding forms placesFrom kindIn
   proc-placed p h = rw e (place-at (threadPart plan) (forms plan) (plan .procs) 1 refl p h)
 
 module _ (ws : List ℕ) (t : PlanTable ws) where

@@ -1,40 +1,13 @@
 -- Passes over the forms of a plan, each as a function on a list of forms: where the procedures begin, the threads, what the forms of a procedure cost.
 use Prim.Native.Nat.{ℕ, suc, _+_, min}
-use mathlib.Core.Bool.{Bool, true, false, _||_, cond}
+use mathlib.Core.Bool.{Bool, true, false, cond}
 use mathlib.Core.List.{List, [], _∷_}
 use lib.ListN.{drop, getD}
+use Rattle.limits.specs.Limits.{sizeRoom}
 use Rattle.text.specs.declared.Form.{Form}
-use Rattle.text.specs.declared.Form.the-variants.{Plan, Proc, Thread, Close, Skip, Call, Hold, Loop, Either, One, Two}
-use Rattle.text.specs.Forms.{numberIn}
+use Rattle.text.specs.declared.Form.the-variants.{Skip, Hold, Loop, Either}
+use Rattle.text.specs.Forms.{numberIn, kindIn, isProc, isThread, isCall, beginsOther}
 use Rattle.plan.specs.Table.{tableForms}
-
--- `(proc`
-unfoldable pub isProc : Form → Bool
-isProc Plan = false
-isProc Proc = true
-isProc (Thread n) = false
-isProc Close = false
-isProc Skip = false
-isProc (Call n) = false
-isProc (Hold l) = false
-isProc Loop = false
-isProc Either = false
-isProc One = false
-isProc Two = false
-
--- `(thread N)`
-unfoldable pub isThread : Form → Bool
-isThread Plan = false
-isThread Proc = false
-isThread (Thread n) = true
-isThread Close = false
-isThread Skip = false
-isThread (Call n) = false
-isThread (Hold l) = false
-isThread Loop = false
-isThread Either = false
-isThread One = false
-isThread Two = false
 
 -- x in front, if b
 abbrev pub consIf : Bool → ℕ → List ℕ → List ℕ
@@ -54,27 +27,17 @@ threadsFrom (f ∷ fs) = consIf (isThread f) (numberIn f) (threadsFrom fs)
 -- what a form adds to the size of the procedure in which it stands, where s p is the size of procedure p: "1 for skip, 1 plus the callee's size for
 -- call, 2 plus the block for hold and loop, 1 plus both blocks for either"
 unfoldable pub costOf : (ℕ → ℕ) → Form → ℕ
-costOf s Plan = 0
-costOf s Proc = 0
-costOf s (Thread n) = 0
-costOf s Close = 0
-costOf s Skip = 1
-costOf s (Call p) = 1 + s p
-costOf s (Hold l) = 2
-costOf s Loop = 2
-costOf s Either = 1
-costOf s One = 0
-costOf s Two = 0
+costOf s f = cond (kindIn (Skip ∷ Either ∷ []) f) 1 (cond (isCall f) (1 + s (numberIn f)) (cond (kindIn (Hold 0 ∷ Loop ∷ []) f) 2 0))
 
--- what the forms up to the next procedure or thread cost
+-- what the forms cost up to the first that does not stand within a procedure
 unfoldable pub costFrom : (ℕ → ℕ) → List Form → ℕ
 costFrom s [] = 0
-costFrom s (f ∷ fs) = cond (isProc f || isThread f) 0 (costOf s f + costFrom s fs)
+costFrom s (f ∷ fs) = cond (beginsOther f) 0 (costOf s f + costFrom s fs)
 
--- the entry of procedure p in a table, 0 where there is none
-abbrev pub entryOf : List ℕ → ℕ → ℕ
-entryOf table p = getD table p 0
+-- the size that a table has of procedure p, 0 where it has none
+abbrev pub knownSize : List ℕ → ℕ → ℕ
+knownSize table p = getD table p 0
 
--- what the forms from a place of a table on cost by a table of sizes, cut off at 1,025
+-- what the forms from a place of a table on cost by a table of sizes, cut off at one more than rule 9 allows
 unfoldable pub sizeFrom : List ℕ → List ℕ → ℕ → ℕ
-sizeFrom ws sizes place = min 1025 (costFrom (entryOf sizes) (tableForms (drop place ws)))
+sizeFrom ws sizes place = min sizeRoom (costFrom (knownSize sizes) (tableForms (drop place ws)))

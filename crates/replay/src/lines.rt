@@ -1,5 +1,5 @@
 // The lines of an accepted plan text, told by their letters. A place is the byte at which a line starts; the text's length is the place behind the last line.
-ghost use Prim.Native.Nat.{_≤_, _<_, _+_};
+ghost use Prim.Native.Nat.{_≤_, _<_, _+_, _^_};
 ghost use lib.ListN.{length};
 
 // The letter of a line's form: its second byte, with `w` for two, `.` for the plan, `)` for a bracket that closes and `?` where no line is.
@@ -14,11 +14,26 @@ pub fn letter(text: &[u8], at: usize) -> u8 {
     let first = line[1];
     let second = line[2];
     match first {
-        10 => b')',
+        b'\n' => b')',
         b'p' => if second == b'r' { b'p' } else { b'.' },
         b't' => if second == b'h' { b't' } else { b'w' },
         _ => first,
     }
+}
+
+// The place behind the next such byte, or the text's end.
+pub fn after(text: &[u8], at: usize, byte: u8) -> usize
+    requires { ⌜ at < length (now text) ⌝ }
+    ensures { λ r. ⌜ (at < r) × (r ≤ length (now (text .entry))) ⌝ }
+{
+    let mut i = at;
+    while i < text.len() {
+        if text[i] == byte {
+            return i + 1;
+        }
+        i += 1;
+    }
+    i
 }
 
 // The place behind a line.
@@ -26,14 +41,7 @@ pub fn next_line(text: &[u8], at: usize) -> usize
     requires { ⌜ at < length (now text) ⌝ }
     ensures { λ r. ⌜ (at < r) × (r ≤ length (now (text .entry))) ⌝ }
 {
-    let mut i = at;
-    while i < text.len() {
-        if text[i] == 10 {
-            return i + 1;
-        }
-        i += 1;
-    }
-    i
+    after(text, at, b'\n')
 }
 
 // The same of any place.
@@ -58,7 +66,7 @@ pub fn number(text: &[u8], at: usize) -> usize {
     let mut n: usize = 0;
     let mut i = at;
     while i < text.len() {
-        if text[i] == 10 {
+        if text[i] == b'\n' {
             return n;
         }
         n = append(n, text[i]);
@@ -90,7 +98,7 @@ pub fn body(text: &[u8], proc: usize) -> usize {
 
 // How many brackets are open behind a line.
 fn nested(depth: usize, form: u8) -> usize
-    requires { ⌜ depth < 18446744073709551615 ⌝ }
+    requires { ⌜ depth + 1 < 2 ^ 64 ⌝ }
     ensures { λ r. ⌜ r ≤ depth + 1 ⌝ }
 {
     match form {

@@ -1,21 +1,27 @@
 // The threads that are stuck in a state of the gateway. A set of threads is a mask.
 use super::gateway::holds;
 use super::gateway::wanted;
+use limits::MAX_THREADS;
 ghost use Prim.Native.Nat.{_≤_, _<_};
 ghost use lib.ListN.{length};
+ghost use Rattle.limits.specs.Limits.{maxThreads};
+ghost use Rattle.replay.specs.Tables.{stateRoom};
+
+// The sets of threads.
+const SETS: u64 = 1 << MAX_THREADS;
 
 fn member(set: u64, t: usize) -> bool
-    requires { ⌜ t < 6 ⌝ }
+    requires { ⌜ t < maxThreads ⌝ }
 {
     set >> t & 1 == 1
 }
 
 // Whether a member other than t holds a lock.
 fn held_beside(state: &[usize], set: u64, t: usize, lock: usize) -> bool
-    requires { ⌜ 6912 ≤ length (now state) ⌝ }
+    requires { ⌜ stateRoom ≤ length (now state) ⌝ }
 {
     let mut u: usize = 0;
-    while u < 6 {
+    while u < MAX_THREADS {
         if u != t && member(set, u) && holds(state, u, lock) {
             return true;
         }
@@ -27,10 +33,10 @@ fn held_beside(state: &[usize], set: u64, t: usize, lock: usize) -> bool
 // Whether a set is stuck: every member could step by itself, and beside the other members none may. Only the begin of a hold can be refused, where another
 // member holds the lock: so a set of one thread is not stuck.
 fn stuck(text: &[u8], state: &[usize], set: u64) -> bool
-    requires { ⌜ 6912 ≤ length (now state) ⌝ }
+    requires { ⌜ stateRoom ≤ length (now state) ⌝ }
 {
     let mut t: usize = 0;
-    while t < 6 {
+    while t < MAX_THREADS {
         if member(set, t) && !held_beside(state, set, t, wanted(text, state, t)) {
             return false;
         }
@@ -41,11 +47,11 @@ fn stuck(text: &[u8], state: &[usize], set: u64) -> bool
 
 // The largest stuck set, which contains every other: all stuck sets joined.
 pub fn largest(text: &[u8], state: &[usize]) -> u64
-    requires { ⌜ 6912 ≤ length (now state) ⌝ }
+    requires { ⌜ stateRoom ≤ length (now state) ⌝ }
 {
     let mut all: u64 = 0;
     let mut set: u64 = 0;
-    while set < 64 {
+    while set < SETS {
         if stuck(text, state, set) {
             all = all | set;
         }

@@ -1,4 +1,5 @@
 // The report on the plan that standard input holds. What it says is decided by the library `report_text`; a stream that fails is told on standard error.
+use streams::TEXT_ROOM;
 
 // The report on a text that was read, unless reading failed.
 fn report_input(text: &[u8], whole: bool) {
@@ -11,9 +12,8 @@ fn report_input(text: &[u8], whole: bool) {
     }
 }
 
-// Rule 2 needs one byte more than its limit.
 fn main() {
-    let mut text = [0u8; 32769];
+    let mut text = [0u8; TEXT_ROOM];
     let input = streams::read_input(&mut text);
     let n = input.bytes;
     report_input(&text[..n], input.whole);

@@ -2,16 +2,17 @@
 -- decimal digit, their value is the number, the first is not 0 unless the number is, and a number below 10 to the power k has at most k.
 use Prim.Native.Nat.{ℕ, zero, suc, _+_, _-_, _*_, _/_, _%_, _^_, _<_, _≤_}
 use native.Mathlib.Omega.{arith}
-use mathlib.Core.Path.{_≡_, refl, sym, ap, _∙_}
-use mathlib.Core.Bool.{Bool, true, false, cond}
+use mathlib.Core.Path.{_≡_, refl, ap}
 use mathlib.Core.List.{List, [], _∷_, _++_, List·Memᴰ, List·Memᴰ·append-cases, List·Memᴰ·eq-of-singleton, foldl}
 use mathlib.Core.Logic.{⊎-elim}
-use lib.Dec.{ltb}
 use lib.ListN.{length, getD, set, length-append, List·getD-append}
 use borrow.Author.Tests.{lt-ltb, le-ltb}
+use mir.Syntax.{w8, w64}
+use mir.Val.{Fits}
 use Rattle.laws.proofs.Tests.{lt-or-le}
-use Rattle.report_lines.specs.Lines.{digitsIn, digits, Wrote}
-use Rattle.report_lines.proofs.Writing.{wrote-none, wrote-byte}
+use Rattle.laws.specs.Wrote.{Wrote}
+use Rattle.report_lines.specs.Lines.{digitsIn, digits}
+use Rattle.laws.proofs.Wrote.{wrote-none, wrote-one}
 
 turns : (j k n : ℕ) → n < j → n < k → digitsIn j n ≡ digitsIn k n
 unfolding digitsIn
@@ -72,6 +73,13 @@ digits-short zero n h = rw (digits-one n (omega arith)) (omega arith)
 digits-short (suc k) n h = ⊎-elim (λ (s : n < 10). rw (digits-one n s) (omega arith))
     (λ (s : 10 ≤ n). let r = digits-short k (n / 10) (omega arith) in rw (digits-more n s, length-append) (omega arith)) (lt-or-le n 10)
 
+-- for the numbers of a machine, by their fit: these two are read by `omega` as rules
+pub number-short : (n : ℕ) → Fits w64 n → length (digits n) ≤ 20
+number-short n f = digits-short 19 n (omega (arith, f .fits))
+
+pub byte-short : (n : ℕ) → Fits w8 n → length (digits n) ≤ 3
+byte-short n f = digits-short 2 n (omega (arith, f .fits))
+
 pub digits-count : (n : ℕ) → 10 ≤ n → length (digits n) ≡ length (digits (n / 10)) + 1
 digits-count n h = rw (digits-more n h, length-append)
 
@@ -87,8 +95,11 @@ module _ (l : List ℕ) (at n : ℕ) (room : at + length (digits n) ≤ length l
   pub last-room : (l′ : List ℕ) (i : ℕ) → 10 ≤ n → Wrote l l′ at i (digits (n / 10)) → i < length l
   last-room l′ i h w = omega (arith, digits-count n h, w .place)
 
+  pub last-fits : (l′ : List ℕ) (i : ℕ) → 10 ≤ n → length l < 2 ^ 64 → Wrote l l′ at i (digits (n / 10)) → Fits w64 (i + 1)
+  last-fits l′ i h s w = record { fits = omega (arith, last-room l′ i h w) }
+
   pub put-one : n < 10 → Wrote l (set l at (48 + n)) at (at + 1) (digits n)
-  put-one h = rw (digits-one n h) (wrote-byte l l at at [] (48 + n) first-room (wrote-none l at (omega arith)))
+  put-one h = rw (digits-one n h) (wrote-one l l at at [] (48 + n) first-room (wrote-none l at (omega arith)))
 
   pub put-last : (l′ : List ℕ) (i : ℕ) → 10 ≤ n → Wrote l l′ at i (digits (n / 10)) → Wrote l (set l′ i (48 + n % 10)) at (i + 1) (digits n)
-  put-last l′ i h w = rw (digits-more n h) (wrote-byte l l′ at i (digits (n / 10)) (48 + n % 10) (last-room l′ i h w) w)
+  put-last l′ i h w = rw (digits-more n h) (wrote-one l l′ at i (digits (n / 10)) (48 + n % 10) (last-room l′ i h w) w)

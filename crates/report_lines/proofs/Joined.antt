@@ -1,35 +1,39 @@
 -- Lines one behind another, each within the same room: after k turns the first k lines are written, within k rooms.
-use Prim.Native.Nat.{ℕ, _+_, _*_, _/_, _%_, _^_, _<_, _≤_}
+use Prim.Native.Nat.{ℕ, _+_, _*_, _/_, _%_, _<_, _≤_}
 use native.Mathlib.Numerals.{add-one}
-use native.Mathlib.Nat.{add-zero, zero-mul, suc-mul, mul-le-mul-right}
+use native.Mathlib.Nat.{suc-mul, mul-le-mul-right}
 use native.Mathlib.Omega.{arith}
-use mathlib.Core.Path.{_≡_, refl, sym, ap, _∙_}
+use mathlib.Core.Path.{_≡_, sym, ap, _∙_}
 use mathlib.Core.List.{List, [], _∷_, _++_, append-nil, append-assoc}
 use lib.ListN.{length, take, getD, length-append}
 use lib.Seq.{take-suc, take-length}
-use Rattle.report_lines.specs.Lines.{digits, members, listed, pairLine, stuckLine, stepLine, procOpen, linesOf, Wrote}
-use Rattle.report_lines.proofs.Writing.{wrote-none, wrote-more, wrote-length}
-use Rattle.report_lines.proofs.Digits.{digits-short}
+use mir.Syntax.{w8, w16, w64}
+use mir.Val.{Fits}
+use Rattle.laws.specs.Wrote.{Wrote}
+use Rattle.report_lines.specs.Lines.{pairLine, stuckLine, stepLine, procOpen, linesOf, procOpenRoom, pairLineRoom, stuckLineRoom, stepLineRoom}
+use Rattle.laws.proofs.Wrote.{wrote-none, wrote-more, wrote-length}
+use Rattle.report_lines.proofs.Digits.{digits-short, number-short}
 use Rattle.report_lines.proofs.Members.{members-short}
 
 -- ---- how long a line is
 
-pub proc-short : (p : ℕ) → p < 2 ^ 64 → length (procOpen p) ≤ 27
+pub proc-short : (p : ℕ) → Fits w64 p → length (procOpen p) ≤ procOpenRoom
 unfolding procOpen
-proc-short p h = rw (length-append, length-append) (omega (arith, digits-short 19 p (omega arith)))
+proc-short p f = rw (length-append, length-append) (omega (arith, number-short p f))
 
-pub pair-short : (w : ℕ) → length (pairLine w) ≤ 202
+pub pair-short : (w : ℕ) → length (pairLine w) ≤ pairLineRoom
 unfolding pairLine
 pair-short w = rw (length-append, length-append, length-append) (omega (arith, digits-short 1 (w % 32) (omega arith), members-short (w / 32)))
 
-pub stuck-short : (m : ℕ) → length (stuckLine m) ≤ 200
+pub stuck-short : (m : ℕ) → Fits w8 m → length (stuckLine m) ≤ stuckLineRoom
 unfolding stuckLine
-stuck-short m = rw (length-append, length-append) (omega (arith, members-short m))
+stuck-short m f = rw (length-append, length-append) (omega (arith, members-short m))
 
-pub step-short : (e : ℕ) → e < 65536 → length (stepLine e) ≤ 14
+pub step-short : (e : ℕ) → Fits w16 e → length (stepLine e) ≤ stepLineRoom
 unfolding stepLine
-step-short e h =
-    rw (length-append, length-append, length-append, length-append) (omega (arith, digits-short 0 (e % 8) (omega arith), digits-short 3 (e / 8) (omega arith)))
+step-short e f =
+    rw (length-append, length-append, length-append, length-append)
+    (omega (arith, f .fits, digits-short 0 (e % 8) (omega arith), digits-short 3 (e / 8) (omega (arith, f .fits))))
 
 -- ---- the loop that writes a line for each number
 

@@ -1,4 +1,4 @@
--- Texts written one behind another, digits, members of a mask.
+-- Texts written one behind another, digits, members of a mask, the lines of these.
 pub mod Writing
 pub mod Digits
 pub mod Members

@@ -12,13 +12,16 @@ use lib.Count.{trailingZeros}
 use lib.Dec.{eqb}
 use lib.ListN.{length, length-append}
 use borrow.Author.Tests.{eq-eqb, ne-eqb}
+use mir.Syntax.{w8}
+use mir.Val.{Fits}
 use Rattle.laws.specs.Bytes.{bytes}
 use Rattle.laws.specs.Mask.{bit, inMask}
 use Rattle.laws.proofs.Bits.{bit-none}
 use Rattle.laws.proofs.Masks.{Lowest, trailing-lowest, trailing-lt, clear-digit, clear-lt}
 use Rattle.laws.proofs.Tests.{lt-or-le}
-use Rattle.report_lines.specs.Lines.{digits, members, listed, Wrote}
-use Rattle.report_lines.proofs.Writing.{wrote-none, wrote-more, wrote-length}
+use Rattle.laws.specs.Wrote.{Wrote}
+use Rattle.report_lines.specs.Lines.{digits, members, listed}
+use Rattle.laws.proofs.Wrote.{wrote-none, wrote-more, wrote-length}
 use Rattle.report_lines.proofs.Digits.{digits-short}
 
 members-none : (n m : ℕ) → ((k : ℕ) → k < n → bit m k ≡ 0) → members n m ≡ []
@@ -70,6 +73,10 @@ listed-short (suc n) m h = rw (listed-append, length-append) (go (inMask m n) (d
 
 pub members-short : (m : ℕ) → length (listed (members 64 m)) ≤ 192
 members-short m = listed-short 64 m (omega arith)
+
+-- the same of a mask of threads, as a rule of `omega`
+pub threads-short : (m : ℕ) → Fits w8 m → length (listed (members 64 m)) ≤ 192
+threads-short m f = members-short m
 
 -- ---- the loop of `put_members`
 

@@ -1,10 +1,8 @@
 -- The lines of the report, byte for byte. 01, "The report".
-use Prim.Native.Nat.{ℕ, zero, suc, _+_, _*_, _/_, _%_, _≤_}
+use Prim.Native.Nat.{ℕ, zero, suc, _+_, _*_, _/_, _%_}
 use mathlib.Core.Bool.{cond}
 use mathlib.Core.List.{List, [], _∷_, _++_}
-use mathlib.Core.Path.{_≡_}
 use lib.Dec.{ltb}
-use lib.ListN.{length, take, drop}
 use Rattle.laws.specs.Bytes.{bytes}
 use Rattle.laws.specs.Mask.{inMask}
 
@@ -27,16 +25,19 @@ unfoldable pub listed : List ℕ → List ℕ
 listed [] = []
 listed (k ∷ ks) = bytes " " ++ digits k ++ listed ks
 
--- "`(report`", "`(free)`", "`(deadlock`", "`)`"
+-- "The program prints `(report`"
 unfoldable pub reportOpen : List ℕ
 reportOpen = bytes "(report\n"
 
+-- "`(free)`"
 unfoldable pub freeLine : List ℕ
 freeLine = bytes "(free)\n"
 
+-- "`(deadlock`"
 unfoldable pub deadlockOpen : List ℕ
 deadlockOpen = bytes "(deadlock\n"
 
+-- "`)`"
 unfoldable pub closing : List ℕ
 closing = bytes ")\n"
 
@@ -48,7 +49,7 @@ procOpen p = bytes "(proc " ++ digits p ++ bytes "\n"
 unfoldable pub refusedLine : ℕ → ℕ → List ℕ
 refusedLine r l = bytes "(refused " ++ digits r ++ (bytes " " ++ digits l) ++ bytes ")\n"
 
--- "A pair line is `(pair L` with the wanted lock. The held locks follow, lowest number first": the word has the wanted lock in its 5 lowest bits, the mask of the
+-- "A pair line is `(pair L` with the wanted lock. The held locks follow, lowest number first": the pair has the wanted lock in its 5 lowest bits, the mask of the
 -- held locks above them
 unfoldable pub pairLine : ℕ → List ℕ
 pairLine w = bytes "(pair " ++ digits (w % 32) ++ listed (members 64 (w / 32)) ++ bytes ")\n"
@@ -68,37 +69,38 @@ linesOf line (x ∷ xs) = line x ++ linesOf line xs
 
 -- "for each procedure `(proc P` with its pairs and `)`"
 unfoldable pub procLines : ℕ → List ℕ → List ℕ
-procLines p words = procOpen p ++ linesOf pairLine words ++ closing
+procLines p pairs = procOpen p ++ linesOf pairLine pairs ++ closing
 
 -- "A deadlock is `(deadlock`, `(stuck T ..)` .., one `(step T C)` per entry (thread, choice), `)`."
 unfoldable pub deadlockLines : ℕ → List ℕ → List ℕ
 deadlockLines threads entries = deadlockOpen ++ stuckLine threads ++ linesOf stepLine entries ++ closing
 
--- bytes that suffice for each line, whatever the numbers: a machine number has at most 20 digits, one of 8 bits 3, a member of a mask of 64 digits 2
-abbrev pub procRoom : ℕ
-procRoom = 6 + 20 + 1
+-- ---- bytes that suffice for a line, whatever the numbers: a machine number has at most 20 digits, one of 8 bits 3, a member of a mask of 64 digits 2
 
-abbrev pub refusedRoom : ℕ
-refusedRoom = 9 + 3 + 1 + 20 + 2
+-- for `(proc P`
+abbrev pub procOpenRoom : ℕ
+procOpenRoom = 6 + 20 + 1
 
-abbrev pub pairRoom : ℕ
-pairRoom = 6 + 2 + 64 * 3 + 2
+-- for `(refused R L)`
+abbrev pub refusedLineRoom : ℕ
+refusedLineRoom = 9 + 3 + 1 + 20 + 2
 
-abbrev pub stuckRoom : ℕ
-stuckRoom = 6 + 64 * 3 + 2
+-- for `(pair L ..)`, with a blank before each held lock
+abbrev pub pairLineRoom : ℕ
+pairLineRoom = 6 + 2 + 64 * 3 + 2
 
-abbrev pub stepRoom : ℕ
-stepRoom = 6 + 1 + 1 + 4 + 2
+-- for `(stuck T ..)`, with a blank before each thread
+abbrev pub stuckLineRoom : ℕ
+stuckLineRoom = 6 + 64 * 3 + 2
 
--- and for several: n pairs of a procedure, n entries of a schedule
+-- for `(step T C)`: an entry of 16 bits has a thread of one digit and a choice of at most 4
+abbrev pub stepLineRoom : ℕ
+stepLineRoom = 6 + 1 + 1 + 4 + 2
+
+-- for a procedure with n pairs
 abbrev pub procLinesRoom : ℕ → ℕ
-procLinesRoom n = procRoom + n * pairRoom + 2
+procLinesRoom n = procOpenRoom + n * pairLineRoom + 2
 
+-- for a deadlock with n entries
 abbrev pub deadlockRoom : ℕ → ℕ
-deadlockRoom n = 10 + stuckRoom + n * stepRoom + 2
-
--- l′ is l with the text written over it at a place, and `next` the place behind the text, within the buffer
-pub record Wrote (l l′ : List ℕ) (at next : ℕ) (text : List ℕ) : Type 0 where
-  pub place : next ≡ at + length text
-  pub fits : next ≤ length l
-  pub written : l′ ≡ take at l ++ text ++ drop next l
+deadlockRoom n = 10 + stuckLineRoom + n * stepLineRoom + 2

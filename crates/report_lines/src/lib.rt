@@ -1,12 +1,12 @@
 // The lines of the report into a lent buffer, one behind another. Each function writes at a place and answers the place behind what it wrote; the rest of the buffer
 // is kept.
-ghost use mathlib.Core.Path.{_≡_};
 ghost use mathlib.Core.List.{_++_};
 ghost use Prim.Native.Nat.{_+_, _*_, _≤_};
 ghost use lib.ListN.{length};
+ghost use Rattle.laws.specs.Wrote.{Wrote};
 ghost use Rattle.report_lines.specs.Lines.{digits, members, listed, procOpen, refusedLine, pairLine, stuckLine, stepLine};
 ghost use Rattle.report_lines.specs.Lines.{linesOf, procLines, deadlockLines};
-ghost use Rattle.report_lines.specs.Lines.{procRoom, refusedRoom, pairRoom, stuckRoom, stepRoom, procLinesRoom, deadlockRoom, Wrote};
+ghost use Rattle.report_lines.specs.Lines.{procOpenRoom, refusedLineRoom, pairLineRoom, stuckLineRoom, stepLineRoom, procLinesRoom, deadlockRoom};
 
 // A text as it is.
 pub fn put_text(out: &mut [u8], at: usize, text: &[u8]) -> usize
@@ -35,12 +35,12 @@ fn put_digits(out: &mut [u8], at: usize, n: u64) -> usize
     i + 1
 }
 
-// A word and a number.
-fn put_numbered(out: &mut [u8], at: usize, word: &[u8], n: u64) -> usize
-    requires { ⌜ at + length (now word ++ digits n) ≤ length (now out) ⌝ }
-    ensures { λ r. ⌜ Wrote (now (out .entry)) (now (out .exit)) at r (now (word .entry) ++ digits n) ⌝ }
+// A keyword and a number.
+fn put_numbered(out: &mut [u8], at: usize, keyword: &[u8], n: u64) -> usize
+    requires { ⌜ at + length (now keyword ++ digits n) ≤ length (now out) ⌝ }
+    ensures { λ r. ⌜ Wrote (now (out .entry)) (now (out .exit)) at r (now (keyword .entry) ++ digits n) ⌝ }
 {
-    let i = put_text(out, at, word);
+    let i = put_text(out, at, keyword);
     put_digits(out, i, n)
 }
 
@@ -60,8 +60,8 @@ fn put_members(out: &mut [u8], at: usize, mask: u64) -> usize
 }
 
 // `(proc P`
-pub fn put_proc(out: &mut [u8], at: usize, p: usize) -> usize
-    requires { ⌜ at + procRoom ≤ length (now out) ⌝ }
+fn put_proc(out: &mut [u8], at: usize, p: usize) -> usize
+    requires { ⌜ at + procOpenRoom ≤ length (now out) ⌝ }
     ensures { λ r. ⌜ Wrote (now (out .entry)) (now (out .exit)) at r (procOpen p) ⌝ }
 {
     let i = put_numbered(out, at, b"(proc ", p as u64);
@@ -70,7 +70,7 @@ pub fn put_proc(out: &mut [u8], at: usize, p: usize) -> usize
 
 // `(refused R L)`
 pub fn put_refused(out: &mut [u8], at: usize, rule: u8, line: usize) -> usize
-    requires { ⌜ at + refusedRoom ≤ length (now out) ⌝ }
+    requires { ⌜ at + refusedLineRoom ≤ length (now out) ⌝ }
     ensures { λ r. ⌜ Wrote (now (out .entry)) (now (out .exit)) at r (refusedLine rule line) ⌝ }
 {
     let i = put_numbered(out, at, b"(refused ", rule as u64);
@@ -78,21 +78,21 @@ pub fn put_refused(out: &mut [u8], at: usize, rule: u8, line: usize) -> usize
     put_text(out, j, b")\n")
 }
 
-// `(pair L ..)`, of a pair's word
-pub fn put_pair(out: &mut [u8], at: usize, word: u64) -> usize
-    requires { ⌜ at + pairRoom ≤ length (now out) ⌝ }
-    ensures { λ r. ⌜ Wrote (now (out .entry)) (now (out .exit)) at r (pairLine word) ⌝ }
+// `(pair L ..)`, of a pair
+fn put_pair(out: &mut [u8], at: usize, pair: u64) -> usize
+    requires { ⌜ at + pairLineRoom ≤ length (now out) ⌝ }
+    ensures { λ r. ⌜ Wrote (now (out .entry)) (now (out .exit)) at r (pairLine pair) ⌝ }
 {
-    let wanted = locks::wanted_in(word);
-    let held = locks::held_in(word);
+    let wanted = locks::wanted_in(pair);
+    let held = locks::held_in(pair);
     let i = put_numbered(out, at, b"(pair ", wanted);
     let j = put_members(out, i, held);
     put_text(out, j, b")\n")
 }
 
 // `(stuck T ..)`, of a mask of threads
-pub fn put_stuck(out: &mut [u8], at: usize, threads: u8) -> usize
-    requires { ⌜ at + stuckRoom ≤ length (now out) ⌝ }
+fn put_stuck(out: &mut [u8], at: usize, threads: u8) -> usize
+    requires { ⌜ at + stuckLineRoom ≤ length (now out) ⌝ }
     ensures { λ r. ⌜ Wrote (now (out .entry)) (now (out .exit)) at r (stuckLine threads) ⌝ }
 {
     let i = put_text(out, at, b"(stuck");
@@ -101,8 +101,8 @@ pub fn put_stuck(out: &mut [u8], at: usize, threads: u8) -> usize
 }
 
 // `(step T C)`, of a schedule's entry
-pub fn put_step(out: &mut [u8], at: usize, entry: u16) -> usize
-    requires { ⌜ at + stepRoom ≤ length (now out) ⌝ }
+fn put_step(out: &mut [u8], at: usize, entry: u16) -> usize
+    requires { ⌜ at + stepLineRoom ≤ length (now out) ⌝ }
     ensures { λ r. ⌜ Wrote (now (out .entry)) (now (out .exit)) at r (stepLine entry) ⌝ }
 {
     let thread = locks::thread_in(entry as u64);
@@ -112,26 +112,26 @@ pub fn put_step(out: &mut [u8], at: usize, entry: u16) -> usize
     put_text(out, j, b")\n")
 }
 
-// The lines of pairs, in the order of their words.
-pub fn put_pairs(out: &mut [u8], at: usize, words: &[u64]) -> usize
-    requires { ⌜ at + length (now words) * pairRoom ≤ length (now out) ⌝ }
-    ensures { λ r. ⌜ Wrote (now (out .entry)) (now (out .exit)) at r (linesOf pairLine (now (words .entry))) ⌝ }
-    ensures { λ r. ⌜ r ≤ at + length (now (words .entry)) * pairRoom ⌝ }
+// The lines of pairs, in order.
+fn put_pairs(out: &mut [u8], at: usize, pairs: &[u64]) -> usize
+    requires { ⌜ at + length (now pairs) * pairLineRoom ≤ length (now out) ⌝ }
+    ensures { λ r. ⌜ Wrote (now (out .entry)) (now (out .exit)) at r (linesOf pairLine (now (pairs .entry))) ⌝ }
+    ensures { λ r. ⌜ r ≤ at + length (now (pairs .entry)) * pairLineRoom ⌝ }
 {
     let mut i = at;
     let mut k: usize = 0;
-    while k < words.len() {
-        i = put_pair(out, i, words[k]);
+    while k < pairs.len() {
+        i = put_pair(out, i, pairs[k]);
         k += 1;
     }
     i
 }
 
 // The lines of a schedule, entry by entry.
-pub fn put_steps(out: &mut [u8], at: usize, entries: &[u16]) -> usize
-    requires { ⌜ at + length (now entries) * stepRoom ≤ length (now out) ⌝ }
+fn put_steps(out: &mut [u8], at: usize, entries: &[u16]) -> usize
+    requires { ⌜ at + length (now entries) * stepLineRoom ≤ length (now out) ⌝ }
     ensures { λ r. ⌜ Wrote (now (out .entry)) (now (out .exit)) at r (linesOf stepLine (now (entries .entry))) ⌝ }
-    ensures { λ r. ⌜ r ≤ at + length (now (entries .entry)) * stepRoom ⌝ }
+    ensures { λ r. ⌜ r ≤ at + length (now (entries .entry)) * stepLineRoom ⌝ }
 {
     let mut i = at;
     let mut k: usize = 0;
@@ -143,12 +143,12 @@ pub fn put_steps(out: &mut [u8], at: usize, entries: &[u16]) -> usize
 }
 
 // A procedure: `(proc P`, its pairs, `)`
-pub fn put_proc_lines(out: &mut [u8], at: usize, p: usize, words: &[u64]) -> usize
-    requires { ⌜ at + procLinesRoom (length (now words)) ≤ length (now out) ⌝ }
-    ensures { λ r. ⌜ Wrote (now (out .entry)) (now (out .exit)) at r (procLines p (now (words .entry))) ⌝ }
+pub fn put_proc_lines(out: &mut [u8], at: usize, p: usize, pairs: &[u64]) -> usize
+    requires { ⌜ at + procLinesRoom (length (now pairs)) ≤ length (now out) ⌝ }
+    ensures { λ r. ⌜ Wrote (now (out .entry)) (now (out .exit)) at r (procLines p (now (pairs .entry))) ⌝ }
 {
     let i = put_proc(out, at, p);
-    let j = put_pairs(out, i, words);
+    let j = put_pairs(out, i, pairs);
     put_text(out, j, b")\n")
 }
 

@@ -1,60 +1,61 @@
 -- What each function of the report writes is its part. The parts are a list: behind the opening as many procedures as are reported, then the verdict and the closing
 -- line, so the place of a part says which of these it is.
-use Prim.Native.Nat.{ℕ, zero, suc, _+_, _-_, _*_, _<_, _≤_}
+use Prim.Native.Nat.{ℕ, zero, suc, _+_, _-_, _<_, _≤_}
 use native.Mathlib.Nat.{not-suc-le-zero, le-of-suc-le-suc}
 use native.Mathlib.Omega.{arith}
-use mathlib.Core.Path.{_≡_, refl, sym, ap, subst, _∙_}
+use mathlib.Core.Path.{_≡_, refl, sym, subst}
 use mathlib.Core.List.{List, [], _∷_}
-use lib.ListN.{length, take, drop, getD, length-take}
-use lib.Seq.{take-at}
+use lib.ListN.{length, take, getD, length-take}
+use Rattle.limits.specs.Limits.{maxPairs, maxEntries}
 use Rattle.laws.specs.Bytes.{bytes}
 use Rattle.text.specs.declared.Refusal.{Refusal}
 use Rattle.semantics.specs.Plan.{Block}
 use Rattle.semantics.specs.Pairs.{pairList}
 use Rattle.plan.specs.Rules.{planOf}
-use Rattle.plan.specs.Settled.{tablePlan}
-use Rattle.plan.specs.Starts.{Starts}
-use Rattle.pairs.specs.Promises.{PairWords}
+use Rattle.plan.specs.Settled.{tablePlan, RulesKept}
+use Rattle.procs.specs.declared.Layout.{Layout}
+use Rattle.procs.specs.Laid.{Laid}
+use Rattle.pairs.specs.Promises.{PairsCollected}
 use Rattle.pairs.proofs.Lists.{few-pairs, pairs-listed}
-use Rattle.deadlock.specs.Findings.{Within}
-use Rattle.report_lines.specs.Lines.{reportOpen, freeLine, closing, procLines, deadlockLines, refusedLine, procLinesRoom, deadlockRoom, Wrote}
-use Rattle.report_lines.proofs.Writing.{wrote-none}
-use Rattle.report_text.specs.declared.Judged.{Judged}
+use Rattle.laws.specs.Wrote.{Wrote}
+use Rattle.report_lines.specs.Lines.{reportOpen, freeLine, closing, procLines, deadlockLines, refusedLine, procLinesRoom, deadlockRoom}
+use Rattle.laws.proofs.Wrote.{wrote-none, wrote-start}
+use Rattle.report_text.specs.declared.Findings.{Findings}
 use Rattle.answers.specs.declared.Verdict.{Verdict}
 use Rattle.answers.specs.declared.Verdict.the-variants.{Free, Deadlock, Refused}
 use Rattle.report_text.specs.Report.{procedures, procParts, verdictPart, partsOf, partOf}
-use Rattle.report_text.specs.Tables.{entryRoom, partRoom, scheduleLength, scheduleIn, ProcTables, Prepared}
+use Rattle.report_text.specs.Tables.{partRoom, scheduleLength, scheduleIn, ProcTables, Prepared}
 
 -- ---- a procedure
 
-module _ (ws : List ℕ) (p procs n : ℕ) (before list : List ℕ) (w : Within ws) (c : procs ≡ length (tablePlan ws .procs)) (h : p < procs)
-    (k : PairWords (tablePlan ws .procs) p before n list) where
-  count : n ≡ length (pairList (tablePlan ws .procs) p)
-  count = pairs-listed ws p (w .pairs) (omega arith) before n list k .count
+module _ (ws : List ℕ) (l : Layout) (p n : ℕ) (before list : List ℕ) (w : RulesKept ws) (d : Laid ws l) (h : p < l .procs)
+    (k : PairsCollected (tablePlan ws .procs) p before n list) where
+  there : p < length (tablePlan ws .procs)
+  there = omega (arith, d .procs-all)
 
-  words : take (n - 0) list ≡ pairList (tablePlan ws .procs) p
-  words =
-      let e : n - 0 ≡ length (pairList (tablePlan ws .procs) p) = omega (arith, count) in
-      ap (take (n - 0)) (pairs-listed ws p (w .pairs) (omega arith) before n list k .list) ∙ take-at (pairList (tablePlan ws .procs) p) (drop n before) (n - 0) (sym e)
+  pairs : take (n - 0) list ≡ pairList (tablePlan ws .procs) p
+  pairs =
+      let e : n - 0 ≡ n = omega arith in
+      rw e (wrote-start before list 0 n (pairList (tablePlan ws .procs) p) (pairs-listed ws p (w .pairs) there before n list k) refl)
 
-  few : length (take (n - 0) list) ≤ 128
-  few = rw words (few-pairs ws p (w .pairs) (omega arith))
+  few : length (take (n - 0) list) ≤ maxPairs
+  few = rw pairs (few-pairs ws p (w .pairs) there)
 
   pub procedure-room : (out : List ℕ) → partRoom ≤ length out → 0 + procLinesRoom (length (take (n - 0) list)) ≤ length out
   procedure-room out r = omega (arith, few)
 
   pub procedure-lines : (out out′ : List ℕ) (i : ℕ) → Wrote out out′ 0 i (procLines p (take (n - 0) list)) → Wrote out out′ 0 i (procLines p (pairList (tablePlan ws .procs) p))
-  procedure-lines out out′ i v = subst (λ l. Wrote out out′ 0 i (procLines p l)) words v
+  procedure-lines out out′ i v = subst (λ l. Wrote out out′ 0 i (procLines p l)) pairs v
 
-module _ (j : Judged) (table : List ℕ) (t : ProcTables j table) where
-  pub table-within : Within (take (j .forms - 0) table)
-  table-within = let e : j .forms - 0 ≡ j .forms = omega arith in rw e (t .within)
+module _ (j : Findings) (table : List ℕ) (t : ProcTables j table) where
+  pub table-rules : RulesKept (take (j .forms - 0) table)
+  table-rules = let e : j .forms - 0 ≡ j .forms = omega arith in rw e (t .within)
 
-  pub table-starts : Starts (take (j .forms - 0) table) (j .starts)
-  table-starts = let e : j .forms - 0 ≡ j .forms = omega arith in rw e (t .starts)
+  pub table-laid : Laid (take (j .forms - 0) table) (j .layout)
+  table-laid = let e : j .forms - 0 ≡ j .forms = omega arith in rw e (t .laid)
 
-  pub table-procs : j .procs ≡ length (tablePlan (take (j .forms - 0) table) .procs)
-  table-procs = let e : j .forms - 0 ≡ j .forms = omega arith in rw e (t .procs)
+  pub table-procs : (p : ℕ) → p < j .procs → p < j .layout .procs
+  table-procs p h = omega (arith, t .procs)
 
   pub table-lines : (p i : ℕ) (out out′ : List ℕ) → Wrote out out′ 0 i (procLines p (pairList (tablePlan (take (j .forms - 0) table) .procs) p))
       → Wrote out out′ 0 i (procLines p (pairList (tablePlan (take (j .forms) table) .procs) p))
@@ -77,7 +78,7 @@ module _ (v : Verdict) (n S : ℕ) (entries : List ℕ) (g : v ≡ Deadlock n S)
   unfolding scheduleLength
   schedule-within h = rw g at h
 
-  pub schedule-room : (out : List ℕ) → length entries ≤ entryRoom → partRoom ≤ length out → 0 + deadlockRoom (length (take (n - 0) entries)) ≤ length out
+  pub schedule-room : (out : List ℕ) → maxEntries ≡ length entries → partRoom ≤ length out → 0 + deadlockRoom (length (take (n - 0) entries)) ≤ length out
   schedule-room out h k = rw length-take (omega arith)
 
   pub deadlock-part : (out out′ : List ℕ) (i : ℕ) → Wrote out out′ 0 i (deadlockLines S (take (n - 0) entries)) → Wrote out out′ 0 i (verdictPart v (scheduleIn v entries))
@@ -108,7 +109,7 @@ pub part-open : (text schedule out out′ : List ℕ) (v : Verdict) (k i : ℕ) 
 unfolding partsOf reportOpen
 part-open text schedule out out′ v k i e w = rw e w
 
-module _ (text : List ℕ) (j : Judged) (table entries : List ℕ) (x : Prepared text j table entries) (out out′ : List ℕ) (k i : ℕ) where
+module _ (text : List ℕ) (j : Findings) (table entries : List ℕ) (x : Prepared text j table entries) (out out′ : List ℕ) (k i : ℕ) where
   pub part-procedure : (k ≡ 0 → ⊥) → k ≤ j .procs
       → Wrote out out′ 0 i (procLines (k - 1) (pairList (tablePlan (take (j .forms) table) .procs) (k - 1))) → Wrote out out′ 0 i (partOf text (j .verdict) (scheduleIn (j .verdict) entries) k)
   unfolding partsOf

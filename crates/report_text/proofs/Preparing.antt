@@ -1,28 +1,30 @@
 -- What a text leaves in the tables: those of its plan where it is accepted, and else the refusal, with no procedure to report.
 use Prim.Native.Nat.{ℕ, _-_, _<_, _≤_}
 use native.Mathlib.Omega.{arith}
-use mathlib.Core.Path.{_≡_, refl, sym, ap, subst, _∙_}
+use mathlib.Core.Path.{_≡_, refl, sym, ap, _∙_}
 use mathlib.Core.List.{List}
-use mathlib.Core.Option.{Option, none, some, Option·none-ne-some}
+use mathlib.Core.Option.{Option, none, Option·none-ne-some}
 use lib.ListN.{length, take, length-take}
 use lib.Seq.{length-take-le, take-at}
+use Rattle.limits.specs.Limits.{maxForms}
 use Rattle.semantics.specs.Plan.{LockPlan}
 use Rattle.plan.specs.declared.Reading.{Reading}
 use Rattle.plan.specs.declared.Reading.the-variants.{Accepted}
 use Rattle.plan.specs.declared.Reading.the-variants as plan
 use Rattle.plan.specs.Grammar.{planIn}
 use Rattle.text.specs.declared.Refusal.{Refusal}
-use Rattle.plan.specs.Rules.{planRefusal, planOf, readingOf, Tabled}
+use Rattle.plan.specs.Rules.{planRefusal, planOf, Tabled}
 use Rattle.plan.specs.Settled.{tablePlan}
-use Rattle.checked.proofs.Checked.{plan-kept, plan-forms, plan-room, plan-table, plan-sizes, plan-few}
-use Rattle.deadlock.specs.Findings.{Within, Found}
-use Rattle.report_text.specs.declared.Judged.{Judged}
+use Rattle.plan.proofs.AcceptedTable.{plan-kept, plan-forms, plan-room, rules-kept}
+use Rattle.plan.proofs.Filling.{refused-is}
+use Rattle.deadlock.specs.Findings.{TableJudged}
+use Rattle.report_text.specs.declared.Findings.{Findings}
 use Rattle.answers.specs.declared.Verdict.{Verdict}
 use Rattle.answers.specs.declared.Verdict.the-variants.{Free, Deadlock, Refused}
-use Rattle.answers.specs.Answers.{filled}
+use Rattle.laws.specs.Wrote.{filled}
 use Rattle.answers.specs.Judgement.{Judgement}
 use Rattle.report_text.specs.Report.{procedures}
-use Rattle.report_text.specs.Tables.{tableRoom, scheduleLength, scheduleIn, PlanPrepared, Prepared, ProcTables}
+use Rattle.report_text.specs.Tables.{scheduleLength, scheduleIn, PlanPrepared, Prepared, ProcTables}
 
 start-taken : (refused : Option Refusal) (plan : LockPlan) (v : Verdict) (schedule before : List ℕ) → Judgement refused plan v schedule
     → scheduleIn v (filled schedule before) ≡ schedule
@@ -31,7 +33,7 @@ start-taken refused plan Free schedule before d = sym (d .1)
 start-taken refused plan (Deadlock n S) schedule before d = take-at schedule _ n (d .1)
 start-taken refused plan (Refused x) schedule before d = sym (d .1)
 
-pub found-judged : (ws before after : List ℕ) (v : Verdict) → Found ws before v after → Judgement none (tablePlan ws) v (scheduleIn v after)
+pub found-judged : (ws before after : List ℕ) (v : Verdict) → TableJudged ws before v after → Judgement none (tablePlan ws) v (scheduleIn v after)
 found-judged ws before after v d = rw (d .buffer, start-taken none (tablePlan ws) v (d .schedule) before (d .judged)) (d .judged)
 
 -- ---- an accepted text
@@ -43,10 +45,7 @@ no-refusal-procedures plan (Deadlock n S) schedule d = refl
 no-refusal-procedures plan (Refused x) schedule d = absurd (Option·none-ne-some x (d .0))
 
 module _ (text table : List ℕ) (q : Reading) (n : ℕ) (t : Tabled (planRefusal text) text q table) (g : q ≡ Accepted n) where
-  pub plan-within : Within (take (n - 0) table)
-  plan-within = record { plan = plan-table text table q n t g; sizes = plan-sizes text table q n t g; pairs = plan-few text table q n t g }
-
-  pub plan-prepared : (table₀ entries : List ℕ) (j : Judged) → tableRoom ≤ length table₀ → length table ≡ length table₀ → PlanPrepared (take (n - 0) table) j entries
+  pub plan-prepared : (table₀ entries : List ℕ) (j : Findings) → maxForms ≤ length table₀ → length table ≡ length table₀ → PlanPrepared (take (n - 0) table) j entries
       → Prepared text j table entries
   unfolding planOf
   plan-prepared table₀ entries j a b x =
@@ -57,18 +56,13 @@ module _ (text table : List ℕ) (q : Reading) (n : ℕ) (t : Tabled (planRefusa
       let judged = rw same at (x .judged) in
       record {
         judged = rw kept judged;
-        reported = x .procs ∙ rw (← same) (no-refusal-procedures (tablePlan (take (n - 0) table)) (j .verdict) _ (x .judged));
-        tables = λ _. (rw e (record { room = omega arith; within = plan-within; procs = x .procs; starts = x .starts; full = x .full }), rw e same);
+        reported = x .procs ∙ x .laid .procs-all ∙ rw (← same) (no-refusal-procedures (tablePlan (take (n - 0) table)) (j .verdict) _ (x .judged));
+        tables = λ _. (rw e (record { room = omega arith; within = rules-kept text table q n t g; procs = x .procs; laid = x .laid }), rw e same);
       }
 
 -- ---- a refused text
 
-refused-is : (o : Option Refusal) (m : ℕ) (x : Refusal) → readingOf o m ≡ plan.Refused x → o ≡ some x
-unfolding readingOf
-refused-is none m x e = let z : _≡_ {A = ℕ} 1 0 = cc in absurd (omega arith)
-refused-is (some w) m x e = let k : w ≡ x = cc in ap {B = Option Refusal} some k
-
-pub refused-prepared : (text table entries : List ℕ) (q : Reading) (x : Refusal) (j : Judged) → Tabled (planRefusal text) text q table → q ≡ plan.Refused x
+pub refused-prepared : (text table entries : List ℕ) (q : Reading) (x : Refusal) (j : Findings) → Tabled (planRefusal text) text q table → q ≡ plan.Refused x
     → j .verdict ≡ Refused x → j .procs ≡ 0 → Prepared text j table entries
 unfolding Judgement procedures scheduleIn scheduleLength
 refused-prepared text table entries q x j t g v p = record {
@@ -85,10 +79,10 @@ schedule-fits o plan Free entries d = omega arith
 schedule-fits o plan (Deadlock n S) entries d = let e : length (take n entries) ≡ n = d .1 in omega (arith, rw length-take at e)
 schedule-fits o plan (Refused x) entries d = omega arith
 
-pub judged-schedule : (text table entries : List ℕ) (j : Judged) (v : Verdict) → v ≡ j .verdict → Prepared text j table entries → scheduleLength v ≤ length entries
+pub judged-schedule : (text table entries : List ℕ) (j : Findings) (v : Verdict) → v ≡ j .verdict → Prepared text j table entries → scheduleLength v ≤ length entries
 judged-schedule text table entries j v e x = rw e (schedule-fits (planRefusal text) (planOf text) (j .verdict) entries (x .judged))
 
-module _ (text table entries : List ℕ) (j : Judged) (k : ℕ) (x : Prepared text j table entries) (h : k ≡ 0 → ⊥) (b : k ≤ j .procs) where
+module _ (text table entries : List ℕ) (j : Findings) (k : ℕ) (x : Prepared text j table entries) (h : k ≡ 0 → ⊥) (b : k ≤ j .procs) where
   pub judged-tables : ProcTables j table
   judged-tables = x .tables (omega (arith, h)) .0
 

@@ -1,25 +1,25 @@
--- The parts joined are a report on the text (`parts-report`). No byte is written exactly past the last part (`last-part`), and no text has more than 67 (`few-parts`).
+-- The parts joined are a report on the text (`parts-report`). No byte is written exactly past the last part (`last-part`), and no text has more than a part for each of the procedures that rule 5 allows and three more (`few-parts`).
 use Prim.Native.Nat.{ℕ, zero, suc, _+_, _<_, _≤_}
 use native.Mathlib.Nat.{not-suc-le-zero, le-of-suc-le-suc}
 use native.Mathlib.Omega.{arith}
-use mathlib.Core.Path.{_≡_, refl, sym, ap, _∙_}
+use mathlib.Core.Path.{_≡_, refl, ap}
 use mathlib.Core.List.{List, [], _∷_, flatten}
 use mathlib.Core.Logic.{_↔_, ⊎-elim}
-use mathlib.Core.Option.{none}
 use lib.ListN.{length, getD, List·getD-eq-default}
+use Rattle.limits.specs.Limits.{maxProcs}
 use Rattle.laws.proofs.Tests.{first-none, lt-or-le}
 use Rattle.semantics.specs.Plan.{Block}
 use Rattle.plan.specs.Rules.{planRefusal, planOf, readerRefusal}
 use Rattle.plan.proofs.Sound.{accepted-settled}
 use Rattle.report_lines.specs.Lines.{reportOpen, freeLine, closing, procOpen, procLines, deadlockOpen, deadlockLines, refusedLine}
-use Rattle.report_text.specs.declared.Judged.{Judged}
+use Rattle.report_text.specs.declared.Findings.{Findings}
 use Rattle.answers.specs.declared.Verdict.{Verdict}
 use Rattle.answers.specs.declared.Verdict.the-variants.{Free, Deadlock, Refused}
 use Rattle.answers.specs.Judgement.{Judgement}
 use Rattle.report_text.specs.Report.{procedures, procParts, verdictPart, partsOf, partOf, Report}
 use Rattle.report_text.specs.Tables.{mostParts, scheduleIn, Prepared}
 
-pub parts-report : (text table entries : List ℕ) (j : Judged) → Prepared text j table entries
+pub parts-report : (text table entries : List ℕ) (j : Findings) → Prepared text j table entries
     → Report text (flatten (partsOf text (j .verdict) (scheduleIn (j .verdict) entries)))
 parts-report text table entries j x = record { verdict = j .verdict; schedule = scheduleIn (j .verdict) entries; judged = x .judged; joined = refl }
 
@@ -73,7 +73,7 @@ unfolding procParts
 procedures-length ps rest zero p = omega arith
 procedures-length ps rest (suc n) p = omega (arith, procedures-length ps rest n (suc p))
 
-few-procedures : (text : List ℕ) (v : Verdict) (schedule : List ℕ) → Judgement (planRefusal text) (planOf text) v schedule → procedures v (planOf text) ≤ 64
+few-procedures : (text : List ℕ) (v : Verdict) (schedule : List ℕ) → Judgement (planRefusal text) (planOf text) v schedule → procedures v (planOf text) ≤ maxProcs
 unfolding Judgement procedures planRefusal
 few-procedures text Free schedule d = accepted-settled text (first-none (readerRefusal text) _ (d .0) .0) .few-procs
 few-procedures text (Deadlock n S) schedule d = accepted-settled text (first-none (readerRefusal text) _ (d .0) .0) .few-procs

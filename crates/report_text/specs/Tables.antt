@@ -1,33 +1,27 @@
 -- The tables that a report is written from, and their room.
-use Prim.Native.Nat.{ℕ, _≤_, _<_}
+use Prim.Native.Nat.{ℕ, _+_, _≤_, _<_}
 use mathlib.Core.List.{List}
 use mathlib.Core.Option.{none}
 use mathlib.Core.Path.{_≡_}
 use lib.ListN.{length, take}
+use Rattle.limits.specs.Limits.{maxProcs, maxEntries}
 use Rattle.plan.specs.Rules.{planOf, planRefusal}
-use Rattle.plan.specs.Settled.{tablePlan}
-use Rattle.plan.specs.Starts.{Starts}
-use Rattle.deadlock.specs.Findings.{Within}
+use Rattle.plan.specs.Settled.{tablePlan, RulesKept}
+use Rattle.procs.specs.Laid.{Laid}
 use Rattle.report_lines.specs.Lines.{deadlockRoom}
-use Rattle.report_text.specs.declared.Judged.{Judged}
+use Rattle.report_text.specs.declared.Findings.{Findings}
 use Rattle.answers.specs.declared.Verdict.{Verdict}
 use Rattle.answers.specs.declared.Verdict.the-variants.{Free, Deadlock, Refused}
 use Rattle.answers.specs.Judgement.{Judgement}
 use Rattle.report_text.specs.Report.{procedures}
 
--- the room for the forms of a text, for the entries of a schedule, and for a part of the report, of which the lines of a deadlock are the longest
-abbrev pub tableRoom : ℕ
-tableRoom = 16384
-
-abbrev pub entryRoom : ℕ
-entryRoom = 6144
-
+-- the room for a part of the report, of which the lines of a deadlock are the longest
 abbrev pub partRoom : ℕ
-partRoom = deadlockRoom entryRoom
+partRoom = deadlockRoom maxEntries
 
--- no report has more parts: the opening, 64 procedures, the verdict, the closing line
+-- no report has more parts: the opening, the procedures, the verdict, the closing line
 abbrev pub mostParts : ℕ
-mostParts = 67
+mostParts = maxProcs + 3
 
 -- how many entries a verdict's schedule has
 unfoldable pub scheduleLength : Verdict → ℕ
@@ -39,24 +33,22 @@ scheduleLength (Refused x) = 0
 unfoldable pub scheduleIn : Verdict → List ℕ → List ℕ
 scheduleIn v entries = take (scheduleLength v) entries
 
--- the table holds a plan within the rules, and the places of its procedures are known
-pub record ProcTables (j : Judged) (table : List ℕ) : Type 0 where
-  pub room : j .forms ≤ length table
-  pub within : Within (take (j .forms) table)
-  pub procs : j .procs ≡ length (tablePlan (take (j .forms) table) .procs)
-  pub starts : Starts (take (j .forms) table) (j .starts)
-  pub full : 64 ≡ length (j .starts)
+-- the table holds a plan within the rules, and its layout is known
+pub record ProcTables (f : Findings) (table : List ℕ) : Type 0 where
+  pub room : f .forms ≤ length table
+  pub within : RulesKept (take (f .forms) table)
+  pub procs : f .procs ≡ f .layout .procs
+  pub laid : Laid (take (f .forms) table) (f .layout)
 
 -- the plan of a table is judged
-pub record PlanPrepared (ws : List ℕ) (j : Judged) (entries : List ℕ) : Type 0 where
-  pub forms : j .forms ≡ length ws
-  pub procs : j .procs ≡ length (tablePlan ws .procs)
-  pub starts : Starts ws (j .starts)
-  pub full : 64 ≡ length (j .starts)
-  pub judged : Judgement none (tablePlan ws) (j .verdict) (scheduleIn (j .verdict) entries)
+pub record PlanPrepared (ws : List ℕ) (f : Findings) (entries : List ℕ) : Type 0 where
+  pub forms : f .forms ≡ length ws
+  pub procs : f .procs ≡ f .layout .procs
+  pub laid : Laid ws (f .layout)
+  pub judged : Judgement none (tablePlan ws) (f .verdict) (scheduleIn (f .verdict) entries)
 
 -- A text is judged: the verdict is that on the text, its procedures are those that the report has, and where there are any the table holds them.
-pub record Prepared (text : List ℕ) (j : Judged) (table entries : List ℕ) : Type 0 where
-  pub judged : Judgement (planRefusal text) (planOf text) (j .verdict) (scheduleIn (j .verdict) entries)
-  pub reported : j .procs ≡ procedures (j .verdict) (planOf text)
-  pub tables : 0 < j .procs → ProcTables j table × (tablePlan (take (j .forms) table) ≡ planOf text)
+pub record Prepared (text : List ℕ) (f : Findings) (table entries : List ℕ) : Type 0 where
+  pub judged : Judgement (planRefusal text) (planOf text) (f .verdict) (scheduleIn (f .verdict) entries)
+  pub reported : f .procs ≡ procedures (f .verdict) (planOf text)
+  pub tables : 0 < f .procs → ProcTables f table × (tablePlan (take (f .forms) table) ≡ planOf text)

@@ -6,12 +6,12 @@ use mathlib.Core.List.{List, [], _∷_}
 use mathlib.Core.Logic.{_⊎_}
 use mathlib.Core.Path.{_≡_}
 use lib.Dec.{ltb}
-use lib.ListN.{length, getD, set, take, drop}
+use lib.ListN.{length, getD, set, take}
+use Rattle.limits.specs.Limits.{maxThreads, maxEntries}
 use Rattle.semantics.specs.Plan.{Block}
 use Rattle.semantics.specs.Run.{ThreadState}
-use Rattle.semantics.proofs.Tables.{total}
-use Rattle.semantics.proofs.RetreatMoves.{Paths, GoingBack, othersAt, JumpTo}
-use Rattle.retreat.specs.Paths.{masksOf, choiceAt, Holding, mayGoBack}
+use Rattle.semantics.specs.Retreat.{total, Paths, GoingBack, othersAt, JumpTo}
+use Rattle.retreat.specs.Paths.{masksOf, choiceAt, InRows, Holding, mayGoBack}
 
 -- no number below k passes the test
 unfoldable pub NoneBelow : (ℕ → Bool) → ℕ → Type 0
@@ -25,68 +25,79 @@ pub record FirstBelow (test : ℕ → Bool) (n r : ℕ) : Type 0 where
 
 -- thread t has stepped
 unfoldable pub hasStepped : List ℕ → ℕ → Bool
-hasStepped js t = ltb 0 (getD js t 0)
+hasStepped positions t = ltb 0 (getD positions t 0)
 
 -- n threads are at their start
 unfoldable pub AtStart : List ℕ → ℕ → Type 0
-AtStart js n = (t : ℕ) → t < n → getD js t 0 ≡ 0
+AtStart positions n = (t : ℕ) → t < n → getD positions t 0 ≡ 0
 
 -- the sum of the positions of n threads
 unfoldable pub stepsLeft : List ℕ → ℕ → ℕ
-stepsLeft js n = total n (λ t. getD js t 0)
+stepsLeft positions n = total n (λ t. getD positions t 0)
 
 -- "thread + 8 × choice", for the last step of thread k
 unfoldable pub entryOf : List ℕ → List ℕ → ℕ → ℕ
-entryOf steps js k = k + 8 * choiceAt steps k (getD js k 0 - 1)
+entryOf steps positions k = k + 8 * choiceAt steps k (getD positions k 0 - 1)
 
 -- each thread below k landed: where it jumped to and what it wants there
 unfoldable pub Landed : List ℕ → List ℕ → ℕ → List ℕ → List ℕ → List ℕ → ℕ → Type 0
-Landed steps begins n js js′ wishes′ k =
-    (t : ℕ) → t < k → JumpTo (masksOf steps t) (othersAt n (masksOf steps) js t) (getD begins t 0) (getD js t 0) (getD js′ t 0) (getD wishes′ t 0)
+Landed steps begins n positions positions′ wanted′ k =
+    (t : ℕ) → t < k → JumpTo (masksOf steps t) (othersAt n (masksOf steps) positions t) (getD begins t 0) (getD positions t 0) (getD positions′ t 0) (getD wanted′ t 0)
+
+-- a state of the way back: the position of each thread on its path, and what each wants and holds at the last target
+pub record State : Type 0 where
+  pub positions : List ℕ
+  pub wanted : List ℕ
+  pub masks : List ℕ
+
+-- the state that three lent tables have
+abbrev pub state : List ℕ → List ℕ → List ℕ → State
+state positions wanted masks = record { positions = positions; wanted = wanted; masks = masks }
+
+-- the tables of a state have room for each thread
+pub record StateFull (s : State) : Type 0 where
+  pub positions-full : maxThreads ≤ length (s .positions)
+  pub wanted-full : maxThreads ≤ length (s .wanted)
+  pub masks-full : maxThreads ≤ length (s .masks)
+
+-- the paths and what the threads begin with are there, and the positions of a state are within the rows
+pub record OnWayBack (steps begins : List ℕ) (n : ℕ) (s : State) : Type 0 where
+  pub paths : maxEntries ≤ length steps
+  pub beginnings : maxThreads ≤ length begins
+  pub few : n ≤ maxThreads
+  pub in-rows : InRows steps (s .positions) n
+  pub sized : StateFull s
 
 -- a thread that may go back did: its entry is in front, what is wanted and held at the target is as before
-pub record SteppedBack (steps js wishes masks es : List ℕ) (n : ℕ) (js′ wishes′ masks′ es′ : List ℕ) : Type 0 where
+pub record SteppedBack (steps : List ℕ) (n : ℕ) (s s′ : State) (es es′ : List ℕ) : Type 0 where
   pub thread : ℕ
   pub present : thread < n
-  pub permitted : mayGoBack steps js n thread ≡ true
-  pub positions : js′ ≡ set js thread (getD js thread 0 - 1)
-  pub entries : es′ ≡ entryOf steps js thread ∷ es
-  pub wants : wishes′ ≡ wishes
-  pub holds : masks′ ≡ masks
+  pub permitted : mayGoBack steps (s .positions) n thread ≡ true
+  pub moved : s′ .positions ≡ set (s .positions) thread (getD (s .positions) thread 0 - 1)
+  pub entries : es′ ≡ entryOf steps (s .positions) thread ∷ es
+  pub wants : s′ .wanted ≡ s .wanted
+  pub holds : s′ .masks ≡ s .masks
 
 -- none may go back: all jumped, the entries are forgotten
-pub record Jumped (steps begins js : List ℕ) (n : ℕ) (js′ wishes′ masks′ es′ : List ℕ) : Type 0 where
-  pub landed : Landed steps begins n js js′ wishes′ n
-  pub holds : Holding steps js masks′ n
+pub record Jumped (steps begins : List ℕ) (n : ℕ) (s s′ : State) (es′ : List ℕ) : Type 0 where
+  pub landed : Landed steps begins n (s .positions) (s′ .positions) (s′ .wanted) n
+  pub holds : Holding steps (s .positions) (s′ .masks) n
   pub entries : es′ ≡ []
 
-unfoldable pub Turned : List ℕ → List ℕ → List ℕ → List ℕ → List ℕ → List ℕ → ℕ → List ℕ → List ℕ → List ℕ → List ℕ → Type 0
-Turned steps begins js wishes masks es n js′ wishes′ masks′ es′ =
-    SteppedBack steps js wishes masks es n js′ wishes′ masks′ es′ ⊎ Jumped steps begins js n js′ wishes′ masks′ es′
+-- one move, from a state with the entries es to one with the entries es′
+unfoldable pub Turned : List ℕ → List ℕ → ℕ → State → State → List ℕ → List ℕ → Type 0
+Turned steps begins n s s′ es es′ = SteppedBack steps n s s′ es es′ ⊎ Jumped steps begins n s s′ es′
 
--- whatever plan the paths are of: from a target that the positions js₀ are, the way back leads to positions js, with the entries es
-pub record Retreats (steps begins : List ℕ) (n : ℕ) (js₀ wishes₀ masks₀ js es wishes masks : List ℕ) : Type 0 where
-  pub leads : (ps : List Block) (ns : List ℕ) (P : ℕ → List ℕ) (s : ℕ → ℕ → ThreadState) (bound : ℕ) → length ns ≡ n
+-- whatever plan the paths are of: from a target that the first state is, the way back leads to the second, with the entries es
+pub record Retreats (steps begins : List ℕ) (n : ℕ) (s₀ s : State) (es : List ℕ) : Type 0 where
+  pub leads : (ps : List Block) (ns : List ℕ) (P : ℕ → List ℕ) (x : ℕ → ℕ → ThreadState) (bound : ℕ) → length ns ≡ n
       → ((t j : ℕ) → t < n → j < length (P t) → getD (P t) j 0 ≡ choiceAt steps t j)
-      → Paths ps ns P s (masksOf steps) begins
-      → GoingBack ps (length ns) P s bound (take n js₀) [] wishes₀ masks₀
-      → GoingBack ps (length ns) P s bound (take n js) es wishes masks
+      → Paths ps ns P x (masksOf steps) begins
+      → GoingBack ps (length ns) P x bound (take n (s₀ .positions)) [] (s₀ .wanted) (s₀ .masks)
+      → GoingBack ps (length ns) P x bound (take n (s .positions)) es (s .wanted) (s .masks)
 
 -- The way back has come to the start, and there were no more moves than a table of entries has room for.
-pub record WentBack (steps begins : List ℕ) (n : ℕ) (js₀ wishes₀ masks₀ js es wishes masks : List ℕ) : Type 0 where
-  pub short : length es ≤ 6144
-  pub ended : AtStart js n
-  pub retreats : Retreats steps begins n js₀ wishes₀ masks₀ js es wishes masks
-
--- the same, from the ends of the paths as the first target
-pub record FromEnds (steps begins : List ℕ) (n : ℕ) (lens wishes₀ es wishes masks : List ℕ) : Type 0 where
-  pub first : List ℕ
-  pub last : List ℕ
-  pub holding : Holding steps lens first n
-  pub went : WentBack steps begins n lens wishes₀ first last es wishes masks
-
--- the first `count` entries of a table are now es, and the rest is as it was
-pub record Filled (es before : List ℕ) (count : ℕ) (after : List ℕ) : Type 0 where
-  pub room : count ≤ length after
-  pub entries : take count after ≡ es
-  pub kept : drop count after ≡ drop count before
+pub record WentBack (steps begins : List ℕ) (n : ℕ) (s₀ s : State) (es : List ℕ) : Type 0 where
+  pub short : length es ≤ maxEntries
+  pub ended : AtStart (s .positions) n
+  pub retreats : Retreats steps begins n s₀ s es

@@ -6,7 +6,7 @@ use mathlib.Core.Path.{_≡_}
 use lib.Dec.{T}
 use Rattle.semantics.specs.Plan.{Block, done, skip, call, hold, loop, either, end, bodyIn}
 use Rattle.semantics.specs.Run.{unlocked, up, down}
-use Rattle.semantics.specs.Pairs.{wordOf, held, fresh}
+use Rattle.semantics.specs.Pairs.{pairOf, held, fresh}
 
 -- Definition 3.1: "The lock alphabet Σ is defined as the union of two disjoint copies of Locks": ℓ, where the lock is acquired, and ℓ̄, where it is
 -- released.
@@ -36,11 +36,11 @@ pub data InLanguage (ps : List Block) : Block → List Action → Type 0 where
   in-end : {l : ℕ} {r : Block} {v : List Action} → InLanguage ps r v → InLanguage ps (end l r) (release l ∷ v)
 
 -- Definition 4.1: "The set Crit(C) of critical pairs of a statement C is defined as: Crit(C) := {(⌊⟨u⟩⌋, ℓ) | ∃v. uℓv ∈ ℒ(C) and ℓ ∉ ⌊⟨u⟩⌋}", where
--- ⌊⟨u⟩⌋ is the set of the locks with a positive count after u. Here C is procedure p, u is `before`, v is `behind`, and w is the pair's word.
+-- ⌊⟨u⟩⌋ is the set of the locks with a positive count after u. Here C is procedure p, u is `before`, v is `behind`, and w is the pair as one number.
 pub record PublishedCritical (ps : List Block) (p w : ℕ) : Type 0 where
   pub before : List Action
   pub lock : ℕ
   pub behind : List Action
   pub in-language : InLanguage ps (bodyIn ps p) (before ++ acquire lock ∷ behind)
   pub free : T (fresh (countsAfter unlocked before) lock)
-  pub word : w ≡ wordOf (held (countsAfter unlocked before)) lock
+  pub pair : w ≡ pairOf (held (countsAfter unlocked before)) lock

@@ -6,3 +6,13 @@ pub mod Stuck
 pub mod Pairs
 pub mod Language
 pub mod Cases
+-- What the analyser computes: conflicts of pairs, cycles, the path to a pair, the stuck set by masks, the way back.
+pub mod Execution
+pub mod Conflict
+pub mod Cycle
+pub mod CycleSearch
+pub mod Joins
+pub mod Pruning
+pub mod Paths
+pub mod StuckRounds
+pub mod Retreat

@@ -4,6 +4,7 @@ use mathlib.Core.Bool.{Bool, true, false}
 use mathlib.Core.List.{List, [], _∷_}
 use lib.Dec.{T}
 use lib.ListN.{length}
+use Rattle.limits.specs.Limits.{lockCount}
 
 -- "A block is one or more statements. A statement is `(skip)`; `(call N)`; `(hold N`, block, `)`; `(loop`, block, `)`; or `(either`, `(one`, block, `)`,
 -- `(two`, block, `)`, `)`." A value is the first statement, then the rest; `done` has none. `end` closes a hold that has begun: only what a thread has still
@@ -54,7 +55,7 @@ unfoldable pub Written : (ℕ → Type 0) → Block → Type 0
 Written C done = Unit {0}
 Written C (skip r) = Written C r
 Written C (call p r) = C p × Written C r
-Written C (hold l b r) = (l < 32) × Written C b × Written C r
+Written C (hold l b r) = (l < lockCount) × Written C b × Written C r
 Written C (loop b r) = Written C b × Written C r
 Written C (either a b r) = Written C a × Written C b × Written C r
 Written C (end l r) = ⊥
@@ -63,3 +64,11 @@ Written C (end l r) = ⊥
 pub record Sound (ps : List Block) (rank : ℕ → ℕ) : Type 0 where
   pub body : (p : ℕ) → Written (λ q. rank q < rank p) (bodyIn ps p)
   pub filled : (p : ℕ) → p < length ps → WellFormed false (bodyIn ps p)
+
+-- no demand on a call
+abbrev pub AnyCall : ℕ → Type 0
+AnyCall p = Unit {0}
+
+-- a block with locks below 32 in which no hold has begun, its calls left open
+abbrev pub Plain : Block → Type 0
+Plain b = Written AnyCall b

@@ -5,6 +5,7 @@ use mathlib.Core.Bool.{Bool, true, not, _&&_, _||_, cond}
 use mathlib.Core.Option.{Option, none, some, bind}
 use lib.ListN.{getD, set, replicate}
 use lib.Dec.{eqb, ltb}
+use Rattle.limits.specs.Limits.{lockCount}
 use Rattle.semantics.specs.Plan.{Block, done, skip, call, hold, loop, either, end, _⨾_, bodyIn}
 
 -- "Each thread has a remainder, .. and a count for each lock"
@@ -12,6 +13,7 @@ pub record ThreadState : Type 0 where
   pub rest : Block
   pub count : List ℕ
 
+-- the thread with this remainder and these counts
 abbrev pub thread : Block → List ℕ → ThreadState
 thread b cs = record { rest = b; count = cs }
 
@@ -55,6 +57,7 @@ unfoldable pub apart : (ℕ → Bool) → List ThreadState → Bool
 apart S [] = true
 apart S (t ∷ ts) = (not (S 0) || withAll (others S) (t .count) ts) && apart (others S) ts
 
+-- all threads
 abbrev pub everyone : ℕ → Bool
 everyone t = true
 
@@ -83,7 +86,7 @@ run ps ts (e ∷ es) = bind (step ps ts e) (λ ts′. run ps ts′ es)
 
 -- "a count for each lock, at first 0"
 abbrev pub unlocked : List ℕ
-unlocked = replicate 32 0
+unlocked = replicate lockCount 0
 
 -- a thread of procedure p before its first step: the remainder is "at first its procedure's block"
 abbrev pub initial : List Block → ℕ → ThreadState
@@ -92,3 +95,15 @@ initial ps p = thread (bodyIn ps p) unlocked
 -- the start of a gateway whose threads run the procedures ns
 unfoldable pub start : List Block → List ℕ → List ThreadState
 start ps ns = map (initial ps) ns
+
+-- a thread with nothing to do and nothing held
+abbrev pub absentThread : ThreadState
+absentThread = thread done []
+
+-- thread i of a list, that one where there is none
+abbrev pub nth : List ThreadState → ℕ → ThreadState
+nth ts i = getD ts i absentThread
+
+-- its counts
+abbrev pub counts : List ThreadState → ℕ → List ℕ
+counts ts i = (nth ts i) .count

@@ -7,8 +7,8 @@ use mathlib.Core.Path.{_≡_}
 use lib.Dec.{T}
 use lib.ListN.{length}
 use Rattle.semantics.specs.Plan.{Block, LockPlan}
-use Rattle.semantics.specs.Run.{ThreadState, move, threadAt, stepIn, run, start}
 use Rattle.semantics.specs.Sizes.{threadSizes}
+use Rattle.semantics.specs.Run.{ThreadState, move, threadAt, stepIn, run, start}
 
 -- "A set of at least two threads is stuck when every member could step by itself and, the others outside the set forgotten, none may. The empty set .. is never
 -- stuck."

@@ -5,12 +5,17 @@ ghost use mathlib.Core.Path.{_≡_};
 ghost use lib.ListN.{length};
 ghost use Rattle.io.specs.Counts.{Counts};
 ghost use Rattle.report_text.specs.Report.{partsOf};
-ghost use Rattle.report_text.specs.Tables.{tableRoom, entryRoom, partRoom, scheduleIn, Prepared};
-use report_text::ENTRY_ROOM;
-use report_text::Judged;
+ghost use Rattle.limits.specs.Limits.{maxForms, maxEntries};
+ghost use Rattle.report_text.specs.Tables.{partRoom, scheduleIn, Prepared};
+use limits::MAX_BYTES;
+use limits::MAX_ENTRIES;
+use limits::MAX_FORMS;
+use report_text::Findings;
 use report_text::MOST_PARTS;
 use report_text::PART_ROOM;
-use report_text::TABLE_ROOM;
+
+// The room for a text that is read: rule 2 needs one byte more than its limit.
+pub const TEXT_ROOM: usize = MAX_BYTES + 1;
 
 // What was printed of a report: whether all of it, and how many parts.
 pub struct Printed {
@@ -21,17 +26,17 @@ pub struct Printed {
 // The parts of the report on a text that was judged, in order, up to the last.
 fn print_parts(
     text: &[u8],
-    judged: Judged,
+    findings: Findings,
     table: &[u64],
     entries: &[u16],
     out: &mut [u8],
 ) -> Printed
-    requires { ⌜ Prepared (now text) judged (now table) (now entries) × (length (now entries) ≤ entryRoom) × (partRoom ≤ length (now out)) ⌝ }
-    ensures { λ r. ⌜ (r .whole ≡ true → r .parts ≡ length (partsOf (now (text .entry)) (judged .verdict) (scheduleIn (judged .verdict) (now (entries .entry))))) ⌝ }
+    requires { ⌜ Prepared (now text) findings (now table) (now entries) × (maxEntries ≡ length (now entries)) × (partRoom ≤ length (now out)) ⌝ }
+    ensures { λ r. ⌜ (r .whole ≡ true → r .parts ≡ length (partsOf (now (text .entry)) (findings .verdict) (scheduleIn (findings .verdict) (now (entries .entry))))) ⌝ }
 {
     let mut k: usize = 0;
     while k < MOST_PARTS {
-        let n = report_text::put_part(text, judged, table, entries, k, out);
+        let n = report_text::put_part(text, findings, table, entries, k, out);
         if n == 0 {
             return Printed {
                 whole: true,
@@ -54,17 +59,17 @@ fn print_parts(
 
 // The text is read and judged once.
 fn print_text(text: &[u8], table: &mut [u64], entries: &mut [u16], out: &mut [u8]) -> bool
-    requires { ⌜ (tableRoom ≤ length (now table)) × (length (now entries) ≤ entryRoom) × (entryRoom ≤ length (now entries)) × (partRoom ≤ length (now out)) ⌝ }
+    requires { ⌜ (maxForms ≤ length (now table)) × (maxEntries ≡ length (now entries)) × (partRoom ≤ length (now out)) ⌝ }
 {
-    let judged = report_text::judge_text(text, table, entries);
-    let printed = print_parts(text, judged, table, entries, out);
+    let findings = report_text::judge_text(text, table, entries);
+    let printed = print_parts(text, findings, table, entries, out);
     printed.whole
 }
 
 // The report on a text: whether all of it was written.
 pub fn print_report(text: &[u8]) -> bool {
-    let mut table = [0u64; TABLE_ROOM];
-    let mut entries = [0u16; ENTRY_ROOM];
+    let mut table = [0u64; MAX_FORMS];
+    let mut entries = [0u16; MAX_ENTRIES];
     let mut out = [0u8; PART_ROOM];
     print_text(text, &mut table, &mut entries, &mut out)
 }

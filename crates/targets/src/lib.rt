@@ -1,178 +1,113 @@
-// The tables that a schedule to a circle is made from: the path of each of its threads to its word, what each thread begins with and what it wants.
+// The tables that a schedule to a cycle is made from: the path of each of its threads to its pair, what each thread begins with and what it wants.
 ghost use mathlib.Core.Path.{_≡_};
 ghost use Prim.Native.Nat.{_/_, _%_, _≤_, _<_};
 ghost use lib.ListN.{length};
-ghost use Rattle.targets.specs.Tables.{procOf, beginOf, Threads, Asked, Room, Prepared, Begins, NoSteps, Target, RowWritten, MemberPut};
-ghost use Rattle.paths.specs.Walks.{Asked as PathAsked};
+ghost use Rattle.limits.specs.Limits.{maxEntries};
+ghost use Rattle.targets.specs.Tables.{procOf, beginOf, LaidPlan, CycleAsked, PathsPrepared, AtStarts, Target, RowWritten, MemberPut};
+use limits::MAX_SIZE;
+use limits::MAX_THREADS;
+use procs::Layout;
+use retreat::Targets;
 
 // The procedure that thread t runs.
-fn proc_of(
-    table: &[u64],
-    starts: &[u64],
-    procs: usize,
-    threads: &[u64],
-    n: usize,
-    t: usize,
-) -> usize
-    requires { ⌜ Threads (now table) (now starts) procs (now threads) n × (t < n) ⌝ }
-    ensures { λ r. ⌜ (r ≡ procOf (now (table .entry)) t) × (r < procs) ⌝ }
+fn proc_of(table: &[u64], layout: Layout, t: usize) -> usize
+    requires { ⌜ LaidPlan (now table) layout × (t < layout .threads) ⌝ }
+    ensures { λ r. ⌜ (r ≡ procOf (now (table .entry)) t) × (r < layout .procs) ⌝ }
 {
-    threads[t] as usize
+    let runs = layout.runs;
+    runs[t] as usize
 }
 
 // The lock that thread t begins with a hold of, as a mask.
-fn begin_of(table: &[u64], starts: &[u64], procs: usize, threads: &[u64], n: usize, t: usize) -> u64
-    requires { ⌜ Threads (now table) (now starts) procs (now threads) n × (t < n) ⌝ }
+fn begin_of(table: &[u64], layout: Layout, t: usize) -> u64
+    requires { ⌜ LaidPlan (now table) layout × (t < layout .threads) ⌝ }
     ensures { λ r. ⌜ r ≡ beginOf (now (table .entry)) t ⌝ }
 {
-    let p = proc_of(table, starts, procs, threads, n, t);
+    let p = proc_of(table, layout, t);
+    let starts = layout.starts;
     paths::first_hold(table, starts[p] as usize)
 }
 
 // Each thread at its start: no steps, and it wants what it begins with.
-fn fill_begins(
-    table: &[u64],
-    starts: &[u64],
-    procs: usize,
-    threads: &[u64],
-    n: usize,
-    lens: &mut [u64],
-    begins: &mut [u64],
-    wishes: &mut [u64],
-)
-    requires { ⌜ Threads (now table) (now starts) procs (now threads) n × (n ≤ 6) × (6 ≤ length (now lens)) × (6 ≤ length (now begins))
-        × (6 ≤ length (now wishes)) ⌝ }
-    ensures { λ _. ⌜ NoSteps (now (lens .exit)) n × Begins (now (table .entry)) (now (begins .exit)) n × Begins (now (table .entry)) (now (wishes .exit)) n ⌝ }
+fn at_starts(table: &[u64], layout: Layout) -> Targets
+    requires { ⌜ LaidPlan (now table) layout ⌝ }
+    ensures { λ r. ⌜ AtStarts (now (table .entry)) (layout .threads) r ⌝ }
 {
+    let threads = layout.threads;
+    let mut begins = [0u64; MAX_THREADS];
     let mut t: usize = 0;
-    while t < n {
-        let first = begin_of(table, starts, procs, threads, n, t);
-        begins[t] = first;
-        wishes[t] = first;
-        lens[t] = 0;
+    while t < threads {
+        begins[t] = begin_of(table, layout, t);
         t += 1;
     }
-}
-
-// The path to the word of procedure p, into row t: how many steps it has.
-fn put_path(
-    table: &[u64],
-    starts: &[u64],
-    procs: usize,
-    p: usize,
-    word: u64,
-    path: &mut [u64],
-    t: usize,
-    steps: &mut [u64],
-) -> usize
-    requires { ⌜ PathAsked (now table) (now starts) procs p word (now path) × (t < 6) × (6144 ≤ length (now steps)) ⌝ }
-    ensures { λ r. ⌜ RowWritten (now (table .entry)) p word t (now (steps .entry)) r (now (steps .exit)) ⌝ }
-{
-    let r = paths::path_to(table, starts, procs, p, word, path);
-    let at = 1024 * t;
-    buffers::copy_words(&path[0..r], &mut steps[at..]);
-    r
-}
-
-// The member of the circle that an entry is: its path, its length and its wish into the tables.
-fn put_member(
-    table: &[u64],
-    starts: &[u64],
-    procs: usize,
-    threads: &[u64],
-    n: usize,
-    entry: u64,
-    path: &mut [u64],
-    steps: &mut [u64],
-    lens: &mut [u64],
-    wishes: &mut [u64],
-)
-    requires { ⌜ Threads (now table) (now starts) procs (now threads) n × Target (now table) n (entry % 8) (entry / 8) × (n ≤ 6) × (1025 ≤ length (now path))
-        × (6144 ≤ length (now steps)) × (6 ≤ length (now lens)) × (6 ≤ length (now wishes)) ⌝ }
-    ensures { λ _. ⌜ MemberPut (now (table .entry)) (entry % 8) (entry / 8) (now (steps .entry)) (now (lens .entry)) (now (wishes .entry))
-        (now (steps .exit)) (now (lens .exit)) (now (wishes .exit)) ⌝ }
-{
-    let t = locks::thread_in(entry) as usize;
-    let word = locks::rest_in(entry);
-    let p = proc_of(table, starts, procs, threads, n, t);
-    let count = put_path(table, starts, procs, p, word, path, t, steps);
-    lens[t] = count as u64;
-    wishes[t] = locks::lock_bit(locks::wanted_in(word));
-}
-
-// The same for each member of the circle.
-fn put_members(
-    table: &[u64],
-    starts: &[u64],
-    procs: usize,
-    threads: &[u64],
-    n: usize,
-    chosen: &[u64],
-    k: usize,
-    path: &mut [u64],
-    steps: &mut [u64],
-    lens: &mut [u64],
-    begins: &[u64],
-    wishes: &mut [u64],
-)
-    requires { ⌜ Asked (now table) (now starts) procs (now threads) n (now chosen) k × Room (now path) (now steps) (now lens) (now begins) (now wishes)
-        × NoSteps (now lens) n × Begins (now table) (now begins) n × Begins (now table) (now wishes) n ⌝ }
-    ensures { λ _. ⌜ Prepared (now (table .entry)) (now (chosen .entry)) k n (now (steps .exit)) (now (lens .exit)) (now (begins .entry))
-        (now (wishes .exit)) ⌝ }
-{
-    let mut i: usize = 0;
-    while i < k {
-        put_member(
-            table,
-            starts,
-            procs,
-            threads,
-            n,
-            chosen[i],
-            path,
-            steps,
-            lens,
-            wishes,
-        );
-        i += 1;
+    let positions = [0u64; MAX_THREADS];
+    let wanted = begins;
+    Targets {
+        threads,
+        positions,
+        begins,
+        wanted,
     }
 }
 
-// The tables for `retreat::schedule`, from a circle of k words as entries thread + 8 × word: the path of each of its threads to its word, in a row of
-// 1,024 words of `steps`, with its length and the lock that is wanted there; the other threads stay at their start. `path` is lent for one path at a
-// time.
+// The path of thread t to a pair, into its row: how many steps it has.
+fn put_path(table: &[u64], layout: Layout, t: usize, pair: u64, steps: &mut [u64]) -> usize
+    requires { ⌜ LaidPlan (now table) layout × Target (now table) (layout .threads) t pair × (maxEntries ≤ length (now steps)) ⌝ }
+    ensures { λ r. ⌜ RowWritten (now (table .entry)) t pair (now (steps .entry)) r (now (steps .exit)) ⌝ }
+{
+    let p = proc_of(table, layout, t);
+    let starts = layout.starts;
+    let procs = layout.procs;
+    let at = MAX_SIZE * t;
+    let end = at + MAX_SIZE;
+    paths::path_to(table, &starts, procs, p, pair, &mut steps[at..end])
+}
+
+// The member of the cycle that an entry is: its path into its row, its length and its wanted lock into the tables.
+fn put_member(
+    table: &[u64],
+    layout: Layout,
+    entry: u64,
+    targets: Targets,
+    steps: &mut [u64],
+) -> Targets
+    requires { ⌜ LaidPlan (now table) layout × Target (now table) (layout .threads) (entry % 8) (entry / 8) × (maxEntries ≤ length (now steps)) ⌝ }
+    ensures { λ r. ⌜ MemberPut (now (table .entry)) (entry % 8) (entry / 8) targets (now (steps .entry)) r (now (steps .exit)) ⌝ }
+{
+    let t = locks::thread_in(entry) as usize;
+    let pair = locks::rest_in(entry);
+    let count = put_path(table, layout, t, pair, steps);
+    let threads = targets.threads;
+    let mut positions = targets.positions;
+    let begins = targets.begins;
+    let mut wanted = targets.wanted;
+    positions[t] = count as u64;
+    wanted[t] = locks::lock_bit(locks::wanted_in(pair));
+    Targets {
+        threads,
+        positions,
+        begins,
+        wanted,
+    }
+}
+
+// The tables for `retreat::schedule`, from a cycle of k pairs as candidates thread + 8 × pair: the path of each of its threads to its pair, in a row of
+// MAX_SIZE numbers of `steps`, with its length and the lock that is wanted there; the other threads stay at their start.
 pub fn thread_paths(
     table: &[u64],
-    starts: &[u64],
-    procs: usize,
-    threads: &[u64],
-    n: usize,
+    layout: Layout,
     chosen: &[u64],
     k: usize,
-    path: &mut [u64],
     steps: &mut [u64],
-    lens: &mut [u64],
-    begins: &mut [u64],
-    wishes: &mut [u64],
-)
-    requires { ⌜ Asked (now table) (now starts) procs (now threads) n (now chosen) k
-        × Room (now path) (now steps) (now lens) (now begins) (now wishes) ⌝ }
-    ensures { λ _. ⌜ Prepared (now (table .entry)) (now (chosen .entry)) k n (now (steps .exit)) (now (lens .exit)) (now (begins .exit))
-        (now (wishes .exit)) ⌝ }
+) -> Targets
+    requires { ⌜ CycleAsked (now table) layout (now chosen) k × (maxEntries ≤ length (now steps)) ⌝ }
+    ensures { λ r. ⌜ PathsPrepared (now (table .entry)) (now (chosen .entry)) k (now (steps .exit)) r ⌝ }
 {
-    fill_begins(table, starts, procs, threads, n, lens, begins, wishes);
-    put_members(
-        table,
-        starts,
-        procs,
-        threads,
-        n,
-        chosen,
-        k,
-        path,
-        steps,
-        lens,
-        begins,
-        wishes,
-    );
+    let mut targets = at_starts(table, layout);
+    let mut i: usize = 0;
+    while i < k {
+        targets = put_member(table, layout, chosen[i], targets, steps);
+        i += 1;
+    }
+    targets
 }

@@ -1,6 +1,6 @@
 -- A text read line after line: what one more line read says of the lines that are left. A line that is read is the first of them, and a line that is refused is the
 -- unreadable one.
-use Prim.Native.Nat.{ℕ, suc, _+_, _-_, _*_, _<_, _≤_}
+use Prim.Native.Nat.{ℕ, suc, _+_, _-_, _<_, _≤_}
 use native.Mathlib.Numerals.{add-one}
 use native.Mathlib.Omega.{arith}
 use mathlib.Core.Path.{_≡_, refl, sym, ap, subst, _∙_}
@@ -19,9 +19,9 @@ use Rattle.text.specs.declared.Line.{Line}
 use Rattle.text.specs.declared.Line.the-variants.{Read, Refused}
 use Rattle.text.specs.Forms.{numberIn}
 use Rattle.text.specs.Kinds.{kindOf}
-use Rattle.text.specs.Lines.{refusal, lineLength, lineAnswer, lineAt, Split, split, consForm, formsIn, formsOf, unknownOr, unreadable}
+use Rattle.text.specs.Lines.{refusal, lineLength, lineAnswer, lineAt, Split, split, consForm, formsIn, unknownOr, unreadable}
 use Rattle.text.proofs.Written.{kind-written, write-some}
-use Rattle.text.proofs.Splits.{split-line, split-tail, few-forms}
+use Rattle.text.proofs.Splits.{split-line, split-tail}
 
 -- the lines of a text from a place on: their forms, and the first unreadable one of them where the line there has the number `line`
 abbrev pub formsFrom : List ℕ → ℕ → List Form
@@ -119,11 +119,6 @@ module _ (text : List ℕ) (at line : ℕ) where
 
 -- The same in the shape of a loop's needs: q is what `read_line` answered.
 
--- the forms from a place on, at most one for two bytes
-pub few-from : (text : List ℕ) (at : ℕ) → at ≤ length text → at + length (formsFrom text at) * 2 ≤ length text
-unfolding formsOf
-few-from text at h = omega (arith, few-forms (drop at text), length-drop at text)
-
 module _ (text : List ℕ) (at line : ℕ) (q : Line) (e : q ≡ lineAt text at line) where
   -- a line was read
   module _ (f : Form) (next : ℕ) (g : q ≡ Read f next) where
@@ -138,10 +133,6 @@ module _ (text : List ℕ) (at line : ℕ) (q : Line) (e : q ≡ lineAt text at 
 
     pub next-within : next ≤ length text
     next-within = read-form text at line f next (sym e ∙ g) .within
-
-    -- a count of the lines that were read stays at most half the place
-    pub next-count : (n : ℕ) → n * 2 ≤ at → (n + 1) * 2 ≤ next
-    next-count n h = omega (arith, next-later)
 
     -- what is left of the text falls
     pub next-less : length text - next < length text - at

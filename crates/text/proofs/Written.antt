@@ -1,4 +1,4 @@
--- A line has the kind `Known f` exactly when it is the bytes in which f is written. One way each choice of the decision is inverted: a word stands there, or the
+-- A line has the kind `Known f` exactly when it is the bytes in which f is written. One way each choice of the decision is inverted: a keyword stands there, or the
 -- digits of a number below 1,000 stand where they should; the other way the decision is computed on the bytes of each form.
 use Prim.Native.Nat.{ℕ, suc, _+_, _-_, _*_, _/_, _%_, _<_, _≤_}
 use native.Mathlib.Omega.{arith}
@@ -23,7 +23,7 @@ use Rattle.text.specs.declared.Kind.the-variants.{Known, Unknown}
 use Rattle.text.specs.declared.Number.{Number}
 use Rattle.text.specs.declared.Number.the-variants.{Is, Not}
 use Rattle.text.specs.Forms.{decimal, write, numberIn, IsForm}
-use Rattle.text.specs.Kinds.{digitOf, leadingOf, appendDigit, numberOf, afterWord, betweenWord, wordKind}
+use Rattle.text.specs.Kinds.{digitOf, leadingOf, appendDigit, numberOf, afterKeyword, betweenKeyword, keywordKind}
 use Rattle.text.specs.Kinds.{numbered, holdKind, callKind, threadKind, planKind, twoKind, kindOf}
 
 -- digits, read and written
@@ -174,14 +174,14 @@ number-decimal n h = ⊎-elim one (λ (g : 10 ≤ n). ⊎-elim (two g) three (lt
 no-number : {P : Type 0} (n : ℕ) → Not ≡ Is n → P
 no-number n e = let z : _≡_ {A = ℕ} 0 1 = cc in absurd (omega arith)
 
--- the number after a word, and between a word and a bracket
+-- the number after a keyword, and between a keyword and a bracket
 
 record After (l w : List ℕ) (n : ℕ) : Type 0 where
   small : n < 1000
   written : l ≡ w ++ decimal n
 
-after-inv : (l w : List ℕ) (n : ℕ) → afterWord l w ≡ Is n → After l w n
-unfolding afterWord
+after-inv : (l w : List ℕ) (n : ℕ) → afterKeyword l w ≡ Is n → After l w n
+unfolding afterKeyword
 after-inv l w n = pick-elim (λ k. k ≡ Is n → After l w n) (ltb (length l) (length w)) Not _ (λ t. no-number n)
     (λ t. pick-elim (λ k. k ≡ Is n → After l w n) (equal (take (length w - 0) l) w) _ Not (found (ltb-false (length l) (length w) t)) (λ u. no-number n))
   where
@@ -193,9 +193,9 @@ after-inv l w n = pick-elim (λ k. k ≡ Is n → After l w n) (ltb (length l) (
         let s : take (length w) l ≡ w = rw sub-zero at (equal-is (take (length w - 0) l) w t) in
         record { small = d .small; written = sym (take-append-drop (length w) l) ∙ rw s (ap (λ x. w ++ x) (sym a ∙ d .written)) }
 
-after-word : (w d : List ℕ) → afterWord (w ++ d) w ≡ numberOf d
-unfolding afterWord pick
-after-word w d =
+after-keyword : (w d : List ℕ) → afterKeyword (w ++ d) w ≡ numberOf d
+unfolding afterKeyword pick
+after-keyword w d =
     let e = length-append w d in
     let k : length (w ++ d) - length w ≡ length d = omega arith in
     rw (le-ltb (length (w ++ d)) (length w) (omega arith), sub-zero, take-append-seam, equal-refl, k, drop-append-seam, take-length)
@@ -204,12 +204,12 @@ record Between (l w : List ℕ) (n : ℕ) : Type 0 where
   small : n < 1000
   written : l ≡ w ++ decimal n ++ (41 ∷ [])
 
-between-inv : (l w : List ℕ) (n : ℕ) → betweenWord l w ≡ Is n → Between l w n
-unfolding betweenWord
+between-inv : (l w : List ℕ) (n : ℕ) → betweenKeyword l w ≡ Is n → Between l w n
+unfolding betweenKeyword
 between-inv l w n = pick-elim (λ k. k ≡ Is n → Between l w n) (ltb (length l) 1) Not _ (λ t. no-number n)
     (λ t. pick-elim (λ k. k ≡ Is n → Between l w n) (eqb (getD l (length l - 1) 0) 41) _ Not (found (ltb-false (length l) 1 t)) (λ u. no-number n))
   where
-    found : 1 ≤ length l → eqb (getD l (length l - 1) 0) 41 ≡ true → afterWord (take (length l - 1 - 0) l) w ≡ Is n → Between l w n
+    found : 1 ≤ length l → eqb (getD l (length l - 1) 0) 41 ≡ true → afterKeyword (take (length l - 1 - 0) l) w ≡ Is n → Between l w n
     found h t e =
         let d = after-inv (take (length l - 1 - 0) l) w n e in
         let s : take (length l - 1) l ≡ w ++ decimal n = rw sub-zero at (d .written) in
@@ -217,12 +217,12 @@ between-inv l w n = pick-elim (λ k. k ≡ Is n → Between l w n) (ltb (length 
         let r : drop (suc (length l - 1)) l ≡ [] = drop-of-length-le l {i = suc (length l - 1)} (omega arith) in
         record { small = d .small; written = split-at l (length l - 1) 0 (omega arith) ∙ rw (s, c, r) }
 
-between-word : (w d : List ℕ) → betweenWord (w ++ d ++ (41 ∷ [])) w ≡ numberOf d
-unfolding betweenWord pick
-between-word w d =
+between-keyword : (w d : List ℕ) → betweenKeyword (w ++ d ++ (41 ∷ [])) w ≡ numberOf d
+unfolding betweenKeyword pick
+between-keyword w d =
     let e = length-append (w ++ d) (41 ∷ []) in
     let k : length (w ++ d ++ (41 ∷ [])) - 1 ≡ length (w ++ d) = omega arith in
-    rw (le-ltb (length (w ++ d ++ (41 ∷ []))) 1 (omega arith), k, getD-append-seam, sub-zero, take-append-seam) (after-word w d)
+    rw (le-ltb (length (w ++ d ++ (41 ∷ []))) 1 (omega arith), k, getD-append-seam, sub-zero, take-append-seam) (after-keyword w d)
 
 -- the forms that a kind lets through are written so
 abbrev Right : List ℕ → Kind → Type 0
@@ -234,9 +234,9 @@ right-unknown l f e = let z : _≡_ {A = ℕ} 0 1 = cc in absurd (omega arith)
 right-known : (l : List ℕ) (g : Form) → IsForm l g → Right l (Known g)
 right-known l g w f e = subst (λ h. IsForm l h) (cc) w
 
-right-word : (l : List ℕ) (g : Form) → numberIn g < 1000 → Right l (wordKind l (write g) g)
-unfolding wordKind
-right-word l g h = pick-elim (Right l) (equal l (write g)) (Known g) Unknown
+right-keyword : (l : List ℕ) (g : Form) → numberIn g < 1000 → Right l (keywordKind l (write g) g)
+unfolding keywordKind
+right-keyword l g h = pick-elim (Right l) (equal l (write g)) (Known g) Unknown
     (λ t. right-known l g (record { small = h; written = equal-is l (write g) t })) (λ t. right-unknown l)
 
 right-number : (l : List ℕ) (g : ℕ → Form) (p : Number) → ((n : ℕ) → p ≡ Is n → IsForm l (g n)) → Right l (numbered g p)
@@ -246,17 +246,17 @@ right-number l g Not h = right-unknown l
 
 right-hold : (l : List ℕ) → Right l (holdKind l)
 unfolding holdKind write numberIn
-right-hold l = right-number l Hold (afterWord l (bytes "(hold "))
+right-hold l = right-number l Hold (afterKeyword l (bytes "(hold "))
     (λ n e. let a = after-inv l (bytes "(hold ") n e in record { small = a .small; written = a .written })
 
 right-call : (l : List ℕ) → Right l (callKind l)
 unfolding callKind write numberIn
-right-call l = right-number l Call (betweenWord l (bytes "(call "))
+right-call l = right-number l Call (betweenKeyword l (bytes "(call "))
     (λ n e. let a = between-inv l (bytes "(call ") n e in record { small = a .small; written = a .written })
 
 right-thread : (l : List ℕ) → Right l (threadKind l)
 unfolding threadKind write numberIn
-right-thread l = right-number l Thread (betweenWord l (bytes "(thread "))
+right-thread l = right-number l Thread (betweenKeyword l (bytes "(thread "))
     (λ n e. let a = between-inv l (bytes "(thread ") n e in record { small = a .small; written = a .written })
 
 -- both ways of a choice are right
@@ -267,46 +267,46 @@ right-plan : (l : List ℕ) → Right l (planKind l)
 unfolding planKind write numberIn
 right-plan l =
     right-pick l (ltb (length l) 3) _ _ (right-unknown l)
-    (right-pick l (eqb (getD l 2 0) 108) _ _ (right-word l Plan (omega arith))
-    (right-pick l (eqb (getD l 2 0) 114) _ _ (right-word l Proc (omega arith)) (right-unknown l)))
+    (right-pick l (eqb (getD l 2 0) 108) _ _ (right-keyword l Plan (omega arith))
+    (right-pick l (eqb (getD l 2 0) 114) _ _ (right-keyword l Proc (omega arith)) (right-unknown l)))
 
 right-two : (l : List ℕ) → Right l (twoKind l)
 unfolding twoKind write numberIn
 right-two l =
     right-pick l (ltb (length l) 3) _ _ (right-unknown l)
-    (right-pick l (eqb (getD l 2 0) 119) _ _ (right-word l Two (omega arith))
+    (right-pick l (eqb (getD l 2 0) 119) _ _ (right-keyword l Two (omega arith))
     (right-pick l (eqb (getD l 2 0) 104) _ _ (right-thread l) (right-unknown l)))
 
 right-kind : (l : List ℕ) → Right l (kindOf l)
 unfolding kindOf write numberIn
 right-kind l =
-    right-pick l (ltb (length l) 2) _ _ (right-word l Close (omega arith))
-    (right-pick l (eqb (getD l 1 0) 115) _ _ (right-word l Skip (omega arith))
+    right-pick l (ltb (length l) 2) _ _ (right-keyword l Close (omega arith))
+    (right-pick l (eqb (getD l 1 0) 115) _ _ (right-keyword l Skip (omega arith))
     (right-pick l (eqb (getD l 1 0) 99) _ _ (right-call l)
     (right-pick l (eqb (getD l 1 0) 104) _ _ (right-hold l)
-    (right-pick l (eqb (getD l 1 0) 108) _ _ (right-word l Loop (omega arith))
-    (right-pick l (eqb (getD l 1 0) 101) _ _ (right-word l Either (omega arith))
-    (right-pick l (eqb (getD l 1 0) 111) _ _ (right-word l One (omega arith))
+    (right-pick l (eqb (getD l 1 0) 108) _ _ (right-keyword l Loop (omega arith))
+    (right-pick l (eqb (getD l 1 0) 101) _ _ (right-keyword l Either (omega arith))
+    (right-pick l (eqb (getD l 1 0) 111) _ _ (right-keyword l One (omega arith))
     (right-pick l (eqb (getD l 1 0) 116) _ _ (right-two l)
     (right-pick l (eqb (getD l 1 0) 112) _ _ (right-plan l) (right-unknown l)))))))))
 
 -- the kind of a form as it is written
 written-kind : (f : Form) → numberIn f < 1000 → kindOf (write f) ≡ Known f
-unfolding kindOf planKind twoKind holdKind callKind threadKind wordKind numbered pick equal write numberIn
+unfolding kindOf planKind twoKind holdKind callKind threadKind keywordKind numbered pick equal write numberIn
 written-kind Plan h = refl
 written-kind Proc h = refl
 written-kind (Thread n) h =
     let e = length-append (bytes "(thread " ++ decimal n) (bytes ")") in
     rw (le-ltb (length (bytes "(thread " ++ decimal n ++ bytes ")")) 2 (omega arith), le-ltb (length (bytes "(thread " ++ decimal n ++ bytes ")")) 3 (omega arith))
-    (ap (numbered Thread) (between-word (bytes "(thread ") (decimal n) ∙ number-decimal n h))
+    (ap (numbered Thread) (between-keyword (bytes "(thread ") (decimal n) ∙ number-decimal n h))
 written-kind Close h = refl
 written-kind Skip h = refl
 written-kind (Call n) h =
     let e = length-append (bytes "(call " ++ decimal n) (bytes ")") in
     rw (le-ltb (length (bytes "(call " ++ decimal n ++ bytes ")")) 2 (omega arith))
-    (ap (numbered Call) (between-word (bytes "(call ") (decimal n) ∙ number-decimal n h))
+    (ap (numbered Call) (between-keyword (bytes "(call ") (decimal n) ∙ number-decimal n h))
 written-kind (Hold n) h =
-    rw (le-ltb (length (bytes "(hold " ++ decimal n)) 2 (omega arith)) (ap (numbered Hold) (after-word (bytes "(hold ") (decimal n) ∙ number-decimal n h))
+    rw (le-ltb (length (bytes "(hold " ++ decimal n)) 2 (omega arith)) (ap (numbered Hold) (after-keyword (bytes "(hold ") (decimal n) ∙ number-decimal n h))
 written-kind Loop h = refl
 written-kind Either h = refl
 written-kind One h = refl
@@ -342,7 +342,7 @@ write-some Two = omega arith
 abbrev Unbroken : List ℕ → Type 0
 Unbroken l = List·Memᴰ 10 l → ⊥
 
--- a test of that, which computes at a word
+-- a test of that, which computes at a keyword
 abbrev unbroken : List ℕ → Bool
 unbroken [] = true
 unbroken (b ∷ bs) = not (eqb b 10) && unbroken bs

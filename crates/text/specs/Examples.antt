@@ -8,7 +8,7 @@ use Rattle.laws.specs.Bytes.{bytes, equal}
 use Rattle.text.specs.declared.Form.the-variants.{Plan, Proc, Thread, Close, Skip, Call, Hold, Loop, Either, One, Two}
 use Rattle.text.specs.declared.Kind.{Kind}
 use Rattle.text.specs.declared.Kind.the-variants.{Known, Unknown}
-use Rattle.text.specs.Kinds.{digitOf, leadingOf, appendDigit, numberOf, afterWord, betweenWord, wordKind}
+use Rattle.text.specs.Kinds.{digitOf, leadingOf, appendDigit, numberOf, afterKeyword, betweenKeyword, keywordKind}
 use Rattle.text.specs.Kinds.{numbered, holdKind, callKind, threadKind, planKind, twoKind, kindOf}
 use Rattle.text.specs.Lines.{split, unreadable, unreadableLine}
 
@@ -55,7 +55,7 @@ examples =
     []
 
 examples-right : map (λ e. kindOf (e .line)) examples ≡ map (λ e. e .kind) examples
-unfolding examples kindOf planKind twoKind holdKind callKind threadKind wordKind numbered betweenWord afterWord numberOf appendDigit leadingOf digitOf pick equal
+unfolding examples kindOf planKind twoKind holdKind callKind threadKind keywordKind numbered betweenKeyword afterKeyword numberOf appendDigit leadingOf digitOf pick equal
 examples-right = refl
 
 -- the first unreadable line of a text
@@ -78,5 +78,5 @@ readings =
     []
 
 readings-right : map (λ r. unreadableLine (r .text)) readings ≡ map (λ r. r .unreadable) readings
-unfolding readings unreadableLine unreadable split kindOf planKind wordKind pick equal
+unfolding readings unreadableLine unreadable split kindOf planKind keywordKind pick equal
 readings-right = refl

@@ -1,9 +1,9 @@
 -- The forms of a plan text and how each is written. 01, "The plan text".
-use mathlib.Core.Bool.{cond}
+use mathlib.Core.Bool.{Bool, false, _||_, cond}
 use Prim.Native.Nat.{ℕ, _+_, _/_, _%_, _<_}
 use mathlib.Core.List.{List, [], _∷_, _++_}
 use mathlib.Core.Path.{_≡_}
-use lib.Dec.{ltb}
+use lib.Dec.{eqb, ltb}
 use Rattle.laws.specs.Bytes.{bytes}
 use Rattle.text.specs.declared.Form.{Form}
 use Rattle.text.specs.declared.Form.the-variants.{Plan, Proc, Thread, Close, Skip, Call, Hold, Loop, Either, One, Two}
@@ -42,6 +42,59 @@ numberIn Loop = 0
 numberIn Either = 0
 numberIn One = 0
 numberIn Two = 0
+
+-- ---- the kinds of forms
+
+-- the number of a form's kind, whatever its own number is, in the order in which the forms are declared
+abbrev pub kindNumber : Form → ℕ
+kindNumber Plan = 0
+kindNumber Proc = 1
+kindNumber (Thread n) = 2
+kindNumber Close = 3
+kindNumber Skip = 4
+kindNumber (Call n) = 5
+kindNumber (Hold l) = 6
+kindNumber Loop = 7
+kindNumber Either = 8
+kindNumber One = 9
+kindNumber Two = 10
+
+-- whether a form is of the kind of one of the forms gs, whatever their numbers
+unfoldable pub kindIn : List Form → Form → Bool
+kindIn [] f = false
+kindIn (g ∷ gs) f = eqb (kindNumber g) (kindNumber f) || kindIn gs f
+
+-- `(proc`
+abbrev pub isProc : Form → Bool
+isProc f = kindIn (Proc ∷ []) f
+
+-- `(thread N)`
+abbrev pub isThread : Form → Bool
+isThread f = kindIn (Thread 0 ∷ []) f
+
+-- `)`
+abbrev pub isClose : Form → Bool
+isClose f = kindIn (Close ∷ []) f
+
+-- `(call N)`
+abbrev pub isCall : Form → Bool
+isCall f = kindIn (Call 0 ∷ []) f
+
+-- `(hold N`
+abbrev pub isHold : Form → Bool
+isHold f = kindIn (Hold 0 ∷ []) f
+
+-- "A statement is `(skip)`; `(call N)`; `(hold N` ..; `(loop` ..; or `(either` .."
+abbrev pub isStatement : Form → Bool
+isStatement f = kindIn (Skip ∷ Call 0 ∷ Hold 0 ∷ Loop ∷ Either ∷ []) f
+
+-- "brackets of hold, loop, either, one and two"
+abbrev pub isBracket : Form → Bool
+isBracket f = kindIn (Hold 0 ∷ Loop ∷ Either ∷ One ∷ Two ∷ []) f
+
+-- forms that do not stand within a procedure: they begin the plan, a procedure or a thread
+abbrev pub beginsOther : Form → Bool
+beginsOther f = kindIn (Plan ∷ Proc ∷ Thread 0 ∷ []) f
 
 -- a line is a form exactly when it is the bytes in which that form is written (theorem `kind-written`)
 pub record IsForm (line : List ℕ) (f : Form) : Type 0 where

@@ -35,21 +35,21 @@ numberOf l =
     (pick (eqb (length l) 3) (appendDigit (appendDigit (leadingOf (getD l 0 0)) (digitOf (getD l 1 0))) (digitOf (getD l 2 0)))
     Not))
 
--- The number after a word. Parts are written as the slices of the code denote them: `l[0..n]` is `take (n - 0) l`.
-unfoldable pub afterWord : List ℕ → List ℕ → Number
-afterWord l word =
-    pick (ltb (length l) (length word)) Not
-    (pick (equal (take (length word - 0) l) word) (numberOf (take (length l - length word) (drop (length word) l))) Not)
+-- The number after a keyword. Parts are written as the slices of the code denote them: `l[0..n]` is `take (n - 0) l`.
+unfoldable pub afterKeyword : List ℕ → List ℕ → Number
+afterKeyword l keyword =
+    pick (ltb (length l) (length keyword)) Not
+    (pick (equal (take (length keyword - 0) l) keyword) (numberOf (take (length l - length keyword) (drop (length keyword) l))) Not)
 
--- the number between a word and a closing bracket
-unfoldable pub betweenWord : List ℕ → List ℕ → Number
-betweenWord l word =
+-- the number between a keyword and a closing bracket
+unfoldable pub betweenKeyword : List ℕ → List ℕ → Number
+betweenKeyword l keyword =
     pick (ltb (length l) 1) Not
-    (pick (eqb (getD l (length l - 1) 0) 41) (afterWord (take (length l - 1 - 0) l) word) Not)
+    (pick (eqb (getD l (length l - 1) 0) 41) (afterKeyword (take (length l - 1 - 0) l) keyword) Not)
 
--- a form that is a word alone
-unfoldable pub wordKind : List ℕ → List ℕ → Form → Kind
-wordKind l word f = pick (equal l word) (Known f) Unknown
+-- a form that is a keyword alone
+unfoldable pub keywordKind : List ℕ → List ℕ → Form → Kind
+keywordKind l keyword f = pick (equal l keyword) (Known f) Unknown
 
 -- a form with a number
 unfoldable pub numbered : (ℕ → Form) → Number → Kind
@@ -57,40 +57,40 @@ numbered f (Is n) = Known (f n)
 numbered f Not = Unknown
 
 unfoldable pub holdKind : List ℕ → Kind
-holdKind l = numbered Hold (afterWord l (bytes "(hold "))
+holdKind l = numbered Hold (afterKeyword l (bytes "(hold "))
 
 unfoldable pub callKind : List ℕ → Kind
-callKind l = numbered Call (betweenWord l (bytes "(call "))
+callKind l = numbered Call (betweenKeyword l (bytes "(call "))
 
 unfoldable pub threadKind : List ℕ → Kind
-threadKind l = numbered Thread (betweenWord l (bytes "(thread "))
+threadKind l = numbered Thread (betweenKeyword l (bytes "(thread "))
 
 -- by the third letter, l or r
 unfoldable pub planKind : List ℕ → Kind
 planKind l =
     pick (ltb (length l) 3) Unknown
-    (pick (eqb (getD l 2 0) 108) (wordKind l (bytes "(plan") Plan)
-    (pick (eqb (getD l 2 0) 114) (wordKind l (bytes "(proc") Proc)
+    (pick (eqb (getD l 2 0) 108) (keywordKind l (bytes "(plan") Plan)
+    (pick (eqb (getD l 2 0) 114) (keywordKind l (bytes "(proc") Proc)
     Unknown))
 
 -- by the third letter, w or h
 unfoldable pub twoKind : List ℕ → Kind
 twoKind l =
     pick (ltb (length l) 3) Unknown
-    (pick (eqb (getD l 2 0) 119) (wordKind l (bytes "(two") Two)
+    (pick (eqb (getD l 2 0) 119) (keywordKind l (bytes "(two") Two)
     (pick (eqb (getD l 2 0) 104) (threadKind l)
     Unknown))
 
 -- by the second letter: s, c, h, l, e, o, t, p
 unfoldable pub kindOf : List ℕ → Kind
 kindOf l =
-    pick (ltb (length l) 2) (wordKind l (bytes ")") Close)
-    (pick (eqb (getD l 1 0) 115) (wordKind l (bytes "(skip)") Skip)
+    pick (ltb (length l) 2) (keywordKind l (bytes ")") Close)
+    (pick (eqb (getD l 1 0) 115) (keywordKind l (bytes "(skip)") Skip)
     (pick (eqb (getD l 1 0) 99) (callKind l)
     (pick (eqb (getD l 1 0) 104) (holdKind l)
-    (pick (eqb (getD l 1 0) 108) (wordKind l (bytes "(loop") Loop)
-    (pick (eqb (getD l 1 0) 101) (wordKind l (bytes "(either") Either)
-    (pick (eqb (getD l 1 0) 111) (wordKind l (bytes "(one") One)
+    (pick (eqb (getD l 1 0) 108) (keywordKind l (bytes "(loop") Loop)
+    (pick (eqb (getD l 1 0) 101) (keywordKind l (bytes "(either") Either)
+    (pick (eqb (getD l 1 0) 111) (keywordKind l (bytes "(one") One)
     (pick (eqb (getD l 1 0) 116) (twoKind l)
     (pick (eqb (getD l 1 0) 112) (planKind l)
     Unknown))))))))

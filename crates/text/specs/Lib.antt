@@ -1,4 +1,4 @@
--- Forms and how they are written; the kind of a line; the lines of a text; worked lines and texts.
+-- Forms, their kinds and how they are written; the kind of a line; the lines of a text; worked lines and texts.
 pub mod Forms
 pub mod Kinds
 pub mod Lines

@@ -6,7 +6,8 @@ use lib.ListN.{length}
 use Rattle.plan.specs.Rules.{planOf, verdictRefusal}
 use Rattle.buffers.specs.LittleEndian.{listBytes}
 use Rattle.answers.specs.declared.Verdict.{Verdict}
-use Rattle.answers.specs.Answers.{filled, verdictNumber}
+use Rattle.laws.specs.Wrote.{filled}
+use Rattle.answers.specs.Answers.{verdictNumber}
 use Rattle.answers.specs.Judgement.{Judgement}
 
 -- The verdict with a buffer of entries: "schedule entries, which fill the buffer's start (the rest kept)".

@@ -257,7 +257,7 @@ fn some_of(range: Range<usize>, count: usize, random: &mut Random) -> Vec<usize>
 }
 
 /// Six threads in a ring, each of which takes one of its lists of locks below
-/// 26, then its own ring lock and inside it its neighbour's. A circle needs all
+/// 26, then its own ring lock and inside it its neighbour's. A cycle needs all
 /// six with lists that share no lock: where there are none, the plan is free.
 /// Each thread has as many lists as it has room for.
 pub fn ring_of_lists(mut list: impl FnMut(usize) -> Vec<usize>) -> Draft {

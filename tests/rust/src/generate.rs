@@ -187,8 +187,8 @@ fn locks(random: &mut Random, count: usize, from: usize, changes: usize) -> Vec<
 }
 
 /// Threads of few nested holds, most of them ascending, some inside a guard:
-/// circles in the lock order, closed or not.
-pub fn circles(random: &mut Random) -> Draft {
+/// cycles in the lock order, closed or not.
+pub fn cycles(random: &mut Random) -> Draft {
     let from = random.between(2, 6);
     let threads = random.between(2, 6);
     let guards = random.between(0, 2);
@@ -886,7 +886,7 @@ pub fn generate(random: &mut Random) -> Case {
         1 => case("small", plan(random, &SMALL)),
         2 => case("nested", plan(random, &NESTED)),
         3 => case("medium", plan(random, &MEDIUM)),
-        4 => case("circles", circles(random)),
+        4 => case("cycles", cycles(random)),
         5 => case("rings", rings(random)),
         6 => limit(random),
         7 => case("several faults", faulty(random)),
@@ -894,7 +894,7 @@ pub fn generate(random: &mut Random) -> Case {
             let mut text = match random.below(6) {
                 0 => plan(random, &SMALL).text(),
                 1 => plan(random, &MEDIUM).text(),
-                2 => circles(random).text(),
+                2 => cycles(random).text(),
                 3 if random.chance(20) => limit(random).text,
                 4 => brackets(random.clone().between(3, 16), random).text(),
                 _ => plan(random, &CROOKED).text(),

@@ -37,7 +37,7 @@ fn small_plan(random: &mut Random) -> Draft {
         2 => generate::plan(random, &generate::SMALL),
         3 => generate::plan(random, &generate::NESTED),
         4 | 5 => generate::crossings(random),
-        6 => generate::circles(random),
+        6 => generate::cycles(random),
         _ => generate::rings(random),
     }
 }
@@ -395,9 +395,9 @@ fn both_verdicts_agree() {
     assert!(deadlocks > 5_000 && free > 5_000);
 }
 
-/// The search for circles against the theorem word for word.
+/// The search for cycles against the theorem word for word.
 #[test]
-fn circles_are_enough() {
+fn cycles_are_enough() {
     let mut conflicts = 0;
     let count = texts(20_000);
     for index in 0..count {

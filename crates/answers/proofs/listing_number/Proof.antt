@@ -1,3 +1,4 @@
+-- Part b is below 2 to the power 40, so no sum overflows; each arm adds up what `listingNumber` says of its case.
 use native.Mathlib.Omega.{arith}
 use Rattle.answers.proofs.Sums.{high-count, listing-line, pairs-number, refused-number}
 use borrow.Author.Needs.{needs}

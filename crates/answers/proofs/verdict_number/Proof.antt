@@ -1,3 +1,4 @@
+-- Part b is below 2 to the power 40, so no sum overflows; each arm adds up what `verdictNumber` says of its case.
 use native.Mathlib.Omega.{arith}
 use Rattle.answers.specs.Answers.{verdictNumber}
 use Rattle.answers.proofs.Sums.{verdict-case, high-entries, verdict-line}

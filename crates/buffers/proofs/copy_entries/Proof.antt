@@ -1,20 +1,22 @@
+-- The first i elements are copied: one more at each turn.
 use borrow.Author.Needs.{needs}
 use Prim.Native.Nat.{_-_, _≤_}
 use mathlib.Core.Path.{_≡_}
-use mathlib.Core.List.{_++_}
-use lib.ListN.{length, take, drop}
-use Rattle.buffers.proofs.Filled.{Filled, copy-none, copy-more, copy-done}
+use lib.ListN.{length, take}
+use Rattle.laws.specs.Wrote.{Wrote}
+use Rattle.laws.proofs.Wrote.{wrote-none}
+use Rattle.buffers.proofs.LittleEndian.{copied-more, copied-done}
 use Rattle.buffers.proofs.copy_entries.Statement.{statement}
 use Rattle.buffers.proofs.copy_entries.Tie as tie
 
 abbrev Inv-loop : tie.InvT-loop
-Inv-loop entries out₀ i₀ out i = (i ≤ length entries) × (length entries ≤ length out₀) × Filled out out₀ entries (drop i entries) i
+Inv-loop entries out₀ i₀ out i = (i ≤ length entries) × (length entries ≤ length out₀) × (length out ≡ length out₀) × Wrote out₀ out 0 i (take i entries)
 
 abbrev μ-loop : tie.MeasureT-loop
 μ-loop entries out₀ i₀ out i = length entries - i
 
 loop-holds : tie.Need-loop-holds Inv-loop μ-loop
-loop-holds c = search (copy-none, needs)
+loop-holds c = search (wrote-none, needs)
 
 mul-out : tie.Need-mul-out Inv-loop μ-loop
 mul-out c = search needs
@@ -35,13 +37,13 @@ loop-less : tie.Need-loop-less Inv-loop μ-loop
 loop-less c = search needs
 
 loop-again : tie.Need-loop-again Inv-loop μ-loop
-loop-again c = search (copy-more, needs)
+loop-again c = search (copied-more, needs)
 
 same-length : tie.Need-same-length Inv-loop μ-loop
 same-length c = search needs
 
 returns : tie.Need-returns Inv-loop μ-loop
-returns c = search (copy-done, needs)
+returns c = search (copied-done, needs)
 
 pub copy-entries-spec : {M : Type 1} → statement M
 copy-entries-spec =

@@ -1,16 +1,15 @@
+-- The numbers written and those that are left are the list, as bytes.
 use borrow.Author.Needs.{needs}
 use Prim.Native.Nat.{_-_, _*_, _≤_}
 use mathlib.Core.Path.{_≡_}
-use native.Mathlib.Omega.{arith}
-use denote.Ref.{now}
 use lib.ListN.{length, drop}
 use Rattle.buffers.specs.LittleEndian.{listBytes}
-use Rattle.buffers.proofs.Filled.{Filled, list-none, list-more, list-done}
+use Rattle.buffers.proofs.LittleEndian.{Partly, list-none, list-more, list-done}
 use Rattle.buffers.proofs.put_entries.Statement.{statement}
 use Rattle.buffers.proofs.put_entries.Tie as tie
 
 abbrev Inv-loop : tie.InvT-loop
-Inv-loop entries out₀ i₀ out i = (i ≤ length entries) × (length entries * 2 ≤ length out₀) × Filled out out₀ (listBytes 2 entries) (listBytes 2 (drop i entries)) (i * 2)
+Inv-loop entries out₀ i₀ out i = (i ≤ length entries) × (length entries * 2 ≤ length out₀) × (length out ≡ length out₀) × Partly out out₀ 0 (i * 2) (listBytes 2 (drop i entries)) (listBytes 2 entries)
 
 abbrev μ-loop : tie.MeasureT-loop
 μ-loop entries out₀ i₀ out i = length entries - i
@@ -41,13 +40,9 @@ loop-less c = search needs
 
 loop-again : tie.Need-loop-again Inv-loop μ-loop
 loop-again c =
-    let l = c .before .before .before .before .before .before .before .loop in
-    let a = c .before .before .before .before .before .before .before .before .before .before .args in (
-      search needs,
-      search needs,
-      list-more 2 (now (a .entries)) (l .out) (now (a .out)) (l .i) (c .before .before .put-number .last .0) (c .before .before .before .widen .result)
-          (c .before .before .before .widen .ensures) (omega arith) (l .inv .1) (c .before .before .put-number .ensures) (l .inv .2),
-    )
+    let put = c .before .before .put-number in
+    let l = c .before .before .before .before in
+    (search needs, search needs, search needs, list-more 2 _ _ _ _ _ _ (put .ensures) (c .before .before .before .widen .ensures) (search needs) (l .before .before .before .loop .inv .3))
 
 same-length : tie.Need-same-length Inv-loop μ-loop
 same-length c = search needs

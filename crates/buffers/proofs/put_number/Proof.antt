@@ -1,15 +1,15 @@
+-- The bytes written and those that are left, of what is left of the number, are the number's.
 use borrow.Author.Needs.{needs}
 use Prim.Native.Nat.{_-_, _≤_}
 use mathlib.Core.Path.{_≡_}
-use mathlib.Core.List.{_++_}
-use lib.ListN.{length, take, drop}
+use lib.ListN.{length}
 use Rattle.buffers.specs.LittleEndian.{numberBytes}
-use Rattle.buffers.proofs.Filled.{Filled, number-none, number-more, number-done}
+use Rattle.buffers.proofs.LittleEndian.{Partly, number-none, number-more, number-done}
 use Rattle.buffers.proofs.put_number.Statement.{statement}
 use Rattle.buffers.proofs.put_number.Tie as tie
 
 abbrev Inv-loop : tie.InvT-loop
-Inv-loop out₀ at x width end rest₀ i₀ out rest i = (i ≤ end) × (end ≤ length out₀) × Filled out out₀ (take at out₀ ++ numberBytes width x) (numberBytes (end - i) rest) i
+Inv-loop out₀ at x width end rest₀ i₀ out rest i = (i ≤ end) × (end ≤ length out₀) × (length out ≡ length out₀) × Partly out out₀ at i (numberBytes (end - i) rest) (numberBytes width x)
 
 abbrev μ-loop : tie.MeasureT-loop
 μ-loop out₀ at x width end rest₀ i₀ out rest i = end - i

@@ -1,5 +1,7 @@
-use Rattle.checked.proofs.Checked.{plan-room, plan-table, plan-few}
-use Rattle.listing.proofs.Found.{text-short, text-refused, text-listed}
+-- Rule 1, then the rules of the plan, then the pairs in its table.
+use Rattle.plan.proofs.AcceptedTable.{plan-room, plan-table, plan-few}
+use Rattle.checked.proofs.Checked.{plan-laid}
+use Rattle.listing.proofs.ListedPairs.{text-short, text-refused, text-listed}
 use borrow.Author.Needs.{needs}
 use Rattle.listing.proofs.find_pairs.Statement.{statement}
 use Rattle.listing.proofs.find_pairs.Tie as tie
@@ -10,8 +12,8 @@ returns c = search (text-short, needs)
 read-text-requires : tie.Need-read-text-requires
 read-text-requires c κs = search needs
 
-enum-known-read : tie.Need-enum-known-read
-enum-known-read c = search needs
+enum-known-reading : tie.Need-enum-known-reading
+enum-known-reading c = search needs
 
 sub-table-pairs : tie.Need-sub-table-pairs
 sub-table-pairs c = search needs
@@ -23,10 +25,10 @@ part-table-pairs-end : tie.Need-part-table-pairs-end
 part-table-pairs-end c = search (plan-room, needs)
 
 table-pairs-requires : tie.Need-table-pairs-requires
-table-pairs-requires c κs = search (plan-table, plan-few, needs)
+table-pairs-requires c κs = search (plan-table, plan-few, plan-laid, needs)
 
-enum-known-read-2 : tie.Need-enum-known-read-2
-enum-known-read-2 c = search needs
+enum-known-reading-2 : tie.Need-enum-known-reading-2
+enum-known-reading-2 c = search needs
 
 same-length : tie.Need-same-length
 same-length c = search needs
@@ -34,14 +36,11 @@ same-length c = search needs
 same-length-2 : tie.Need-same-length-2
 same-length-2 c = search needs
 
-same-length-3 : tie.Need-same-length-3
-same-length-3 c = search needs
-
 returns-2 : tie.Need-returns-2
 returns-2 c = search (text-refused, text-listed, needs)
 
-same-length-4 : tie.Need-same-length-4
-same-length-4 c = search needs
+same-length-3 : tie.Need-same-length-3
+same-length-3 c = search needs
 
 returns-3 : tie.Need-returns-3
 returns-3 c = search (text-refused, text-listed, needs)
@@ -52,15 +51,14 @@ find-pairs-spec =
     (tie.spec
     returns
     read-text-requires
-    enum-known-read
+    enum-known-reading
     sub-table-pairs
     part-table-pairs-start
     part-table-pairs-end
     table-pairs-requires
-    enum-known-read-2
+    enum-known-reading-2
     same-length
     same-length-2
-    same-length-3
     returns-2
-    same-length-4
+    same-length-3
     returns-3)

@@ -1,4 +1,5 @@
-use Rattle.listing.proofs.Found.{found-within, found-carried, pairs-carried, bytes-room, bytes-listed, bytes-refused}
+-- The pairs found are put into the buffer as bytes, and the answer as a number is that of the rules and of the count.
+use Rattle.listing.proofs.ListedPairs.{found-within, found-carried, pairs-carried, bytes-room, bytes-listed, bytes-refused}
 use borrow.Author.Needs.{needs}
 use Rattle.listing.proofs.list_bytes.Statement.{statement}
 use Rattle.listing.proofs.list_bytes.Tie as tie
@@ -21,17 +22,17 @@ same-length c = search needs
 returns : tie.Need-returns
 returns c = search (bytes-refused, needs)
 
-sub-put-words : tie.Need-sub-put-words
-sub-put-words c = search needs
+sub-put-pairs : tie.Need-sub-put-pairs
+sub-put-pairs c = search needs
 
-part-put-words-start : tie.Need-part-put-words-start
-part-put-words-start c = search needs
+part-put-pairs-start : tie.Need-part-put-pairs-start
+part-put-pairs-start c = search needs
 
-part-put-words-end : tie.Need-part-put-words-end
-part-put-words-end c = search (found-within, needs)
+part-put-pairs-end : tie.Need-part-put-pairs-end
+part-put-pairs-end c = search (found-within, needs)
 
-put-words-requires : tie.Need-put-words-requires
-put-words-requires c κs = search (bytes-room, needs)
+put-pairs-requires : tie.Need-put-pairs-requires
+put-pairs-requires c κs = search (bytes-room, needs)
 
 listing-number-requires-2 : tie.Need-listing-number-requires-2
 listing-number-requires-2 c κs = search (pairs-carried, needs)
@@ -55,10 +56,10 @@ list-bytes-spec =
     listing-number-requires
     same-length
     returns
-    sub-put-words
-    part-put-words-start
-    part-put-words-end
-    put-words-requires
+    sub-put-pairs
+    part-put-pairs-start
+    part-put-pairs-end
+    put-pairs-requires
     listing-number-requires-2
     same-length-2
     same-length-3

@@ -1,15 +1,17 @@
 -- Each turn fills the list of one thread more.
 use borrow.Author.Needs.{needs}
 use Prim.Native.Nat.{_-_}
-use Rattle.lists.proofs.Filling.{Filling, filling-none, thread-there, forms-there, proc-there, list-fits, list-room, count-there, filling-more, filled}
+use mathlib.Core.Path.{_≡_}
+use Rattle.lists.proofs.Filling.{Filling, filling-none, thread-there, forms-there, proc-there, list-fits, list-room, count-there, filling-more, filling-done}
 use Rattle.lists.proofs.thread_lists.Statement.{statement}
 use Rattle.lists.proofs.thread_lists.Tie as tie
 
 abbrev Inv-loop : tie.InvT-loop
-Inv-loop table starts procs threads n lists₀ counts₀ t₀ lists counts t = Filling table starts procs threads n lists₀ counts₀ lists counts t
+Inv-loop table layout lists₀ counts₀ n runs t₀ lists counts t =
+    (n ≡ layout .threads) × (runs ≡ layout .runs) × Filling table layout lists₀ counts₀ lists counts t
 
 abbrev μ-loop : tie.MeasureT-loop
-μ-loop table starts procs threads n lists₀ counts₀ t₀ lists counts t = n - t
+μ-loop table layout lists₀ counts₀ n runs t₀ lists counts t = n - t
 
 loop-holds : tie.Need-loop-holds Inv-loop μ-loop
 loop-holds c = search (filling-none, needs)
@@ -17,8 +19,8 @@ loop-holds c = search (filling-none, needs)
 mul-p : tie.Need-mul-p Inv-loop μ-loop
 mul-p c = search needs
 
-shared-slice-read-p : tie.Need-shared-slice-read-p Inv-loop μ-loop
-shared-slice-read-p c = search (thread-there, needs)
+array-read-p : tie.Need-array-read-p Inv-loop μ-loop
+array-read-p c = search (thread-there, needs)
 
 mul-list-from : tie.Need-mul-list-from Inv-loop μ-loop
 mul-list-from c = search (list-fits, needs)
@@ -48,7 +50,7 @@ same-length-2 : tie.Need-same-length-2 Inv-loop μ-loop
 same-length-2 c = search needs
 
 returns : tie.Need-returns Inv-loop μ-loop
-returns c = search (filled, needs)
+returns c = search (filling-done, needs)
 
 pub thread-lists-spec : {M : Type 1} → statement M
 thread-lists-spec =
@@ -58,7 +60,7 @@ thread-lists-spec =
     μ-loop
     loop-holds
     mul-p
-    shared-slice-read-p
+    array-read-p
     mul-list-from
     list-from-requires
     mul-counts

@@ -4,7 +4,7 @@ use Rattle.locks.proofs.wanted_in.Statement.{statement}
 use Rattle.locks.proofs.wanted_in.Tie as tie
 
 returns : tie.Need-returns
-returns c = and-mask (c .args .word) 5
+returns c = and-mask (c .args .pair) 5
 
 pub wanted-in-spec : {M : Type 1} → statement M
 wanted-in-spec = tie.close (tie.spec returns)

@@ -1,6 +1,6 @@
+-- The tests of the byte and of the count are the definition's.
 use Rattle.parts.specs.Parts.{leftAfter}
-use native.Mathlib.Omega.{arith}
-use borrow.Author.Tests.{eq-eqb, ne-eqb}
+use borrow.Author.Tests.{eq-eqb}
 use Rattle.laws.proofs.Choices.{tests}
 use borrow.Author.Needs.{needs}
 use Rattle.parts.proofs.left_after.Statement.{statement}

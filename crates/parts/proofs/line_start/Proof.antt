@@ -1,9 +1,10 @@
+-- The bytes of the lines still to be passed, from the place on, are what was left at the start.
 use borrow.Author.Needs.{needs}
 use Prim.Native.Nat.{_+_, _-_, _≤_}
 use mathlib.Core.Path.{_≡_}
 use lib.ListN.{length, drop}
 use Rattle.parts.specs.Parts.{skipLines}
-use Rattle.parts.proofs.Laws.{skip-stop, skip-again, skip-end}
+use Rattle.parts.proofs.Turns.{skip-stop, skip-again, skip-end}
 use Rattle.parts.proofs.line_start.Statement.{statement}
 use Rattle.parts.proofs.line_start.Tie as tie
 

@@ -1,3 +1,4 @@
+-- What is left before the next such form, from the place on, is what was left at the start.
 use borrow.Author.Needs.{needs}
 use Prim.Native.Nat.{_+_, _-_, _≤_}
 use mathlib.Core.Path.{_≡_}
@@ -5,7 +6,7 @@ use mathlib.Core.List.{map}
 use lib.ListN.{length, drop}
 use Rattle.plan.specs.Table.{formAt}
 use Rattle.parts.specs.Parts.{formsBefore}
-use Rattle.parts.proofs.Laws.{end-found, end-again, end-none}
+use Rattle.parts.proofs.Turns.{end-found, end-again, end-none}
 use Rattle.parts.proofs.proc_end.Statement.{statement}
 use Rattle.parts.proofs.proc_end.Tie as tie
 

@@ -1,4 +1,5 @@
-use Rattle.parts.proofs.Laws.{part-ordered, part-within, part-returned}
+-- The two places are those of the lines that the definition names, the first not behind the second.
+use Rattle.parts.proofs.Turns.{part-ordered, part-within, part-returned}
 use borrow.Author.Needs.{needs}
 use Rattle.parts.proofs.proc_part.Statement.{statement}
 use Rattle.parts.proofs.proc_part.Tie as tie

@@ -6,7 +6,7 @@ use mathlib.Core.Path.{_≡_}
 use Prim.Native.Nat.{_-_}
 use lib.ListN.{length}
 use denote.Ref.{now}
-use Rattle.paths.specs.Walks.{Ready}
+use Rattle.paths.specs.Walks.{WalkReady}
 use Rattle.paths.proofs.Measure.{measure, deeper-falls}
 use Rattle.paths.proofs.Walking.{enter-walks, Along, along-none, along-ended, along-closed, along-reached, along-less, along-more, passes-as, other-passes, skip-passes}
 use Rattle.paths.proofs.Walking.{call-passes-none, call-passes, hold-passes-here, hold-passes-found, hold-passes, loop-passes-found, loop-passes}
@@ -36,7 +36,7 @@ use Rattle.paths.proofs.walk_statement.Reads as walk-statement
 use Rattle.paths.proofs.walk_statement.Kinds as walk-statement-kinds
 use Rattle.paths.proofs.+enter+walk+walk_call+walk_either+walk_hold+walk_loop+walk_statement.Lts-walk_statement as walk-statement-lts
 use Rattle.paths.proofs.after.Reads as after-reads
-use Rattle.paths.proofs.gives_word.Reads as gives-word-reads
+use Rattle.paths.proofs.gives_pair.Reads as gives-pair-reads
 use Rattle.paths.proofs.passed.Reads as passed-reads
 use Rattle.paths.proofs.put.Reads as put-reads
 use Rattle.paths.proofs.start_of.Reads as start-of-reads
@@ -133,8 +133,8 @@ walk-either-calls t = (after-reads.Asked, after-reads.Learnt, enter-below t, ent
 
 abbrev walk-hold-calls : ℕ → walk-hold-lts.Claims
 walk-hold-calls t = (
-  gives-word-reads.Asked,
-  gives-word-reads.Learnt,
+  gives-pair-reads.Asked,
+  gives-pair-reads.Learnt,
   with-lock-reads.Asked,
   with-lock-reads.Learnt,
   enter-below t,
@@ -178,7 +178,7 @@ enter-returns : (t : ℕ) → enter-lts.Need-returns (enter-calls t) (enter-at t
 enter-returns t c = search (enter-walks, needs)
 
 abbrev walk-Inv-loop : walk-lts.InvT-loop
-walk-Inv-loop table starts way at steps₀ n i₀ count₀ steps i count = Ready table starts way steps₀ n × (length steps ≡ length steps₀) × Along table way at steps₀ n i count steps
+walk-Inv-loop table starts way at steps₀ n i₀ count₀ steps i count = WalkReady table starts way steps₀ n × (length steps ≡ length steps₀) × Along table way at steps₀ n i count steps
 
 abbrev walk-μ-loop : walk-lts.MeasureT-loop
 walk-μ-loop table starts way at steps₀ n i₀ count₀ steps i count = length table - i
@@ -299,8 +299,8 @@ walk-either-same-length-2 t c = search needs
 walk-either-returns-2 : (t : ℕ) → walk-either-lts.Need-returns-2 (walk-either-calls t) (walk-either-at t) walk-either.Post
 walk-either-returns-2 t c = search (either-passes, needs)
 
-walk-hold-gives-word-requires : (t : ℕ) → walk-hold-lts.Need-gives-word-requires (walk-hold-calls t) (walk-hold-at t) walk-hold.Post
-walk-hold-gives-word-requires t c κs = search needs
+walk-hold-gives-pair-requires : (t : ℕ) → walk-hold-lts.Need-gives-pair-requires (walk-hold-calls t) (walk-hold-at t) walk-hold.Post
+walk-hold-gives-pair-requires t c κs = search needs
 
 walk-hold-returns : (t : ℕ) → walk-hold-lts.Need-returns (walk-hold-calls t) (walk-hold-at t) walk-hold.Post
 walk-hold-returns t c = search (hold-passes-here, needs)
@@ -494,7 +494,7 @@ pub +enter+walk+walk-call+walk-either+walk-hold+walk-loop+walk-statement-spec :
     (λ t. walk-hold-lts.spec (walk-hold-calls t)
     (walk-hold-at t)
     walk-hold.Post
-    (walk-hold-gives-word-requires t)
+    (walk-hold-gives-pair-requires t)
     (walk-hold-returns t)
     (walk-hold-with-lock-requires t)
     (walk-hold-enter-requires t)

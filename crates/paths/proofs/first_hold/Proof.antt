@@ -1,11 +1,11 @@
 -- The form at the place is the first of the procedure's block.
-use Rattle.paths.proofs.Wishes.{wish-ended, wish-hold, wish-other}
+use Rattle.paths.proofs.Wanted.{wanted-ended, wanted-hold, wanted-other}
 use borrow.Author.Needs.{needs}
 use Rattle.paths.proofs.first_hold.Statement.{statement}
 use Rattle.paths.proofs.first_hold.Tie as tie
 
 returns : tie.Need-returns
-returns c = search (wish-ended, needs)
+returns c = search (wanted-ended, needs)
 
 mul-form-at : tie.Need-mul-form-at
 mul-form-at c = search needs
@@ -20,13 +20,13 @@ enum-known-form : tie.Need-enum-known-form
 enum-known-form c = search needs
 
 returns-2 : tie.Need-returns-2
-returns-2 c = search (wish-other, needs)
+returns-2 c = search (wanted-other, needs)
 
 mask-of-requires : tie.Need-mask-of-requires
 mask-of-requires c κs = search needs
 
 returns-3 : tie.Need-returns-3
-returns-3 c = search (wish-hold, needs)
+returns-3 c = search (wanted-hold, needs)
 
 pub first-hold-spec : {M : Type 1} → statement M
 first-hold-spec =

@@ -1,5 +1,5 @@
 -- The walk of the procedure from the first place of its block, with calls one less deep than there are procedures.
-use Rattle.paths.proofs.Found.{path-written}
+use Rattle.paths.proofs.PathWritten.{path-written}
 use borrow.Author.Needs.{needs}
 use Rattle.paths.proofs.path_to.Statement.{statement}
 use Rattle.paths.proofs.path_to.Tie as tie

@@ -1,6 +1,7 @@
+-- Rule 5 tests the counts, another the number of a form that it is the rule of.
 use Rattle.plan.specs.Limits.{breaks}
 use Rattle.laws.proofs.Choices.{picks}
-use Rattle.plan.proofs.Laws.{breaks-number, breaks-not}
+use Rattle.plan.proofs.Passes.{breaks-number, breaks-not}
 use borrow.Author.Needs.{needs}
 use Rattle.plan.proofs.breaks_rule.Statement.{statement}
 use Rattle.plan.proofs.breaks_rule.Tie as tie

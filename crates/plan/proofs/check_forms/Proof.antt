@@ -1,5 +1,6 @@
+-- Each rule passes before the next is tried, and the first that refuses gives the answer.
 use Rattle.plan.specs.Rules.{formsRefusal}
-use Rattle.plan.proofs.Laws.{first-refuses, first-passes}
+use Rattle.plan.proofs.Passes.{first-refuses, first-passes}
 use borrow.Author.Needs.{needs}
 use Rattle.plan.proofs.check_forms.Statement.{statement}
 use Rattle.plan.proofs.check_forms.Tie as tie

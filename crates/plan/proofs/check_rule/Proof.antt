@@ -1,3 +1,4 @@
+-- The line that the rule names among the forms that are left is the one that it names among all. The counts stay at most the number of forms read.
 use borrow.Author.Needs.{needs}
 use Prim.Native.Nat.{_+_, _-_, _≤_, _<_}
 use mathlib.Core.Path.{_≡_}
@@ -5,7 +6,7 @@ use mathlib.Core.List.{map}
 use lib.ListN.{length, drop}
 use Rattle.plan.specs.Table.{formAt, tableForms}
 use Rattle.plan.specs.Limits.{Small, breaking, breakingLine}
-use Rattle.plan.proofs.Laws.{small-none, small-more, small-below, rule-again, rule-broken, rule-kept}
+use Rattle.plan.proofs.Passes.{small-none, small-more, small-below, rule-again, rule-broken, rule-kept}
 use Rattle.plan.proofs.check_rule.Statement.{statement}
 use Rattle.plan.proofs.check_rule.Tie as tie
 

@@ -1,3 +1,4 @@
+-- Each arm of the bracket is a case of the definition.
 use borrow.Author.Needs.{needs}
 use Rattle.plan.specs.Structure.{closeBlock}
 use Rattle.laws.specs.Choice.{pick}

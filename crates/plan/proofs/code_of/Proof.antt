@@ -1,5 +1,7 @@
+-- Each arm is the definition at its form.
+use Rattle.text.specs.Forms.{numberIn}
 use Rattle.plan.specs.Table.{codeOf}
-use Rattle.plan.proofs.Laws.{code-case}
+use Rattle.plan.proofs.Passes.{code-case}
 use borrow.Author.Needs.{needs}
 use Rattle.plan.proofs.code_of.Statement.{statement}
 use Rattle.plan.proofs.code_of.Tie as tie
@@ -65,47 +67,47 @@ enum-told-8 : tie.Need-enum-told-8
 enum-told-8 c = search needs
 
 returns : tie.Need-returns
-unfolding codeOf
+unfolding codeOf numberIn
 returns c = search (code-case, needs)
 
 returns-2 : tie.Need-returns-2
-unfolding codeOf
+unfolding codeOf numberIn
 returns-2 c = search (code-case, needs)
 
 returns-3 : tie.Need-returns-3
-unfolding codeOf
+unfolding codeOf numberIn
 returns-3 c = search (code-case, needs)
 
 returns-4 : tie.Need-returns-4
-unfolding codeOf
+unfolding codeOf numberIn
 returns-4 c = search (code-case, needs)
 
 returns-5 : tie.Need-returns-5
-unfolding codeOf
+unfolding codeOf numberIn
 returns-5 c = search (code-case, needs)
 
 returns-6 : tie.Need-returns-6
-unfolding codeOf
+unfolding codeOf numberIn
 returns-6 c = search (code-case, needs)
 
 returns-7 : tie.Need-returns-7
-unfolding codeOf
+unfolding codeOf numberIn
 returns-7 c = search (code-case, needs)
 
 returns-8 : tie.Need-returns-8
-unfolding codeOf
+unfolding codeOf numberIn
 returns-8 c = search (code-case, needs)
 
 returns-9 : tie.Need-returns-9
-unfolding codeOf
+unfolding codeOf numberIn
 returns-9 c = search (code-case, needs)
 
 returns-10 : tie.Need-returns-10
-unfolding codeOf
+unfolding codeOf numberIn
 returns-10 c = search (code-case, needs)
 
 returns-11 : tie.Need-returns-11
-unfolding codeOf
+unfolding codeOf numberIn
 returns-11 c = search (code-case, needs)
 
 pub code-of-spec : {M : Type 1} → statement M

@@ -1,14 +1,16 @@
+-- The table holds the forms of the lines read so far (`Filling`), and each line read leaves less of the text.
 use borrow.Author.Needs.{needs}
 use Prim.Native.Nat.{_-_, _≤_}
 use mathlib.Core.Path.{_≡_}
 use lib.ListN.{length}
+use Rattle.limits.specs.Limits.{maxBytes, maxForms}
 use Rattle.text.proofs.Reading.{next-less}
 use Rattle.plan.proofs.Filling.{Filling, filling-none, filling-more, filling-refused, filling-done}
 use Rattle.plan.proofs.fill.Statement.{statement}
 use Rattle.plan.proofs.fill.Tie as tie
 
 abbrev Inv-loop : tie.InvT-loop
-Inv-loop text table₀ at₀ n₀ table at n = (length text ≤ 32768) × (16384 ≤ length table₀) × (length table ≡ length table₀) × Filling text table at n
+Inv-loop text table₀ at₀ n₀ table at n = (length text ≤ maxBytes) × (maxForms ≤ length table₀) × (length table ≡ length table₀) × Filling text table at n
 
 abbrev μ-loop : tie.MeasureT-loop
 μ-loop text table₀ at₀ n₀ table at n = length text - at

@@ -1,3 +1,4 @@
+-- Each arm of the kind is a case of the definition, and the rest is a closing line.
 use Rattle.plan.specs.Table.{formAt}
 use borrow.Author.Tests.{ne-eqb}
 use borrow.Author.Needs.{needs}

@@ -1,3 +1,4 @@
+-- The test of the mode is the definition's.
 use borrow.Author.Needs.{needs}
 use Rattle.plan.specs.Structure.{only}
 use Rattle.laws.proofs.Choices.{picks}

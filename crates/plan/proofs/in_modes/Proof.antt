@@ -1,3 +1,4 @@
+-- The two tests of the mode are the definition's, in its order.
 use borrow.Author.Needs.{needs}
 use Rattle.plan.specs.Structure.{among}
 use Rattle.laws.proofs.Choices.{picks}

@@ -1,3 +1,4 @@
+-- The tests of the rule are the definition's, in its order.
 use Rattle.plan.specs.Limits.{leastBad}
 use Rattle.laws.proofs.Choices.{picks}
 use borrow.Author.Needs.{needs}

@@ -1,3 +1,4 @@
+-- Each arm of the mode is a case of the definition.
 use Rattle.plan.specs.Structure.{onClose}
 use Rattle.laws.specs.Choice.{pick}
 use Rattle.laws.proofs.Choices.{picks}

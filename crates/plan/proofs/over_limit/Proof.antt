@@ -1,3 +1,4 @@
+-- The four tests are the definition's, in its order.
 use borrow.Author.Needs.{needs}
 use Rattle.plan.specs.Limits.{overLimit}
 use Rattle.laws.proofs.Choices.{picks}

@@ -1,4 +1,4 @@
--- The line is read once; a form's word is put at its place, and the answer is that of the reading.
+-- The line is read once; a form's code is put at its place, and the answer is that of the reading.
 use borrow.Author.Needs.{needs}
 use Rattle.plan.proofs.Filling.{line-put, read-again}
 use Rattle.plan.proofs.put_line.Statement.{statement}

@@ -1,4 +1,5 @@
-use Rattle.plan.proofs.Filling.{plan-long, plan-unreadable, plan-readable, plan-room, part-small, part-fits}
+-- Rule 2, then 3, then those over the forms that the pass of rule 3 leaves in the table.
+use Rattle.plan.proofs.Filling.{plan-long, plan-unreadable, plan-readable, filled-room, part-small, part-fits}
 use borrow.Author.Needs.{needs}
 use Rattle.plan.proofs.read_plan.Statement.{statement}
 use Rattle.plan.proofs.read_plan.Tie as tie
@@ -28,7 +29,7 @@ part-check-forms-start : tie.Need-part-check-forms-start
 part-check-forms-start c = search needs
 
 part-check-forms-end : tie.Need-part-check-forms-end
-part-check-forms-end c = search (plan-room, needs)
+part-check-forms-end c = search (filled-room, needs)
 
 check-forms-requires : tie.Need-check-forms-requires
 check-forms-requires c κs = search (part-small, part-fits, needs)

@@ -1,4 +1,5 @@
-use Rattle.plan.proofs.Laws.{top-none, top-some}
+-- A stack with no bracket has none innermost, another the one below its depth.
+use Rattle.plan.proofs.Passes.{top-none, top-some}
 use borrow.Author.Needs.{needs}
 use Rattle.plan.proofs.top_of.Statement.{statement}
 use Rattle.plan.proofs.top_of.Tie as tie

@@ -1,4 +1,6 @@
-use Rattle.checked.proofs.Checked.{plan-room, plan-table}
+-- The part is empty where the plan is refused; else it is that of the procedure in the table.
+use Rattle.plan.proofs.AcceptedTable.{plan-room, plan-table}
+use Rattle.checked.proofs.Checked.{plan-laid}
 use Rattle.procedure_text.proofs.ProcText.{part-empty, lines-refused, text-part}
 use borrow.Author.Needs.{needs}
 use Rattle.procedure_text.proofs.find_text.Statement.{statement}
@@ -7,8 +9,8 @@ use Rattle.procedure_text.proofs.find_text.Tie as tie
 read-text-requires : tie.Need-read-text-requires
 read-text-requires c κs = search needs
 
-enum-known-read : tie.Need-enum-known-read
-enum-known-read c = search needs
+enum-known-reading : tie.Need-enum-known-reading
+enum-known-reading c = search needs
 
 enum-told : tie.Need-enum-told
 enum-told c = search needs
@@ -38,13 +40,10 @@ part-table-text-end : tie.Need-part-table-text-end
 part-table-text-end c = search (plan-room, needs)
 
 table-text-requires : tie.Need-table-text-requires
-table-text-requires c κs = search (plan-table, needs)
+table-text-requires c κs = search (plan-table, plan-laid, needs)
 
 same-length-2 : tie.Need-same-length-2
 same-length-2 c = search needs
-
-same-length-3 : tie.Need-same-length-3
-same-length-3 c = search needs
 
 returns-2 : tie.Need-returns-2
 returns-2 c = search (text-part, needs)
@@ -54,7 +53,7 @@ find-text-spec =
     tie.close
     (tie.spec
     read-text-requires
-    enum-known-read
+    enum-known-reading
     enum-told
     sub-result
     part-result-start
@@ -66,5 +65,4 @@ find-text-spec =
     part-table-text-end
     table-text-requires
     same-length-2
-    same-length-3
     returns-2)

@@ -6,7 +6,8 @@ use Rattle.plan.specs.Settled.{tablePlan}
 use Rattle.plan.specs.Starts.{Starts}
 use Rattle.plan.specs.Rules.{lowestFrom}
 use Rattle.procs.specs.Sized.{Sized}
-use Rattle.procs.proofs.Laws.{start-room, large, large-first, large-more, large-found, large-none}
+use Rattle.procs.proofs.Rounds.{start-room}
+use Rattle.procs.proofs.LargeProcs.{large, large-first, large-more, large-found, large-none}
 use borrow.Author.Needs.{needs}
 use Rattle.procs.proofs.check_table.Statement.{statement}
 use Rattle.procs.proofs.check_table.Tie as tie

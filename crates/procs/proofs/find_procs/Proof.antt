@@ -6,14 +6,15 @@ use lib.ListN.{length, take, drop}
 use Rattle.plan.specs.Table.{formAt, tableForms}
 use Rattle.plan.specs.Settled.{PlanTable}
 use Rattle.procs.specs.Passes.{placesFrom}
-use Rattle.procs.proofs.Laws.{place-none, place-room, place-fits, place-more, places-counted, places-found}
+use Rattle.procs.proofs.Finding.{place-none, place-room, place-fits, place-more, places-counted, places-found}
 use borrow.Author.Needs.{needs}
+use Rattle.limits.specs.Limits.{maxProcs}
 use Rattle.procs.proofs.find_procs.Statement.{statement}
 use Rattle.procs.proofs.find_procs.Tie as tie
 
 abbrev Inv-loop : tie.InvT-loop
 Inv-loop table starts₀ n₀ i₀ starts n i =
-    PlanTable table × (i ≤ length table) × (64 ≤ length starts₀) × (length starts ≡ length starts₀) × (n ≤ length starts)
+    PlanTable table × (i ≤ length table) × (maxProcs ≤ length starts₀) × (length starts ≡ length starts₀) × (n ≤ length starts)
     × (take n starts ++ placesFrom i (map formAt (drop i table)) ≡ placesFrom 0 (tableForms table))
 
 abbrev μ-loop : tie.MeasureT-loop

@@ -6,14 +6,15 @@ use lib.ListN.{length, take, drop}
 use Rattle.plan.specs.Table.{formAt, tableForms}
 use Rattle.plan.specs.Settled.{PlanTable}
 use Rattle.procs.specs.Passes.{threadsFrom}
-use Rattle.procs.proofs.Laws.{thread-none, thread-room, thread-fits, thread-more, threads-counted, threads-found}
+use Rattle.procs.proofs.Finding.{thread-none, thread-room, thread-fits, thread-more, threads-counted, threads-found}
 use borrow.Author.Needs.{needs}
+use Rattle.limits.specs.Limits.{maxThreads}
 use Rattle.procs.proofs.find_threads.Statement.{statement}
 use Rattle.procs.proofs.find_threads.Tie as tie
 
 abbrev Inv-loop : tie.InvT-loop
 Inv-loop table threads₀ n₀ i₀ threads n i =
-    PlanTable table × (i ≤ length table) × (6 ≤ length threads₀) × (length threads ≡ length threads₀) × (n ≤ length threads)
+    PlanTable table × (i ≤ length table) × (maxThreads ≤ length threads₀) × (length threads ≡ length threads₀) × (n ≤ length threads)
     × (take n threads ++ threadsFrom (map formAt (drop i table)) ≡ threadsFrom (tableForms table))
 
 abbrev μ-loop : tie.MeasureT-loop

@@ -6,18 +6,18 @@ use lib.ListN.{length, take}
 use Rattle.plan.specs.Settled.{tablePlan}
 use Rattle.plan.specs.Starts.{Starts}
 use Rattle.procs.specs.Passes.{sizeFrom}
-use Rattle.procs.proofs.Laws.{start-room, start-within, made-more, made-done}
+use Rattle.procs.proofs.Rounds.{start-room, start-within, made-more, made-done}
 use borrow.Author.Needs.{needs}
 use Rattle.procs.proofs.make_round.Statement.{statement}
 use Rattle.procs.proofs.make_round.Tie as tie
 
 abbrev Inv-loop : tie.InvT-loop
-Inv-loop table starts sizes next₀ procs p₀ next p =
+Inv-loop table starts sizes procs next₀ p₀ next p =
     Starts table starts × (procs ≡ length (tablePlan table .procs)) × (p ≤ procs) × (procs ≤ length next₀) × (length next ≡ length next₀)
     × (take p next ≡ map (sizeFrom table sizes) (take p starts))
 
 abbrev μ-loop : tie.MeasureT-loop
-μ-loop table starts sizes next₀ procs p₀ next p = procs - p
+μ-loop table starts sizes procs next₀ p₀ next p = procs - p
 
 loop-holds : tie.Need-loop-holds Inv-loop μ-loop
 loop-holds c = search needs
@@ -34,8 +34,8 @@ size-from-requires c κs = search (start-within, needs)
 mul-next : tie.Need-mul-next Inv-loop μ-loop
 mul-next c = search needs
 
-slice-write-next : tie.Need-slice-write-next Inv-loop μ-loop
-slice-write-next c = search needs
+array-write-next : tie.Need-array-write-next Inv-loop μ-loop
+array-write-next c = search needs
 
 add-p : tie.Need-add-p Inv-loop μ-loop
 add-p c = search needs
@@ -45,9 +45,6 @@ loop-less c = search needs
 
 loop-again : tie.Need-loop-again Inv-loop μ-loop
 loop-again c = search (made-more, needs)
-
-same-length : tie.Need-same-length Inv-loop μ-loop
-same-length c = search needs
 
 returns : tie.Need-returns Inv-loop μ-loop
 returns c = search (made-done, needs)
@@ -63,9 +60,8 @@ make-round-spec =
     shared-slice-read-size-from
     size-from-requires
     mul-next
-    slice-write-next
+    array-write-next
     add-p
     loop-less
     loop-again
-    same-length
     returns)

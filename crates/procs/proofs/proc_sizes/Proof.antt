@@ -4,25 +4,26 @@ use mathlib.Core.Path.{_≡_}
 use lib.ListN.{length, take}
 use Rattle.plan.specs.Settled.{PlanTable, tablePlan}
 use Rattle.plan.specs.Starts.{Starts}
-use Rattle.semantics.proofs.SizeRounds.{sizeRounds}
-use Rattle.procs.proofs.Laws.{procs-fit, procs-fit-still, rounds-none, rounds-more, rounds-done}
+use Rattle.semantics.proofs.Analysis.SizeRounds.{sizeRounds}
+use Rattle.procs.proofs.Rounds.{procs-few, procs-fit, rounds-none, rounds-more, rounds-done}
 use borrow.Author.Needs.{needs}
+use Rattle.limits.specs.Limits.{maxProcs, sizeRoom}
 use Rattle.procs.proofs.proc_sizes.Statement.{statement}
 use Rattle.procs.proofs.proc_sizes.Tie as tie
 
 abbrev Inv-loop : tie.InvT-loop
-Inv-loop table starts procs sizes₀ scratch₀ d₀ sizes scratch d =
-    PlanTable table × Starts table starts × (procs ≡ length (tablePlan table .procs)) × (64 ≤ length sizes₀) × (64 ≤ length scratch₀)
-    × (length sizes ≡ length sizes₀) × (length scratch ≡ length scratch₀) × (d ≤ procs) × (take procs sizes ≡ sizeRounds 1025 d (tablePlan table .procs))
+Inv-loop table procs starts sizes₀ d₀ sizes d =
+    PlanTable table × Starts table starts × (maxProcs ≡ length starts) × (procs ≡ length (tablePlan table .procs))
+    × (maxProcs ≡ length sizes) × (d ≤ procs) × (take procs sizes ≡ sizeRounds sizeRoom d (tablePlan table .procs))
 
 abbrev μ-loop : tie.MeasureT-loop
-μ-loop table starts procs sizes₀ scratch₀ d₀ sizes scratch d = procs - d
-
-clear-requires : tie.Need-clear-requires Inv-loop μ-loop
-clear-requires c κs = search (procs-fit, needs)
+μ-loop table procs starts sizes₀ d₀ sizes d = procs - d
 
 loop-holds : tie.Need-loop-holds Inv-loop μ-loop
 loop-holds c = search (rounds-none, needs)
+
+slice-aggregate-make-round : tie.Need-slice-aggregate-make-round Inv-loop μ-loop
+slice-aggregate-make-round c = search needs
 
 sub-make-round : tie.Need-sub-make-round Inv-loop μ-loop
 sub-make-round c = search needs
@@ -31,13 +32,10 @@ part-make-round-start : tie.Need-part-make-round-start Inv-loop μ-loop
 part-make-round-start c = search needs
 
 part-make-round-end : tie.Need-part-make-round-end Inv-loop μ-loop
-part-make-round-end c = search needs
+part-make-round-end c = search (procs-fit, needs)
 
 make-round-requires : tie.Need-make-round-requires Inv-loop μ-loop
-make-round-requires c κs = search (procs-fit-still, needs)
-
-copy-requires : tie.Need-copy-requires Inv-loop μ-loop
-copy-requires c κs = search (procs-fit-still, needs)
+make-round-requires c κs = search (procs-few, needs)
 
 add-d : tie.Need-add-d Inv-loop μ-loop
 add-d c = search needs
@@ -46,13 +44,7 @@ loop-less : tie.Need-loop-less Inv-loop μ-loop
 loop-less c = search needs
 
 loop-again : tie.Need-loop-again Inv-loop μ-loop
-loop-again c = (search needs, search needs, search needs, search needs, search needs, search needs, search needs, search needs, search (rounds-more, needs))
-
-same-length : tie.Need-same-length Inv-loop μ-loop
-same-length c = search needs
-
-same-length-2 : tie.Need-same-length-2 Inv-loop μ-loop
-same-length-2 c = search needs
+loop-again c = search (rounds-more, needs)
 
 returns : tie.Need-returns Inv-loop μ-loop
 returns c = search (rounds-done, needs)
@@ -63,16 +55,13 @@ proc-sizes-spec =
     (tie.spec
     Inv-loop
     μ-loop
-    clear-requires
     loop-holds
+    slice-aggregate-make-round
     sub-make-round
     part-make-round-start
     part-make-round-end
     make-round-requires
-    copy-requires
     add-d
     loop-less
     loop-again
-    same-length
-    same-length-2
     returns)

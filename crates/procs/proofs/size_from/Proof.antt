@@ -4,15 +4,16 @@ use mathlib.Core.Path.{_≡_}
 use mathlib.Core.List.{map}
 use lib.ListN.{length, drop}
 use Rattle.plan.specs.Table.{formAt}
-use Rattle.procs.specs.Passes.{costFrom, entryOf, sizeFrom}
-use Rattle.procs.proofs.Laws.{capped, size-done, size-over, size-more}
+use Rattle.procs.specs.Passes.{costFrom, knownSize, sizeFrom}
+use Rattle.procs.proofs.Rounds.{capped, size-done, size-over, size-more}
 use borrow.Author.Needs.{needs}
+use Rattle.limits.specs.Limits.{sizeRoom}
 use Rattle.procs.proofs.size_from.Statement.{statement}
 use Rattle.procs.proofs.size_from.Tie as tie
 
 abbrev Inv-loop : tie.InvT-loop
 Inv-loop table sizes place size₀ i₀ size i =
-    (i ≤ length table) × (size ≤ 1025) × (min 1025 (size + costFrom (entryOf sizes) (map formAt (drop i table))) ≡ sizeFrom table sizes place)
+    (i ≤ length table) × (size ≤ sizeRoom) × (min sizeRoom (size + costFrom (knownSize sizes) (map formAt (drop i table))) ≡ sizeFrom table sizes place)
 
 abbrev μ-loop : tie.MeasureT-loop
 μ-loop table sizes place size₀ i₀ size i = length table - i
@@ -30,8 +31,8 @@ shared-slice-read-form-at c = search needs
 form-at-requires : tie.Need-form-at-requires Inv-loop μ-loop
 form-at-requires c κs = search needs
 
-is-over-requires : tie.Need-is-over-requires Inv-loop μ-loop
-is-over-requires c κs = search needs
+begins-other-requires : tie.Need-begins-other-requires Inv-loop μ-loop
+begins-other-requires c κs = search needs
 
 returns : tie.Need-returns Inv-loop μ-loop
 returns c = search (size-over, needs)
@@ -64,7 +65,7 @@ size-from-spec =
     mul-form-at
     shared-slice-read-form-at
     form-at-requires
-    is-over-requires
+    begins-other-requires
     returns
     add-i
     cost-of-requires

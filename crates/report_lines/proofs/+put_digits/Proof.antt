@@ -1,8 +1,7 @@
 -- A number of one digit is that digit; one of several is the digits of its tenth part, which the call writes, and its last digit behind them. The number falls.
 use borrow.Author.Needs.{needs}
-use native.Mathlib.Omega.{arith}
 use lib.ListN.{length-set}
-use Rattle.report_lines.proofs.Digits.{digits-count, first-room, tenth-room, last-room, put-one, put-last}
+use Rattle.report_lines.proofs.Digits.{first-room, tenth-room, last-room, last-fits, put-one, put-last}
 use Prim.Native.Nat.{ℕ, _<_}
 use borrow.Fn.Kinds.{In}
 use borrow.Fn.PlainCycle.{Measures, is, falls, and}
@@ -93,7 +92,7 @@ put-digits-add-result-2 : (t : ℕ) → put-digits-lts.Need-add-result-2 (
   put-digits-below t,
   put-digits.Post,
 ) (put-digits-at t) put-digits.Post
-put-digits-add-result-2 t c = let e = digits-count (c .before .before .before .before .before .before .args .n) (omega arith) in omega arith
+put-digits-add-result-2 t c = search (last-fits, needs)
 
 put-digits-same-length-2 : (t : ℕ) → put-digits-lts.Need-same-length-2 (
   put-digits-below t,

@@ -2,7 +2,8 @@
 use borrow.Author.Needs.{needs}
 use native.Mathlib.Omega.{arith}
 use Rattle.report_lines.proofs.Joined.{stuck-short}
-use Rattle.report_lines.proofs.WholeLines.{deadlock-whole}
+use Rattle.report_lines.proofs.Writing.{wrote-four}
+use Rattle.report_lines.specs.Lines.{deadlockOpen, closing, deadlockLines}
 use Rattle.report_lines.proofs.put_deadlock.Statement.{statement}
 use Rattle.report_lines.proofs.put_deadlock.Tie as tie
 
@@ -16,19 +17,20 @@ put-stuck-requires : tie.Need-put-stuck-requires
 put-stuck-requires c κs = search needs
 
 put-steps-requires : tie.Need-put-steps-requires
-put-steps-requires c κs = let h = stuck-short (c .before .before .before .before .before .before .before .before .before .before .before .before .args .threads) in omega arith
+put-steps-requires c κs = omega (arith, stuck-short)
 
 slice-aggregate-put-text-2 : tie.Need-slice-aggregate-put-text-2
 slice-aggregate-put-text-2 c = search needs
 
 put-text-requires-2 : tie.Need-put-text-requires-2
-put-text-requires-2 c κs = let h = stuck-short (c .before .before .before .before .before .before .before .before .before .before .before .before .before .before .before .before .before .args .threads) in omega arith
+put-text-requires-2 c κs = omega (arith, stuck-short)
 
 same-length : tie.Need-same-length
 same-length c = search needs
 
 returns : tie.Need-returns
-returns c = search (deadlock-whole, needs)
+unfolding deadlockLines deadlockOpen closing
+returns c = search (wrote-four, needs)
 
 pub put-deadlock-spec : {M : Type 1} → statement M
 put-deadlock-spec =

@@ -1,11 +1,12 @@
--- The word is written first, and the digits at the place behind it.
+-- The keyword is written first, and the digits at the place behind it.
 use borrow.Author.Needs.{needs}
-use Rattle.report_lines.proofs.Writing.{word-room, rest-room, wrote-more}
+use Rattle.laws.proofs.Wrote.{wrote-more}
+use Rattle.report_lines.proofs.Writing.{keyword-room, rest-room}
 use Rattle.report_lines.proofs.put_numbered.Statement.{statement}
 use Rattle.report_lines.proofs.put_numbered.Tie as tie
 
 put-text-requires : tie.Need-put-text-requires
-put-text-requires c κs = search (word-room, needs)
+put-text-requires c κs = search (keyword-room, needs)
 
 put-digits-requires : tie.Need-put-digits-requires
 put-digits-requires c κs = search (rest-room, needs)

@@ -1,7 +1,6 @@
--- The wanted lock with the word before it, the held locks, then the end. The wanted lock has at most 2 digits, the held ones have at most 192 bytes together.
+-- The wanted lock with the pair before it, the held locks, then the end. The wanted lock has at most 2 digits, the held ones have at most 192 bytes together.
 use borrow.Author.Needs.{needs}
-use native.Mathlib.Omega.{arith}
-use Rattle.report_lines.proofs.WholeLines.{wanted-short, held-short, pair-whole}
+use Rattle.report_lines.proofs.WholeLines.{wanted-room, held-room, pair-end-room, pair-whole}
 use Rattle.report_lines.proofs.put_pair.Statement.{statement}
 use Rattle.report_lines.proofs.put_pair.Tie as tie
 
@@ -15,22 +14,16 @@ slice-aggregate-put-numbered : tie.Need-slice-aggregate-put-numbered
 slice-aggregate-put-numbered c = search needs
 
 put-numbered-requires : tie.Need-put-numbered-requires
-put-numbered-requires c κs =
-    let b = c .before .before in
-    omega (arith, wanted-short _ _ (b .before .wanted-in .ensures), held-short _ _ (b .held-in .ensures))
+put-numbered-requires c κs = search (wanted-room, needs)
 
 put-members-requires : tie.Need-put-members-requires
-put-members-requires c κs =
-    let b = c .before .before .before .before .before .before in
-    omega (arith, wanted-short _ _ (b .before .wanted-in .ensures), held-short _ _ (b .held-in .ensures))
+put-members-requires c κs = search (held-room, needs)
 
 slice-aggregate-put-text : tie.Need-slice-aggregate-put-text
 slice-aggregate-put-text c = search needs
 
 put-text-requires : tie.Need-put-text-requires
-put-text-requires c κs =
-    let b = c .before .before .before .before .before .before .before .before .before .before .before in
-    omega (arith, wanted-short _ _ (b .before .wanted-in .ensures), held-short _ _ (b .held-in .ensures))
+put-text-requires c κs = search (pair-end-room, needs)
 
 same-length : tie.Need-same-length
 same-length c = search needs

@@ -3,16 +3,16 @@ use borrow.Author.Needs.{needs}
 use Prim.Native.Nat.{_+_, _-_, _*_, _≤_}
 use mathlib.Core.Path.{_≡_}
 use lib.ListN.{length}
-use Rattle.report_lines.specs.Lines.{pairLine}
+use Rattle.report_lines.specs.Lines.{pairLine, pairLineRoom}
 use Rattle.report_lines.proofs.Joined.{Joined, pair-short, joined-none, joined-room, joined-more, joined-done, joined-within}
 use Rattle.report_lines.proofs.put_pairs.Statement.{statement}
 use Rattle.report_lines.proofs.put_pairs.Tie as tie
 
 abbrev Inv-loop : tie.InvT-loop
-Inv-loop out₀ at words i₀ k₀ out i k = (k ≤ length words) × (at + length words * 202 ≤ length out₀) × (length out ≡ length out₀) × Joined pairLine 202 out₀ out at i k words
+Inv-loop out₀ at pairs i₀ k₀ out i k = (k ≤ length pairs) × (at + length pairs * pairLineRoom ≤ length out₀) × (length out ≡ length out₀) × Joined pairLine pairLineRoom out₀ out at i k pairs
 
 abbrev μ-loop : tie.MeasureT-loop
-μ-loop out₀ at words i₀ k₀ out i k = length words - k
+μ-loop out₀ at pairs i₀ k₀ out i k = length pairs - k
 
 loop-holds : tie.Need-loop-holds Inv-loop μ-loop
 loop-holds c = search (joined-none, needs)

@@ -1,8 +1,9 @@
--- The word with the number, then the line end; a procedure's number has at most 20 digits.
+-- The pair with the number, then the line end; a procedure's number has at most 20 digits.
 use borrow.Author.Needs.{needs}
 use native.Mathlib.Omega.{arith}
-use Rattle.report_lines.proofs.Digits.{digits-short}
-use Rattle.report_lines.proofs.WholeLines.{proc-whole}
+use Rattle.laws.proofs.Wrote.{wrote-more}
+use Rattle.report_lines.specs.Lines.{procOpen}
+use Rattle.report_lines.proofs.Digits.{number-short}
 use Rattle.report_lines.proofs.put_proc.Statement.{statement}
 use Rattle.report_lines.proofs.put_proc.Tie as tie
 
@@ -10,19 +11,20 @@ slice-aggregate-put-numbered : tie.Need-slice-aggregate-put-numbered
 slice-aggregate-put-numbered c = search needs
 
 put-numbered-requires : tie.Need-put-numbered-requires
-put-numbered-requires c κs = let h = digits-short 19 (c .before .before .before .args .p) (omega arith) in omega arith
+put-numbered-requires c κs = omega (arith, number-short)
 
 slice-aggregate-put-text : tie.Need-slice-aggregate-put-text
 slice-aggregate-put-text c = search needs
 
 put-text-requires : tie.Need-put-text-requires
-put-text-requires c κs = let h = digits-short 19 (c .before .before .before .before .before .before .before .before .args .p) (omega arith) in omega arith
+put-text-requires c κs = omega (arith, number-short)
 
 same-length : tie.Need-same-length
 same-length c = search needs
 
 returns : tie.Need-returns
-returns c = search (proc-whole, needs)
+unfolding procOpen
+returns c = search (wrote-more, needs)
 
 pub put-proc-spec : {M : Type 1} → statement M
 put-proc-spec =

@@ -2,7 +2,8 @@
 use borrow.Author.Needs.{needs}
 use native.Mathlib.Omega.{arith}
 use Rattle.report_lines.proofs.Joined.{proc-short}
-use Rattle.report_lines.proofs.WholeLines.{proc-lines-whole}
+use Rattle.laws.proofs.Wrote.{wrote-three}
+use Rattle.report_lines.specs.Lines.{closing, procLines}
 use Rattle.report_lines.proofs.put_proc_lines.Statement.{statement}
 use Rattle.report_lines.proofs.put_proc_lines.Tie as tie
 
@@ -10,19 +11,20 @@ put-proc-requires : tie.Need-put-proc-requires
 put-proc-requires c κs = search needs
 
 put-pairs-requires : tie.Need-put-pairs-requires
-put-pairs-requires c κs = let h = proc-short (c .before .before .before .before .before .before .before .args .p) (omega arith) in omega arith
+put-pairs-requires c κs = omega (arith, proc-short)
 
 slice-aggregate-put-text : tie.Need-slice-aggregate-put-text
 slice-aggregate-put-text c = search needs
 
 put-text-requires : tie.Need-put-text-requires
-put-text-requires c κs = let h = proc-short (c .before .before .before .before .before .before .before .before .before .before .before .before .args .p) (omega arith) in omega arith
+put-text-requires c κs = omega (arith, proc-short)
 
 same-length : tie.Need-same-length
 same-length c = search needs
 
 returns : tie.Need-returns
-returns c = search (proc-lines-whole, needs)
+unfolding procLines closing
+returns c = search (wrote-three, needs)
 
 pub put-proc-lines-spec : {M : Type 1} → statement M
 put-proc-lines-spec =

@@ -1,7 +1,6 @@
--- The thread and the choice with the words before them, then the end. A thread has one digit, a choice at most 4.
+-- The thread and the choice with the pairs before them, then the end. A thread has one digit, a choice at most 4.
 use borrow.Author.Needs.{needs}
-use native.Mathlib.Omega.{arith}
-use Rattle.report_lines.proofs.WholeLines.{thread-short, choice-short, step-whole}
+use Rattle.report_lines.proofs.WholeLines.{thread-room, choice-room, step-end-room, step-whole}
 use Rattle.report_lines.proofs.put_step.Statement.{statement}
 use Rattle.report_lines.proofs.put_step.Tie as tie
 
@@ -15,25 +14,19 @@ slice-aggregate-put-numbered : tie.Need-slice-aggregate-put-numbered
 slice-aggregate-put-numbered c = search needs
 
 put-numbered-requires : tie.Need-put-numbered-requires
-put-numbered-requires c κs =
-    let b = c .before .before in
-    omega (arith, thread-short _ _ (b .before .thread-in .ensures), choice-short _ _ (omega arith) (b .rest-in .ensures))
+put-numbered-requires c κs = search (thread-room, needs)
 
 slice-aggregate-put-numbered-2 : tie.Need-slice-aggregate-put-numbered-2
 slice-aggregate-put-numbered-2 c = search needs
 
 put-numbered-requires-2 : tie.Need-put-numbered-requires-2
-put-numbered-requires-2 c κs =
-    let b = c .before .before .before .before .before .before .before in
-    omega (arith, thread-short _ _ (b .before .thread-in .ensures), choice-short _ _ (omega arith) (b .rest-in .ensures))
+put-numbered-requires-2 c κs = search (choice-room, needs)
 
 slice-aggregate-put-text : tie.Need-slice-aggregate-put-text
 slice-aggregate-put-text c = search needs
 
 put-text-requires : tie.Need-put-text-requires
-put-text-requires c κs =
-    let b = c .before .before .before .before .before .before .before .before .before .before .before .before in
-    omega (arith, thread-short _ _ (b .before .thread-in .ensures), choice-short _ _ (omega arith) (b .rest-in .ensures))
+put-text-requires c κs = search (step-end-room, needs)
 
 same-length : tie.Need-same-length
 same-length c = search needs

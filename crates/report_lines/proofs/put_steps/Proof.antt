@@ -3,13 +3,13 @@ use borrow.Author.Needs.{needs}
 use Prim.Native.Nat.{_+_, _-_, _*_, _≤_}
 use mathlib.Core.Path.{_≡_}
 use lib.ListN.{length}
-use Rattle.report_lines.specs.Lines.{stepLine}
+use Rattle.report_lines.specs.Lines.{stepLine, stepLineRoom}
 use Rattle.report_lines.proofs.Joined.{Joined, step-short, joined-none, joined-room, joined-more, joined-done, joined-within}
 use Rattle.report_lines.proofs.put_steps.Statement.{statement}
 use Rattle.report_lines.proofs.put_steps.Tie as tie
 
 abbrev Inv-loop : tie.InvT-loop
-Inv-loop out₀ at entries i₀ k₀ out i k = (k ≤ length entries) × (at + length entries * 14 ≤ length out₀) × (length out ≡ length out₀) × Joined stepLine 14 out₀ out at i k entries
+Inv-loop out₀ at entries i₀ k₀ out i k = (k ≤ length entries) × (at + length entries * stepLineRoom ≤ length out₀) × (length out ≡ length out₀) × Joined stepLine stepLineRoom out₀ out at i k entries
 
 abbrev μ-loop : tie.MeasureT-loop
 μ-loop out₀ at entries i₀ k₀ out i k = length entries - k
@@ -34,8 +34,8 @@ loop-less c = search needs
 
 loop-again : tie.Need-loop-again Inv-loop μ-loop
 loop-again c =
-    let k = c .before .before .before .before .before .before .loop .k in
-    let short = step-short _ (c .before .before .before .shared-slice-known2 .given k .fits) in
+    let b = c .before .before .before in
+    let short = step-short _ (b .shared-slice-known2 .given (b .before .before .before .loop .k)) in
     search (joined-more, short, needs)
 
 same-length : tie.Need-same-length Inv-loop μ-loop

@@ -3,8 +3,8 @@ use borrow.Author.Needs.{needs}
 use Prim.Native.Nat.{_+_, _-_, _≤_}
 use mathlib.Core.Path.{_≡_}
 use lib.ListN.{length, take, length-set}
-use Rattle.report_lines.specs.Lines.{Wrote}
-use Rattle.report_lines.proofs.Writing.{copy-none, copy-more, copy-done}
+use Rattle.laws.specs.Wrote.{Wrote}
+use Rattle.laws.proofs.Wrote.{copy-none, copy-more, copy-done}
 use Rattle.report_lines.proofs.put_text.Statement.{statement}
 use Rattle.report_lines.proofs.put_text.Tie as tie
 

@@ -1,13 +1,10 @@
 -- An accepted text leaves the table of its plan; of a refused one the answer is the refusal.
-use Rattle.report_text.proofs.Preparing.{plan-within, plan-prepared, refused-prepared}
-use Rattle.checked.proofs.Checked.{plan-room}
+use Rattle.report_text.proofs.Preparing.{plan-prepared, refused-prepared}
+use Rattle.plan.proofs.AcceptedTable.{plan-room, rules-kept}
+use Rattle.checked.proofs.Checked.{plan-laid}
 use borrow.Author.Needs.{needs}
 use Rattle.report_text.proofs.judge_text.Statement.{statement}
 use Rattle.report_text.proofs.judge_text.Tie as tie
-use Rattle.report_text.proofs.judge_text.Reads as reads
-use Rattle.report_text.proofs.judge_text.Lts as lts
-use Rattle.report_text.proofs.judge_plan.Reads as judge-plan-reads
-use Rattle.checked.proofs.read_text.Reads as read-text-reads
 
 read-text-requires : tie.Need-read-text-requires
 read-text-requires c κs = search needs
@@ -25,7 +22,7 @@ part-judge-plan-end : tie.Need-part-judge-plan-end
 part-judge-plan-end c = search (plan-room, needs)
 
 judge-plan-requires : tie.Need-judge-plan-requires
-judge-plan-requires c κs = search (plan-within, needs)
+judge-plan-requires c κs = (search (rules-kept, needs), search (plan-laid, needs), search needs)
 
 enum-known-reading-2 : tie.Need-enum-known-reading-2
 enum-known-reading-2 c = search needs

@@ -1,15 +1,11 @@
--- The words are those of the critical pairs, at most 128 since rule 10 refuses nothing; so their lines fit.
+-- The pairs are no more than rule 10 allows, since it refuses nothing; so their lines fit.
 use Rattle.report_text.proofs.Parts.{procedure-room, procedure-lines}
 use borrow.Author.Needs.{needs}
 use Rattle.report_text.proofs.put_pair_lines.Statement.{statement}
 use Rattle.report_text.proofs.put_pair_lines.Tie as tie
-use Rattle.report_text.proofs.put_pair_lines.Reads as reads
-use Rattle.report_text.proofs.put_pair_lines.Lts as lts
-use Rattle.pairs.proofs.pair_words.Reads as pair-words-reads
-use Rattle.report_lines.proofs.put_proc_lines.Reads as put-proc-lines-reads
 
-pair-words-requires : tie.Need-pair-words-requires
-pair-words-requires c κs = search needs
+collect-pairs-requires : tie.Need-collect-pairs-requires
+collect-pairs-requires c κs = search needs
 
 sub-put-proc-lines : tie.Need-sub-put-proc-lines
 sub-put-proc-lines c = search needs
@@ -36,7 +32,7 @@ pub put-pair-lines-spec : {M : Type 1} → statement M
 put-pair-lines-spec =
     tie.close
     (tie.spec
-    pair-words-requires
+    collect-pairs-requires
     sub-put-proc-lines
     part-put-proc-lines-start
     part-put-proc-lines-end

@@ -4,11 +4,6 @@ use Rattle.report_text.proofs.Parts.{part-open, part-procedure, part-ve
 use borrow.Author.Needs.{needs}
 use Rattle.report_text.proofs.put_part.Statement.{statement}
 use Rattle.report_text.proofs.put_part.Tie as tie
-use Rattle.report_text.proofs.put_part.Reads as reads
-use Rattle.report_text.proofs.put_part.Lts as lts
-use Rattle.report_lines.proofs.put_text.Reads as put-text-reads
-use Rattle.report_text.proofs.put_procedure.Reads as put-procedure-reads
-use Rattle.report_text.proofs.put_verdict.Reads as put-verdict-reads
 
 slice-aggregate-put-text : tie.Need-slice-aggregate-put-text
 slice-aggregate-put-text c = search needs

@@ -1,11 +1,8 @@
 -- The table that is lent on is the part that holds the text's forms.
-use Rattle.report_text.proofs.Parts.{table-within, table-starts, table-procs, table-lines}
+use Rattle.report_text.proofs.Parts.{table-rules, table-laid, table-procs, table-lines}
 use borrow.Author.Needs.{needs}
 use Rattle.report_text.proofs.put_procedure.Statement.{statement}
 use Rattle.report_text.proofs.put_procedure.Tie as tie
-use Rattle.report_text.proofs.put_procedure.Reads as reads
-use Rattle.report_text.proofs.put_procedure.Lts as lts
-use Rattle.report_text.proofs.put_pair_lines.Reads as put-pair-lines-reads
 
 sub-put-pair-lines : tie.Need-sub-put-pair-lines
 sub-put-pair-lines c = search needs
@@ -19,11 +16,8 @@ part-put-pair-lines-end c = search needs
 slice-aggregate-put-pair-lines : tie.Need-slice-aggregate-put-pair-lines
 slice-aggregate-put-pair-lines c = search needs
 
-slice-aggregate-put-pair-lines-2 : tie.Need-slice-aggregate-put-pair-lines-2
-slice-aggregate-put-pair-lines-2 c = search needs
-
 put-pair-lines-requires : tie.Need-put-pair-lines-requires
-put-pair-lines-requires c κs = search (table-within, table-starts, table-procs, needs)
+put-pair-lines-requires c κs = search (table-rules, table-laid, table-procs, needs)
 
 same-length : tie.Need-same-length
 same-length c = search needs
@@ -39,7 +33,6 @@ put-procedure-spec =
     part-put-pair-lines-start
     part-put-pair-lines-end
     slice-aggregate-put-pair-lines
-    slice-aggregate-put-pair-lines-2
     put-pair-lines-requires
     same-length
     returns)

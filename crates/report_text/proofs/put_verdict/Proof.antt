@@ -3,11 +3,6 @@ use Rattle.report_text.proofs.Parts.{free-part, refused-part, schedule-
 use borrow.Author.Needs.{needs}
 use Rattle.report_text.proofs.put_verdict.Statement.{statement}
 use Rattle.report_text.proofs.put_verdict.Tie as tie
-use Rattle.report_text.proofs.put_verdict.Reads as reads
-use Rattle.report_text.proofs.put_verdict.Lts as lts
-use Rattle.report_lines.proofs.put_deadlock.Reads as put-deadlock-reads
-use Rattle.report_lines.proofs.put_refused.Reads as put-refused-reads
-use Rattle.report_lines.proofs.put_text.Reads as put-text-reads
 
 enum-told : tie.Need-enum-told
 enum-told c = search needs

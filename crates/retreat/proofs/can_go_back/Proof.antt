@@ -1,5 +1,6 @@
 -- By whether the thread has stepped; then the machine's test is that of the definition.
-use Rattle.retreat.proofs.Laws.{within-before, back-none, back-test}
+use Rattle.retreat.proofs.HeldLocks.{within-before}
+use Rattle.retreat.proofs.StepBack.{back-none, back-test}
 use borrow.Author.Needs.{needs}
 use Rattle.retreat.proofs.can_go_back.Statement.{statement}
 use Rattle.retreat.proofs.can_go_back.Tie as tie

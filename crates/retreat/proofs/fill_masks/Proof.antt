@@ -3,18 +3,19 @@ use borrow.Author.Needs.{needs}
 use Prim.Native.Nat.{_-_, _≤_}
 use mathlib.Core.Path.{_≡_}
 use lib.ListN.{length}
-use Rattle.retreat.specs.Paths.{Within, Holding}
-use Rattle.retreat.proofs.Laws.{within-at, holding-none, holding-more, holding-done}
+use Rattle.limits.specs.Limits.{maxThreads, maxEntries}
+use Rattle.retreat.specs.Paths.{InRows, Holding}
+use Rattle.retreat.proofs.HeldLocks.{within-at, holding-none, holding-more, holding-done}
 use Rattle.retreat.proofs.fill_masks.Statement.{statement}
 use Rattle.retreat.proofs.fill_masks.Tie as tie
 
 abbrev Inv-loop : tie.InvT-loop
-Inv-loop steps js masks₀ n t₀ masks t =
-    (t ≤ n) × (n ≤ 6) × (6144 ≤ length steps) × (6 ≤ length js) × (6 ≤ length masks₀) × (length masks ≡ length masks₀)
-    × Within steps js n × Holding steps js masks t
+Inv-loop steps positions masks₀ n t₀ masks t =
+    (t ≤ n) × (n ≤ maxThreads) × (maxEntries ≤ length steps) × (maxThreads ≤ length positions) × (maxThreads ≤ length masks₀) × (length masks ≡ length masks₀) × InRows steps positions n
+    × Holding steps positions masks t
 
 abbrev μ-loop : tie.MeasureT-loop
-μ-loop steps js masks₀ n t₀ masks t = n - t
+μ-loop steps positions masks₀ n t₀ masks t = n - t
 
 loop-holds : tie.Need-loop-holds Inv-loop μ-loop
 loop-holds c = search (holding-none, needs)

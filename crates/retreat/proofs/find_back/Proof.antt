@@ -3,15 +3,15 @@ use borrow.Author.Needs.{needs}
 use Prim.Native.Nat.{_-_, _≤_}
 use Rattle.retreat.specs.Paths.{mayGoBack, Standing}
 use Rattle.retreat.specs.Moves.{NoneBelow}
-use Rattle.retreat.proofs.Laws.{first-start, first-more, first-found, first-none}
+use Rattle.retreat.proofs.FirstThread.{first-start, first-more, first-found, first-none}
 use Rattle.retreat.proofs.find_back.Statement.{statement}
 use Rattle.retreat.proofs.find_back.Tie as tie
 
 abbrev Inv-loop : tie.InvT-loop
-Inv-loop steps js masks n k₀ k = (k ≤ n) × Standing steps js masks n × NoneBelow (mayGoBack steps js n) k
+Inv-loop steps positions masks n k₀ k = (k ≤ n) × Standing steps positions masks n × NoneBelow (mayGoBack steps positions n) k
 
 abbrev μ-loop : tie.MeasureT-loop
-μ-loop steps js masks n k₀ k = n - k
+μ-loop steps positions masks n k₀ k = n - k
 
 loop-holds : tie.Need-loop-holds Inv-loop μ-loop
 loop-holds c = search (first-start, needs)

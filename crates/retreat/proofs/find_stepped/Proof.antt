@@ -2,16 +2,17 @@
 use borrow.Author.Needs.{needs}
 use Prim.Native.Nat.{_-_, _≤_}
 use lib.ListN.{length}
+use Rattle.limits.specs.Limits.{maxThreads}
 use Rattle.retreat.specs.Moves.{NoneBelow, hasStepped}
-use Rattle.retreat.proofs.Laws.{first-start, first-none, stepped-more, stepped-found}
+use Rattle.retreat.proofs.FirstThread.{first-start, first-none, stepped-more, stepped-found}
 use Rattle.retreat.proofs.find_stepped.Statement.{statement}
 use Rattle.retreat.proofs.find_stepped.Tie as tie
 
 abbrev Inv-loop : tie.InvT-loop
-Inv-loop js n t₀ t = (t ≤ n) × (n ≤ 6) × (6 ≤ length js) × NoneBelow (hasStepped js) t
+Inv-loop positions n t₀ t = (t ≤ n) × (n ≤ maxThreads) × (maxThreads ≤ length positions) × NoneBelow (hasStepped positions) t
 
 abbrev μ-loop : tie.MeasureT-loop
-μ-loop js n t₀ t = n - t
+μ-loop positions n t₀ t = n - t
 
 loop-holds : tie.Need-loop-holds Inv-loop μ-loop
 loop-holds c = search (first-start, needs)

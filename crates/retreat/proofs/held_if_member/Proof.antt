@@ -1,5 +1,5 @@
 -- By whether the thread is a member.
-use Rattle.retreat.proofs.Laws.{member-holds, no-member}
+use Rattle.retreat.proofs.StuckRounds.{member-holds, no-member}
 use borrow.Author.Needs.{needs}
 use Rattle.retreat.proofs.held_if_member.Statement.{statement}
 use Rattle.retreat.proofs.held_if_member.Tie as tie

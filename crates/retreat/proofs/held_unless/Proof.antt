@@ -1,5 +1,5 @@
 -- By whether the thread is k.
-use Rattle.retreat.proofs.Laws.{unless-same, unless-other}
+use Rattle.retreat.proofs.HeldLocks.{unless-same, unless-other}
 use borrow.Author.Needs.{needs}
 use Rattle.retreat.proofs.held_unless.Statement.{statement}
 use Rattle.retreat.proofs.held_unless.Tie as tie

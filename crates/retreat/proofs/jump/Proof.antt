@@ -3,19 +3,20 @@ use borrow.Author.Needs.{needs}
 use Prim.Native.Nat.{_-_, _≤_}
 use mathlib.Core.Path.{_≡_}
 use lib.ListN.{length, drop}
+use Rattle.limits.specs.Limits.{maxThreads}
 use Rattle.retreat.specs.Paths.{NoneMayGoBack, Standing}
 use Rattle.retreat.specs.Moves.{Landed}
-use Rattle.retreat.proofs.Laws.{jump-some, jump-within, jump-locks, jump-keep, landed-none, landed-more, landed-done}
+use Rattle.retreat.proofs.Landings.{jump-some, jump-within, jump-locks, jump-keep, landed-none, landed-more, landed-done}
 use Rattle.retreat.proofs.jump.Statement.{statement}
 use Rattle.retreat.proofs.jump.Tie as tie
 
 abbrev Inv-loop : tie.InvT-loop
-Inv-loop steps begins masks js₀ wishes₀ n k₀ js wishes k =
-    (k ≤ n) × Standing steps js₀ masks n × (6 ≤ length begins) × (6 ≤ length wishes₀) × (length js ≡ length js₀) × (length wishes ≡ length wishes₀)
-    × NoneMayGoBack steps js₀ n × (drop k js ≡ drop k js₀) × Landed steps begins n js₀ js wishes k
+Inv-loop steps begins masks positions₀ wanted₀ n k₀ positions wanted k =
+    (k ≤ n) × Standing steps positions₀ masks n × (maxThreads ≤ length begins) × (maxThreads ≤ length wanted₀) × (length positions ≡ length positions₀) × (length wanted ≡ length wanted₀)
+    × NoneMayGoBack steps positions₀ n × (drop k positions ≡ drop k positions₀) × Landed steps begins n positions₀ positions wanted k
 
 abbrev μ-loop : tie.MeasureT-loop
-μ-loop steps begins masks js₀ wishes₀ n k₀ js wishes k = n - k
+μ-loop steps begins masks positions₀ wanted₀ n k₀ positions wanted k = n - k
 
 loop-holds : tie.Need-loop-holds Inv-loop μ-loop
 loop-holds c = search (landed-none, needs)
@@ -29,17 +30,17 @@ slice-read-land c = search needs
 land-requires : tie.Need-land-requires Inv-loop μ-loop
 land-requires c κs = search (jump-some, jump-within, jump-locks, needs)
 
-mul-js : tie.Need-mul-js Inv-loop μ-loop
-mul-js c = search needs
+mul-positions : tie.Need-mul-positions Inv-loop μ-loop
+mul-positions c = search needs
 
-slice-write-js : tie.Need-slice-write-js Inv-loop μ-loop
-slice-write-js c = search needs
+slice-write-positions : tie.Need-slice-write-positions Inv-loop μ-loop
+slice-write-positions c = search needs
 
-mul-wishes : tie.Need-mul-wishes Inv-loop μ-loop
-mul-wishes c = search needs
+mul-wanted : tie.Need-mul-wanted Inv-loop μ-loop
+mul-wanted c = search needs
 
-slice-write-wishes : tie.Need-slice-write-wishes Inv-loop μ-loop
-slice-write-wishes c = search needs
+slice-write-wanted : tie.Need-slice-write-wanted Inv-loop μ-loop
+slice-write-wanted c = search needs
 
 add-k : tie.Need-add-k Inv-loop μ-loop
 add-k c = search needs
@@ -79,10 +80,10 @@ jump-spec =
     mul-land
     slice-read-land
     land-requires
-    mul-js
-    slice-write-js
-    mul-wishes
-    slice-write-wishes
+    mul-positions
+    slice-write-positions
+    mul-wanted
+    slice-write-wanted
     add-k
     loop-less
     loop-again

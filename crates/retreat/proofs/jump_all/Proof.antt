@@ -8,7 +8,7 @@ fill-masks-requires c κs = search needs
 
 jump-requires : tie.Need-jump-requires
 jump-requires c κs = (
-  record { paths = search needs; positions = search needs; table = search needs; few = search needs; within = search needs; holding = search needs },
+  record { paths = search needs; places = search needs; table = search needs; few = search needs; in-rows = search needs; holding = search needs },
   search needs,
   search needs,
   search needs,

@@ -1,5 +1,5 @@
 -- At its start the thread stays; else it goes before the hold of the lowest lock that it gave up and another holds.
-use Rattle.retreat.proofs.Laws.{land-still, land-some, land-small, land-back}
+use Rattle.retreat.proofs.Landings.{land-still, land-some, land-small, land-back}
 use borrow.Author.Needs.{needs}
 use Rattle.retreat.proofs.land.Statement.{statement}
 use Rattle.retreat.proofs.land.Tie as tie
@@ -25,14 +25,14 @@ others-hold-requires c κs = search needs
 lowest-requires : tie.Need-lowest-requires
 lowest-requires c κs = search (land-some, land-small, needs)
 
+cast-l : tie.Need-cast-l
+cast-l c = search needs
+
 sub-scan-back : tie.Need-sub-scan-back
 sub-scan-back c = search needs
 
 scan-back-requires : tie.Need-scan-back-requires
 scan-back-requires c κs = search needs
-
-cast-lock-bit : tie.Need-cast-lock-bit
-cast-lock-bit c = search needs
 
 lock-bit-requires : tie.Need-lock-bit-requires
 lock-bit-requires c κs = search needs
@@ -51,8 +51,8 @@ land-spec =
     mask-at-requires
     others-hold-requires
     lowest-requires
+    cast-l
     sub-scan-back
     scan-back-requires
-    cast-lock-bit
     lock-bit-requires
     returns-2)

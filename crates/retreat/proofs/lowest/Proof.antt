@@ -1,5 +1,5 @@
 -- The number of trailing zeros is that of the lowest digit that is 1, and a mask below 2 ^ 32 has none from 32 on.
-use Rattle.retreat.proofs.Laws.{lowest-lock}
+use Rattle.retreat.proofs.Landings.{lowest-lock}
 use Rattle.retreat.proofs.lowest.Statement.{statement}
 use Rattle.retreat.proofs.lowest.Tie as tie
 

@@ -1,5 +1,5 @@
 -- At position 0 the mask is 0, and at another it is the mask of the step before.
-use Rattle.retreat.proofs.Laws.{mask-first, mask-next}
+use Rattle.retreat.proofs.HeldLocks.{mask-first, mask-next}
 use borrow.Author.Needs.{needs}
 use Rattle.retreat.proofs.mask_at.Statement.{statement}
 use Rattle.retreat.proofs.mask_at.Tie as tie

@@ -3,13 +3,14 @@ use borrow.Author.Needs.{needs}
 use Prim.Native.Nat.{_-_, _≤_}
 use mathlib.Core.Path.{_≡_}
 use lib.ListN.{length}
-use Rattle.semantics.proofs.Closing.{heldByMembers}
-use Rattle.retreat.proofs.Laws.{members-none, members-more, members-done}
+use Rattle.limits.specs.Limits.{maxThreads}
+use Rattle.semantics.specs.StuckRounds.{heldByMembers}
+use Rattle.retreat.proofs.StuckRounds.{members-none, members-more, members-done}
 use Rattle.retreat.proofs.members_hold.Statement.{statement}
 use Rattle.retreat.proofs.members_hold.Tie as tie
 
 abbrev Inv-loop : tie.InvT-loop
-Inv-loop masks m n t all₀ u₀ all u = (u ≤ n) × (n ≤ 6) × (6 ≤ length masks) × (all ≡ heldByMembers u masks m t)
+Inv-loop masks m n t all₀ u₀ all u = (u ≤ n) × (n ≤ maxThreads) × (maxThreads ≤ length masks) × (all ≡ heldByMembers u masks m t)
 
 abbrev μ-loop : tie.MeasureT-loop
 μ-loop masks m n t all₀ u₀ all u = n - u

@@ -3,13 +3,14 @@ use borrow.Author.Needs.{needs}
 use Prim.Native.Nat.{_-_, _≤_}
 use mathlib.Core.Path.{_≡_}
 use lib.ListN.{length}
+use Rattle.limits.specs.Limits.{maxThreads}
 use Rattle.retreat.specs.Paths.{heldByOthers}
-use Rattle.retreat.proofs.Laws.{others-none, others-more, others-done}
+use Rattle.retreat.proofs.HeldLocks.{others-none, others-more, others-done}
 use Rattle.retreat.proofs.others_hold.Statement.{statement}
 use Rattle.retreat.proofs.others_hold.Tie as tie
 
 abbrev Inv-loop : tie.InvT-loop
-Inv-loop masks n k all₀ i₀ all i = (i ≤ n) × (n ≤ 6) × (6 ≤ length masks) × (all ≡ heldByOthers masks i k)
+Inv-loop masks n k all₀ i₀ all i = (i ≤ n) × (n ≤ maxThreads) × (maxThreads ≤ length masks) × (all ≡ heldByOthers masks i k)
 
 abbrev μ-loop : tie.MeasureT-loop
 μ-loop masks n k all₀ i₀ all i = n - i

@@ -1,5 +1,5 @@
 -- The entry of the last step of thread k, and its position one lower.
-use Rattle.retreat.proofs.Moves.{entry-put}
+use Rattle.retreat.proofs.StepBack.{entry-put}
 use borrow.Author.Needs.{needs}
 use Rattle.retreat.proofs.put_entry.Statement.{statement}
 use Rattle.retreat.proofs.put_entry.Tie as tie
@@ -40,11 +40,11 @@ mul-entries c = search needs
 slice-write-entries : tie.Need-slice-write-entries
 slice-write-entries c = search needs
 
-mul-js : tie.Need-mul-js
-mul-js c = search needs
+mul-positions : tie.Need-mul-positions
+mul-positions c = search needs
 
-slice-write-js : tie.Need-slice-write-js
-slice-write-js c = search needs
+slice-write-positions : tie.Need-slice-write-positions
+slice-write-positions c = search needs
 
 same-length : tie.Need-same-length
 same-length c = search needs
@@ -71,8 +71,8 @@ put-entry-spec =
     cast-entries
     mul-entries
     slice-write-entries
-    mul-js
-    slice-write-js
+    mul-positions
+    slice-write-positions
     same-length
     same-length-2
     returns)

@@ -1,16 +1,17 @@
 -- The scan from a on ends where the scan from j on does.
 use borrow.Author.Needs.{needs}
-use Prim.Native.Nat.{_-_, _≤_, _<_}
+use Prim.Native.Nat.{_≤_, _<_}
 use mathlib.Core.Path.{_≡_}
 use lib.ListN.{length}
-use Rattle.semantics.proofs.RetreatMoves.{scanBack}
+use Rattle.limits.specs.Limits.{maxThreads, lockCount, maxSize, maxEntries}
+use Rattle.semantics.specs.Retreat.{scanBack}
 use Rattle.retreat.specs.Paths.{masksOf}
-use Rattle.retreat.proofs.Laws.{scan-more, scan-here, scan-out}
+use Rattle.retreat.proofs.Landings.{scan-more, scan-here, scan-out}
 use Rattle.retreat.proofs.scan_back.Statement.{statement}
 use Rattle.retreat.proofs.scan_back.Tie as tie
 
 abbrev Inv-loop : tie.InvT-loop
-Inv-loop steps t l j a₀ a = (6144 ≤ length steps) × (t < 6) × (l < 32) × (a ≤ 1024) × (scanBack (masksOf steps t) l a ≡ scanBack (masksOf steps t) l j)
+Inv-loop steps t l j a₀ a = (maxEntries ≤ length steps) × (t < maxThreads) × (l < lockCount) × (a ≤ maxSize) × (scanBack (masksOf steps t) l a ≡ scanBack (masksOf steps t) l j)
 
 abbrev μ-loop : tie.MeasureT-loop
 μ-loop steps t l j a₀ a = a
@@ -21,8 +22,8 @@ loop-holds c = search needs
 mask-at-requires : tie.Need-mask-at-requires Inv-loop μ-loop
 mask-at-requires c κs = search needs
 
-has-requires : tie.Need-has-requires Inv-loop μ-loop
-has-requires c κs = search needs
+has-lock-requires : tie.Need-has-lock-requires Inv-loop μ-loop
+has-lock-requires c κs = search needs
 
 sub-a : tie.Need-sub-a Inv-loop μ-loop
 sub-a c = search needs
@@ -47,7 +48,7 @@ scan-back-spec =
     μ-loop
     loop-holds
     mask-at-requires
-    has-requires
+    has-lock-requires
     sub-a
     loop-less
     loop-again

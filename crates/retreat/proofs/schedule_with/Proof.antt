@@ -4,8 +4,44 @@ use borrow.Author.Needs.{needs}
 use Rattle.retreat.proofs.schedule_with.Statement.{statement}
 use Rattle.retreat.proofs.schedule_with.Tie as tie
 
-from-ends-requires : tie.Need-from-ends-requires
-from-ends-requires c κs = search needs
+slice-aggregate-fill-masks : tie.Need-slice-aggregate-fill-masks
+slice-aggregate-fill-masks c = search needs
+
+slice-aggregate-fill-masks-2 : tie.Need-slice-aggregate-fill-masks-2
+slice-aggregate-fill-masks-2 c = search needs
+
+fill-masks-requires : tie.Need-fill-masks-requires
+fill-masks-requires c κs = search needs
+
+slice-aggregate-go-back : tie.Need-slice-aggregate-go-back
+slice-aggregate-go-back c = search needs
+
+slice-aggregate-go-back-2 : tie.Need-slice-aggregate-go-back-2
+slice-aggregate-go-back-2 c = search needs
+
+slice-aggregate-go-back-3 : tie.Need-slice-aggregate-go-back-3
+slice-aggregate-go-back-3 c = search needs
+
+slice-aggregate-go-back-4 : tie.Need-slice-aggregate-go-back-4
+slice-aggregate-go-back-4 c = search needs
+
+go-back-requires : tie.Need-go-back-requires
+go-back-requires c κs = (
+  record {
+    paths = search needs;
+    beginnings = search needs;
+    few = search needs;
+    in-rows = search needs;
+    sized = record { positions-full = search needs; wanted-full = search needs; masks-full = search needs };
+  },
+  search needs,
+)
+
+slice-aggregate-finish : tie.Need-slice-aggregate-finish
+slice-aggregate-finish c = search needs
+
+slice-aggregate-finish-2 : tie.Need-slice-aggregate-finish-2
+slice-aggregate-finish-2 c = search needs
 
 finish-requires : tie.Need-finish-requires
 finish-requires c κs = search needs
@@ -16,18 +52,6 @@ same-length c = search needs
 same-length-2 : tie.Need-same-length-2
 same-length-2 c = search needs
 
-same-length-3 : tie.Need-same-length-3
-same-length-3 c = search needs
-
-same-length-4 : tie.Need-same-length-4
-same-length-4 c = search needs
-
-same-length-5 : tie.Need-same-length-5
-same-length-5 c = search needs
-
-same-length-6 : tie.Need-same-length-6
-same-length-6 c = search needs
-
 returns : tie.Need-returns
 returns c = search (scheduled, needs)
 
@@ -35,12 +59,17 @@ pub schedule-with-spec : {M : Type 1} → statement M
 schedule-with-spec =
     tie.close
     (tie.spec
-    from-ends-requires
+    slice-aggregate-fill-masks
+    slice-aggregate-fill-masks-2
+    fill-masks-requires
+    slice-aggregate-go-back
+    slice-aggregate-go-back-2
+    slice-aggregate-go-back-3
+    slice-aggregate-go-back-4
+    go-back-requires
+    slice-aggregate-finish
+    slice-aggregate-finish-2
     finish-requires
     same-length
     same-length-2
-    same-length-3
-    same-length-4
-    same-length-5
-    same-length-6
     returns)

@@ -3,15 +3,16 @@ use borrow.Author.Needs.{needs}
 use Prim.Native.Nat.{_-_, _≤_}
 use mathlib.Core.Path.{_≡_}
 use lib.ListN.{length}
-use Rattle.retreat.proofs.Laws.{roundBelow, round-none, round-more, round-done}
+use Rattle.limits.specs.Limits.{maxThreads}
+use Rattle.retreat.proofs.StuckRounds.{roundBelow, round-none, round-more, round-done}
 use Rattle.retreat.proofs.stuck_round.Statement.{statement}
 use Rattle.retreat.proofs.stuck_round.Tie as tie
 
 abbrev Inv-loop : tie.InvT-loop
-Inv-loop wishes masks m n all₀ t₀ all t = (t ≤ n) × (n ≤ 6) × (6 ≤ length wishes) × (6 ≤ length masks) × (all ≡ roundBelow t n wishes masks m)
+Inv-loop wanted masks m n all₀ t₀ all t = (t ≤ n) × (n ≤ maxThreads) × (maxThreads ≤ length wanted) × (maxThreads ≤ length masks) × (all ≡ roundBelow t n wanted masks m)
 
 abbrev μ-loop : tie.MeasureT-loop
-μ-loop wishes masks m n all₀ t₀ all t = n - t
+μ-loop wanted masks m n all₀ t₀ all t = n - t
 
 loop-holds : tie.Need-loop-holds Inv-loop μ-loop
 loop-holds c = search (round-none, needs)

@@ -3,16 +3,17 @@ use borrow.Author.Needs.{needs}
 use Prim.Native.Nat.{_-_, _≤_}
 use mathlib.Core.Path.{_≡_}
 use lib.ListN.{length}
-use Rattle.semantics.proofs.Closing.{stuckRounds}
-use Rattle.retreat.proofs.Laws.{rounds-first, rounds-more, rounds-done}
+use Rattle.limits.specs.Limits.{maxThreads}
+use Rattle.semantics.specs.StuckRounds.{stuckRounds}
+use Rattle.retreat.proofs.StuckRounds.{rounds-first, rounds-more, rounds-done}
 use Rattle.retreat.proofs.stuck_set.Statement.{statement}
 use Rattle.retreat.proofs.stuck_set.Tie as tie
 
 abbrev Inv-loop : tie.InvT-loop
-Inv-loop wishes masks n m₀ round₀ m round = (round ≤ n) × (n ≤ 6) × (6 ≤ length wishes) × (6 ≤ length masks) × (m ≡ stuckRounds round n wishes masks)
+Inv-loop wanted masks n m₀ round₀ m round = (round ≤ n) × (n ≤ maxThreads) × (maxThreads ≤ length wanted) × (maxThreads ≤ length masks) × (m ≡ stuckRounds round n wanted masks)
 
 abbrev μ-loop : tie.MeasureT-loop
-μ-loop wishes masks n m₀ round₀ m round = n - round
+μ-loop wanted masks n m₀ round₀ m round = n - round
 
 wanting-set-requires : tie.Need-wanting-set-requires Inv-loop μ-loop
 wanting-set-requires c κs = search needs

@@ -1,5 +1,6 @@
 -- The first thread that may go back does, and its entry stands in front; where none may, each lands and no entry is left.
-use Rattle.retreat.proofs.Laws.{within-at, first-stepped, none-back, turned-step, turned-jump}
+use Rattle.retreat.proofs.HeldLocks.{within-at}
+use Rattle.retreat.proofs.StepBack.{first-stepped, none-back, turned-step, turned-jump}
 use borrow.Author.Needs.{needs}
 use Rattle.retreat.proofs.turn.Statement.{statement}
 use Rattle.retreat.proofs.turn.Tie as tie
@@ -22,26 +23,20 @@ same-length c = search needs
 same-length-2 : tie.Need-same-length-2
 same-length-2 c = search needs
 
-same-length-3 : tie.Need-same-length-3
-same-length-3 c = search needs
-
 returns : tie.Need-returns
 returns c = search (turned-step, needs)
 
 jump-all-requires : tie.Need-jump-all-requires
 jump-all-requires c κs = (search needs, search needs, search needs, search needs, search needs, search needs, search needs, search (none-back, needs))
 
+same-length-3 : tie.Need-same-length-3
+same-length-3 c = search needs
+
 same-length-4 : tie.Need-same-length-4
 same-length-4 c = search needs
 
 same-length-5 : tie.Need-same-length-5
 same-length-5 c = search needs
-
-same-length-6 : tie.Need-same-length-6
-same-length-6 c = search needs
-
-same-length-7 : tie.Need-same-length-7
-same-length-7 c = search needs
 
 returns-2 : tie.Need-returns-2
 returns-2 c = search (turned-jump, needs)
@@ -56,11 +51,9 @@ turn-spec =
     sub-result
     same-length
     same-length-2
-    same-length-3
     returns
     jump-all-requires
+    same-length-3
     same-length-4
     same-length-5
-    same-length-6
-    same-length-7
     returns-2)

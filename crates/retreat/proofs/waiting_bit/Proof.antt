@@ -1,5 +1,5 @@
 -- By whether the thread is a member, and whether another member holds what it wants.
-use Rattle.retreat.proofs.Laws.{no-member, waits-not, waits-bit}
+use Rattle.retreat.proofs.StuckRounds.{no-member, waits-not, waits-bit}
 use borrow.Author.Needs.{needs}
 use Rattle.retreat.proofs.waiting_bit.Statement.{statement}
 use Rattle.retreat.proofs.waiting_bit.Tie as tie

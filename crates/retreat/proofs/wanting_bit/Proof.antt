@@ -1,5 +1,5 @@
 -- By whether the thread wants a lock.
-use Rattle.retreat.proofs.Laws.{wants-bit, wants-none}
+use Rattle.retreat.proofs.StuckRounds.{wants-bit, wants-none}
 use borrow.Author.Needs.{needs}
 use Rattle.retreat.proofs.wanting_bit.Statement.{statement}
 use Rattle.retreat.proofs.wanting_bit.Tie as tie

@@ -3,16 +3,17 @@ use borrow.Author.Needs.{needs}
 use Prim.Native.Nat.{_-_, _≤_}
 use mathlib.Core.Path.{_≡_}
 use lib.ListN.{length}
-use Rattle.semantics.proofs.Closing.{wanting}
-use Rattle.retreat.proofs.Laws.{wanting-none, wanting-more, wanting-done}
+use Rattle.limits.specs.Limits.{maxThreads}
+use Rattle.semantics.specs.StuckRounds.{wanting}
+use Rattle.retreat.proofs.StuckRounds.{wanting-none, wanting-more, wanting-done}
 use Rattle.retreat.proofs.wanting_set.Statement.{statement}
 use Rattle.retreat.proofs.wanting_set.Tie as tie
 
 abbrev Inv-loop : tie.InvT-loop
-Inv-loop wishes n all₀ t₀ all t = (t ≤ n) × (n ≤ 6) × (6 ≤ length wishes) × (all ≡ wanting t wishes)
+Inv-loop wanted n all₀ t₀ all t = (t ≤ n) × (n ≤ maxThreads) × (maxThreads ≤ length wanted) × (all ≡ wanting t wanted)
 
 abbrev μ-loop : tie.MeasureT-loop
-μ-loop wishes n all₀ t₀ all t = n - t
+μ-loop wanted n all₀ t₀ all t = n - t
 
 loop-holds : tie.Need-loop-holds Inv-loop μ-loop
 loop-holds c = search (wanting-none, needs)

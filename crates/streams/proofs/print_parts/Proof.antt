@@ -3,19 +3,16 @@ use borrow.Author.Needs.{needs}
 use Prim.Native.Nat.{_-_, _≤_}
 use mathlib.Core.Path.{_≡_}
 use lib.ListN.{length}
-use Rattle.streams.proofs.Printing.{count, another-part, last-printed, most-printed, not-whole}
+use Rattle.report_text.specs.Tables.{mostParts}
+use Rattle.streams.proofs.Printing.{count, another-part, last-printed, most-printed}
 use Rattle.streams.proofs.print_parts.Statement.{statement}
 use Rattle.streams.proofs.print_parts.Tie as tie
-use Rattle.streams.proofs.print_parts.Reads as reads
-use Rattle.streams.proofs.print_parts.Lts as lts
-use Rattle.io.proofs.write_all.Reads as write-all-reads
-use Rattle.report_text.proofs.put_part.Reads as put-part-reads
 
 abbrev Inv-loop : tie.InvT-loop
-Inv-loop text judged table entries out₀ k₀ out k = (k ≤ 67) × (length out ≡ length out₀) × (k ≤ count text judged entries)
+Inv-loop text judged table entries out₀ k₀ out k = (k ≤ mostParts) × (length out ≡ length out₀) × (k ≤ count text judged entries)
 
 abbrev μ-loop : tie.MeasureT-loop
-μ-loop text judged table entries out₀ k₀ out k = 67 - k
+μ-loop text judged table entries out₀ k₀ out k = mostParts - k
 
 loop-holds : tie.Need-loop-holds Inv-loop μ-loop
 loop-holds c = search needs
@@ -45,7 +42,7 @@ same-length-2 : tie.Need-same-length-2 Inv-loop μ-loop
 same-length-2 c = search needs
 
 returns-2 : tie.Need-returns-2 Inv-loop μ-loop
-returns-2 c = λ e. not-whole e
+returns-2 c = λ e. cc
 
 add-k : tie.Need-add-k Inv-loop μ-loop
 add-k c = search needs

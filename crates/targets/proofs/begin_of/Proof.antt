@@ -10,8 +10,8 @@ proc-of-requires c κs = search needs
 mul-first-hold : tie.Need-mul-first-hold
 mul-first-hold c = search needs
 
-shared-slice-read-first-hold : tie.Need-shared-slice-read-first-hold
-shared-slice-read-first-hold c = search needs
+array-read-first-hold : tie.Need-array-read-first-hold
+array-read-first-hold c = search needs
 
 first-hold-requires : tie.Need-first-hold-requires
 first-hold-requires c κs = search needs
@@ -22,9 +22,4 @@ returns c = search (begin-is, needs)
 pub begin-of-spec : {M : Type 1} → statement M
 begin-of-spec =
     tie.close
-    (tie.spec
-    proc-of-requires
-    mul-first-hold
-    shared-slice-read-first-hold
-    first-hold-requires
-    returns)
+    (tie.spec proc-of-requires mul-first-hold array-read-first-hold first-hold-requires returns)

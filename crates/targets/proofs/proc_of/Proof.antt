@@ -7,11 +7,11 @@ use Rattle.targets.proofs.proc_of.Tie as tie
 mul-result : tie.Need-mul-result
 mul-result c = search needs
 
-shared-slice-read-result : tie.Need-shared-slice-read-result
-shared-slice-read-result c = search needs
+array-read-result : tie.Need-array-read-result
+array-read-result c = search needs
 
 returns : tie.Need-returns
 returns c = search (proc-is, proc-present, needs)
 
 pub proc-of-spec : {M : Type 1} → statement M
-proc-of-spec = tie.close (tie.spec mul-result shared-slice-read-result returns)
+proc-of-spec = tie.close (tie.spec mul-result array-read-result returns)

@@ -1,5 +1,5 @@
--- The path of the member, then its length and its wish.
-use Rattle.targets.proofs.Threads.{member-asked, member-put}
+-- The path of the member, then its length and its wanted lock.
+use Rattle.targets.proofs.Threads.{member-target, member-put}
 use borrow.Author.Needs.{needs}
 use Rattle.targets.proofs.put_member.Statement.{statement}
 use Rattle.targets.proofs.put_member.Tie as tie
@@ -10,17 +10,14 @@ thread-in-requires c κs = search needs
 rest-in-requires : tie.Need-rest-in-requires
 rest-in-requires c κs = search needs
 
-proc-of-requires : tie.Need-proc-of-requires
-proc-of-requires c κs = search needs
-
 put-path-requires : tie.Need-put-path-requires
-put-path-requires c κs = search (member-asked, needs)
+put-path-requires c κs = search (member-target, needs)
 
-mul-lens : tie.Need-mul-lens
-mul-lens c = search needs
+mul-positions : tie.Need-mul-positions
+mul-positions c = search needs
 
-slice-write-lens : tie.Need-slice-write-lens
-slice-write-lens c = search needs
+array-write-positions : tie.Need-array-write-positions
+array-write-positions c = search needs
 
 wanted-in-requires : tie.Need-wanted-in-requires
 wanted-in-requires c κs = search needs
@@ -28,23 +25,14 @@ wanted-in-requires c κs = search needs
 lock-bit-requires : tie.Need-lock-bit-requires
 lock-bit-requires c κs = search needs
 
-mul-wishes : tie.Need-mul-wishes
-mul-wishes c = search needs
+mul-wanted : tie.Need-mul-wanted
+mul-wanted c = search needs
 
-slice-write-wishes : tie.Need-slice-write-wishes
-slice-write-wishes c = search needs
+array-write-wanted : tie.Need-array-write-wanted
+array-write-wanted c = search needs
 
 same-length : tie.Need-same-length
 same-length c = search needs
-
-same-length-2 : tie.Need-same-length-2
-same-length-2 c = search needs
-
-same-length-3 : tie.Need-same-length-3
-same-length-3 c = search needs
-
-same-length-4 : tie.Need-same-length-4
-same-length-4 c = search needs
 
 returns : tie.Need-returns
 returns c = search (member-put, needs)
@@ -55,16 +43,12 @@ put-member-spec =
     (tie.spec
     thread-in-requires
     rest-in-requires
-    proc-of-requires
     put-path-requires
-    mul-lens
-    slice-write-lens
+    mul-positions
+    array-write-positions
     wanted-in-requires
     lock-bit-requires
-    mul-wishes
-    slice-write-wishes
+    mul-wanted
+    array-write-wanted
     same-length
-    same-length-2
-    same-length-3
-    same-length-4
     returns)

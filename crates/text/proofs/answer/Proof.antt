@@ -1,5 +1,5 @@
 -- The two arms are the two cases of `lineAnswer`.
-use Rattle.text.proofs.Laws.{answer-known, answer-unknown}
+use Rattle.text.proofs.Branches.{answer-known, answer-unknown}
 use borrow.Author.Needs.{needs}
 use Rattle.text.proofs.answer.Statement.{statement}
 use Rattle.text.proofs.answer.Tie as tie

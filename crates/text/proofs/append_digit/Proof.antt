@@ -1,5 +1,5 @@
 -- Each `let .. else` and each test is a case of `appendDigit`; what the tests let through is at most 999, so the sum fits.
-use Rattle.text.proofs.Laws.{appends}
+use Rattle.text.proofs.Branches.{appends}
 use borrow.Author.Needs.{needs}
 use Rattle.text.proofs.append_digit.Statement.{statement}
 use Rattle.text.proofs.append_digit.Tie as tie

@@ -1,6 +1,6 @@
 -- The arms of the match are the cases of `numbered`.
 use Rattle.text.specs.Kinds.{callKind}
-use Rattle.text.proofs.Laws.{numbered-is, numbered-not}
+use Rattle.text.proofs.Branches.{numbered-is, numbered-not}
 use borrow.Author.Needs.{needs}
 use Rattle.text.proofs.call_kind.Statement.{statement}
 use Rattle.text.proofs.call_kind.Tie as tie

@@ -5,11 +5,11 @@ use borrow.Author.Needs.{needs}
 use Rattle.text.proofs.kind_of.Statement.{statement}
 use Rattle.text.proofs.kind_of.Tie as tie
 
-slice-aggregate-word-kind : tie.Need-slice-aggregate-word-kind
-slice-aggregate-word-kind c = search needs
+slice-aggregate-keyword-kind : tie.Need-slice-aggregate-keyword-kind
+slice-aggregate-keyword-kind c = search needs
 
-word-kind-requires : tie.Need-word-kind-requires
-word-kind-requires c κs = search needs
+keyword-kind-requires : tie.Need-keyword-kind-requires
+keyword-kind-requires c κs = search needs
 
 returns : tie.Need-returns
 unfolding kindOf
@@ -18,11 +18,11 @@ returns c = search (arms, needs) depth 12
 shared-slice-read-b : tie.Need-shared-slice-read-b
 shared-slice-read-b c = search needs
 
-slice-aggregate-word-kind-2 : tie.Need-slice-aggregate-word-kind-2
-slice-aggregate-word-kind-2 c = search needs
+slice-aggregate-keyword-kind-2 : tie.Need-slice-aggregate-keyword-kind-2
+slice-aggregate-keyword-kind-2 c = search needs
 
-word-kind-requires-2 : tie.Need-word-kind-requires-2
-word-kind-requires-2 c κs = search needs
+keyword-kind-requires-2 : tie.Need-keyword-kind-requires-2
+keyword-kind-requires-2 c κs = search needs
 
 call-kind-requires : tie.Need-call-kind-requires
 call-kind-requires c κs = search needs
@@ -30,23 +30,23 @@ call-kind-requires c κs = search needs
 hold-kind-requires : tie.Need-hold-kind-requires
 hold-kind-requires c κs = search needs
 
-slice-aggregate-word-kind-3 : tie.Need-slice-aggregate-word-kind-3
-slice-aggregate-word-kind-3 c = search needs
+slice-aggregate-keyword-kind-3 : tie.Need-slice-aggregate-keyword-kind-3
+slice-aggregate-keyword-kind-3 c = search needs
 
-word-kind-requires-3 : tie.Need-word-kind-requires-3
-word-kind-requires-3 c κs = search needs
+keyword-kind-requires-3 : tie.Need-keyword-kind-requires-3
+keyword-kind-requires-3 c κs = search needs
 
-slice-aggregate-word-kind-4 : tie.Need-slice-aggregate-word-kind-4
-slice-aggregate-word-kind-4 c = search needs
+slice-aggregate-keyword-kind-4 : tie.Need-slice-aggregate-keyword-kind-4
+slice-aggregate-keyword-kind-4 c = search needs
 
-word-kind-requires-4 : tie.Need-word-kind-requires-4
-word-kind-requires-4 c κs = search needs
+keyword-kind-requires-4 : tie.Need-keyword-kind-requires-4
+keyword-kind-requires-4 c κs = search needs
 
-slice-aggregate-word-kind-5 : tie.Need-slice-aggregate-word-kind-5
-slice-aggregate-word-kind-5 c = search needs
+slice-aggregate-keyword-kind-5 : tie.Need-slice-aggregate-keyword-kind-5
+slice-aggregate-keyword-kind-5 c = search needs
 
-word-kind-requires-5 : tie.Need-word-kind-requires-5
-word-kind-requires-5 c κs = search needs
+keyword-kind-requires-5 : tie.Need-keyword-kind-requires-5
+keyword-kind-requires-5 c κs = search needs
 
 two-kind-requires : tie.Need-two-kind-requires
 two-kind-requires c κs = search needs
@@ -94,20 +94,20 @@ pub kind-of-spec : {M : Type 1} → statement M
 kind-of-spec =
     tie.close
     (tie.spec
-    slice-aggregate-word-kind
-    word-kind-requires
+    slice-aggregate-keyword-kind
+    keyword-kind-requires
     returns
     shared-slice-read-b
-    slice-aggregate-word-kind-2
-    word-kind-requires-2
+    slice-aggregate-keyword-kind-2
+    keyword-kind-requires-2
     call-kind-requires
     hold-kind-requires
-    slice-aggregate-word-kind-3
-    word-kind-requires-3
-    slice-aggregate-word-kind-4
-    word-kind-requires-4
-    slice-aggregate-word-kind-5
-    word-kind-requires-5
+    slice-aggregate-keyword-kind-3
+    keyword-kind-requires-3
+    slice-aggregate-keyword-kind-4
+    keyword-kind-requires-4
+    slice-aggregate-keyword-kind-5
+    keyword-kind-requires-5
     two-kind-requires
     plan-kind-requires
     returns-2

@@ -1,7 +1,7 @@
 -- In the range it is `leading-digit`; below it and above it, the tests of `leadingOf`.
 use Rattle.laws.proofs.Choices.{tests}
 use Rattle.text.specs.Kinds.{leadingOf}
-use Rattle.text.proofs.Laws.{leading-digit}
+use Rattle.text.proofs.Branches.{leading-digit}
 use borrow.Author.Needs.{needs}
 use Rattle.text.proofs.leading.Statement.{statement}
 use Rattle.text.proofs.leading.Tie as tie

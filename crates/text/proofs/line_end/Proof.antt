@@ -4,7 +4,7 @@ use Prim.Native.Nat.{_+_, _≤_, _-_}
 use mathlib.Core.Path.{_≡_}
 use lib.ListN.{length, drop}
 use Rattle.text.specs.Lines.{lineLength}
-use Rattle.text.proofs.Laws.{line-again, line-stop, line-done}
+use Rattle.text.proofs.Branches.{line-again, line-stop, line-done}
 use Rattle.text.proofs.line_end.Statement.{statement}
 use Rattle.text.proofs.line_end.Tie as tie
 

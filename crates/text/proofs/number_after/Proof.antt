@@ -1,12 +1,12 @@
--- The branches are those of `afterWord`: the word is too long, it stands in front, or it does not.
+-- The branches are those of `afterKeyword`: the keyword is too long, it stands in front, or it does not.
 use Rattle.laws.proofs.Choices.{picks}
-use Rattle.text.specs.Kinds.{afterWord}
+use Rattle.text.specs.Kinds.{afterKeyword}
 use borrow.Author.Needs.{needs}
 use Rattle.text.proofs.number_after.Statement.{statement}
 use Rattle.text.proofs.number_after.Tie as tie
 
 returns : tie.Need-returns
-unfolding afterWord
+unfolding afterKeyword
 returns c = search (picks, needs)
 
 sub-same : tie.Need-sub-same
@@ -34,11 +34,11 @@ read-number-requires : tie.Need-read-number-requires
 read-number-requires c κs = search needs
 
 returns-2 : tie.Need-returns-2
-unfolding afterWord
+unfolding afterKeyword
 returns-2 c = search (picks, needs)
 
 returns-3 : tie.Need-returns-3
-unfolding afterWord
+unfolding afterKeyword
 returns-3 c = search (picks, needs)
 
 pub number-after-spec : {M : Type 1} → statement M

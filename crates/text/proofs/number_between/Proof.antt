@@ -1,12 +1,12 @@
--- The branches are those of `betweenWord`: no byte, another last byte than the bracket, or the number before it.
+-- The branches are those of `betweenKeyword`: no byte, another last byte than the bracket, or the number before it.
 use Rattle.laws.proofs.Choices.{picks}
-use Rattle.text.specs.Kinds.{betweenWord}
+use Rattle.text.specs.Kinds.{betweenKeyword}
 use borrow.Author.Needs.{needs}
 use Rattle.text.proofs.number_between.Statement.{statement}
 use Rattle.text.proofs.number_between.Tie as tie
 
 returns : tie.Need-returns
-unfolding betweenWord
+unfolding betweenKeyword
 returns c = search (picks, needs)
 
 sub-e : tie.Need-sub-e
@@ -16,7 +16,7 @@ shared-slice-read-if2 : tie.Need-shared-slice-read-if2
 shared-slice-read-if2 c = search needs
 
 returns-2 : tie.Need-returns-2
-unfolding betweenWord
+unfolding betweenKeyword
 returns-2 c = search (picks, needs)
 
 sub-number-after : tie.Need-sub-number-after
@@ -32,7 +32,7 @@ number-after-requires : tie.Need-number-after-requires
 number-after-requires c κs = search needs
 
 returns-3 : tie.Need-returns-3
-unfolding betweenWord
+unfolding betweenKeyword
 returns-3 c = search (picks, needs)
 
 pub number-between-spec : {M : Type 1} → statement M

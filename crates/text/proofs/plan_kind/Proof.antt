@@ -12,17 +12,17 @@ returns c = search (arms, needs) depth 12
 shared-slice-read-b : tie.Need-shared-slice-read-b
 shared-slice-read-b c = search needs
 
-slice-aggregate-word-kind : tie.Need-slice-aggregate-word-kind
-slice-aggregate-word-kind c = search needs
+slice-aggregate-keyword-kind : tie.Need-slice-aggregate-keyword-kind
+slice-aggregate-keyword-kind c = search needs
 
-word-kind-requires : tie.Need-word-kind-requires
-word-kind-requires c κs = search needs
+keyword-kind-requires : tie.Need-keyword-kind-requires
+keyword-kind-requires c κs = search needs
 
-slice-aggregate-word-kind-2 : tie.Need-slice-aggregate-word-kind-2
-slice-aggregate-word-kind-2 c = search needs
+slice-aggregate-keyword-kind-2 : tie.Need-slice-aggregate-keyword-kind-2
+slice-aggregate-keyword-kind-2 c = search needs
 
-word-kind-requires-2 : tie.Need-word-kind-requires-2
-word-kind-requires-2 c κs = search needs
+keyword-kind-requires-2 : tie.Need-keyword-kind-requires-2
+keyword-kind-requires-2 c κs = search needs
 
 returns-2 : tie.Need-returns-2
 unfolding planKind
@@ -42,10 +42,10 @@ plan-kind-spec =
     (tie.spec
     returns
     shared-slice-read-b
-    slice-aggregate-word-kind
-    word-kind-requires
-    slice-aggregate-word-kind-2
-    word-kind-requires-2
+    slice-aggregate-keyword-kind
+    keyword-kind-requires
+    slice-aggregate-keyword-kind-2
+    keyword-kind-requires-2
     returns-2
     returns-3
     returns-4)

@@ -1,5 +1,5 @@
 -- The three ways out are the cases of `lineAt`: past the text, a line that is not ended, and a line with its kind.
-use Rattle.text.proofs.Laws.{line-past, line-unended, line-ended}
+use Rattle.text.proofs.Branches.{line-past, line-unended, line-ended}
 use borrow.Author.Needs.{needs}
 use native.Mathlib.Omega.{arith}
 use mathlib.Core.Path.{refl}

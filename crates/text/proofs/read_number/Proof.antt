@@ -1,7 +1,7 @@
 -- The lengths 1, 2 and 3 are the cases of `numberOf`, and the calls are its digits.
 use Rattle.laws.proofs.Choices.{picks}
 use Rattle.text.specs.Kinds.{numberOf}
-use Rattle.text.proofs.Laws.{append-of}
+use Rattle.text.proofs.Branches.{append-of}
 use borrow.Author.Needs.{needs}
 use Rattle.text.proofs.read_number.Statement.{statement}
 use Rattle.text.proofs.read_number.Tie as tie

@@ -12,11 +12,11 @@ returns c = search (arms, needs) depth 12
 shared-slice-read-b : tie.Need-shared-slice-read-b
 shared-slice-read-b c = search needs
 
-slice-aggregate-word-kind : tie.Need-slice-aggregate-word-kind
-slice-aggregate-word-kind c = search needs
+slice-aggregate-keyword-kind : tie.Need-slice-aggregate-keyword-kind
+slice-aggregate-keyword-kind c = search needs
 
-word-kind-requires : tie.Need-word-kind-requires
-word-kind-requires c κs = search needs
+keyword-kind-requires : tie.Need-keyword-kind-requires
+keyword-kind-requires c κs = search needs
 
 thread-kind-requires : tie.Need-thread-kind-requires
 thread-kind-requires c κs = search needs
@@ -39,8 +39,8 @@ two-kind-spec =
     (tie.spec
     returns
     shared-slice-read-b
-    slice-aggregate-word-kind
-    word-kind-requires
+    slice-aggregate-keyword-kind
+    keyword-kind-requires
     thread-kind-requires
     returns-2
     returns-3

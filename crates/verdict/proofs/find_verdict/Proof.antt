@@ -1,5 +1,7 @@
-use Rattle.checked.proofs.Checked.{plan-room}
-use Rattle.verdict.proofs.Judging.{judged-short, judged-refused, judged-found, table-within}
+-- Rule 1, then the rules of the plan, then the verdict over its table.
+use Rattle.plan.proofs.AcceptedTable.{plan-room, rules-kept}
+use Rattle.checked.proofs.Checked.{plan-laid}
+use Rattle.verdict.proofs.Judging.{judged-short, judged-refused, judged-found}
 use borrow.Author.Needs.{needs}
 use Rattle.verdict.proofs.find_verdict.Statement.{statement}
 use Rattle.verdict.proofs.find_verdict.Tie as tie
@@ -10,8 +12,8 @@ returns c = search (judged-short, needs)
 read-text-requires : tie.Need-read-text-requires
 read-text-requires c κs = search needs
 
-enum-known-read : tie.Need-enum-known-read
-enum-known-read c = search needs
+enum-known-reading : tie.Need-enum-known-reading
+enum-known-reading c = search needs
 
 sub-judge-table : tie.Need-sub-judge-table
 sub-judge-table c = search needs
@@ -23,10 +25,10 @@ part-judge-table-end : tie.Need-part-judge-table-end
 part-judge-table-end c = search (plan-room, needs)
 
 judge-table-requires : tie.Need-judge-table-requires
-judge-table-requires c κs = search (table-within, needs)
+judge-table-requires c κs = search (rules-kept, plan-laid, needs)
 
-enum-known-read-2 : tie.Need-enum-known-read-2
-enum-known-read-2 c = search needs
+enum-known-reading-2 : tie.Need-enum-known-reading-2
+enum-known-reading-2 c = search needs
 
 same-length : tie.Need-same-length
 same-length c = search needs
@@ -49,12 +51,12 @@ find-verdict-spec =
     (tie.spec
     returns
     read-text-requires
-    enum-known-read
+    enum-known-reading
     sub-judge-table
     part-judge-table-start
     part-judge-table-end
     judge-table-requires
-    enum-known-read-2
+    enum-known-reading-2
     same-length
     same-length-2
     returns-2

@@ -1,4 +1,4 @@
--- Rule 1 by what is lent; then the verdict over 6,144 entries, whose schedule is put into the buffer as bytes.
+-- Rule 1 by what is lent; then the verdict over a table of entries, whose schedule is put into the buffer as bytes.
 use Rattle.answers.specs.Answers.{verdictHigh}
 use Rattle.verdict.proofs.Judging.{schedule-within, schedule-room, verdict-small, deadlock-small, bytes-short, bytes-kept, bytes-scheduled}
 use borrow.Author.Needs.{needs}

@@ -1,14 +1,15 @@
--- Every lock below 32 is passed.
+-- Each turn passes a lock.
 use borrow.Author.Needs.{needs}
 use Prim.Native.Nat.{_-_, _≤_}
+use Rattle.limits.specs.Limits.{lockCount}
 use Rattle.replay.proofs.gateway.apart.Statement.{statement}
 use Rattle.replay.proofs.gateway.apart.Tie as tie
 
 abbrev Inv-loop : tie.InvT-loop
-Inv-loop state lock₀ lock = lock ≤ 32
+Inv-loop state lock₀ lock = lock ≤ lockCount
 
 abbrev μ-loop : tie.MeasureT-loop
-μ-loop state lock₀ lock = 32 - lock
+μ-loop state lock₀ lock = lockCount - lock
 
 loop-holds : tie.Need-loop-holds Inv-loop μ-loop
 loop-holds c = search needs

@@ -1,14 +1,15 @@
 -- The number is at most that of the threads passed.
 use borrow.Author.Needs.{needs}
 use Prim.Native.Nat.{_-_, _≤_}
+use Rattle.limits.specs.Limits.{maxThreads}
 use Rattle.replay.proofs.gateway.holders.Statement.{statement}
 use Rattle.replay.proofs.gateway.holders.Tie as tie
 
 abbrev Inv-loop : tie.InvT-loop
-Inv-loop state lock n₀ t₀ n t = (t ≤ 6) × (n ≤ t)
+Inv-loop state lock n₀ t₀ n t = (t ≤ maxThreads) × (n ≤ t)
 
 abbrev μ-loop : tie.MeasureT-loop
-μ-loop state lock n₀ t₀ n t = 6 - t
+μ-loop state lock n₀ t₀ n t = maxThreads - t
 
 loop-holds : tie.Need-loop-holds Inv-loop μ-loop
 loop-holds c = search needs

@@ -3,14 +3,15 @@ use borrow.Author.Needs.{needs}
 use Prim.Native.Nat.{_-_, _≤_}
 use lib.ListN.{length}
 use mathlib.Core.Path.{_≡_}
+use Rattle.limits.specs.Limits.{maxThreads}
 use Rattle.replay.proofs.gateway.start.Statement.{statement}
 use Rattle.replay.proofs.gateway.start.Tie as tie
 
 abbrev Inv-loop : tie.InvT-loop
-Inv-loop text state₀ t₀ state t = (t ≤ 6) × (length state ≡ length state₀)
+Inv-loop text state₀ t₀ state t = (t ≤ maxThreads) × (length state ≡ length state₀)
 
 abbrev μ-loop : tie.MeasureT-loop
-μ-loop text state₀ t₀ state t = 6 - t
+μ-loop text state₀ t₀ state t = maxThreads - t
 
 loop-holds : tie.Need-loop-holds Inv-loop μ-loop
 loop-holds c = search needs

@@ -1,14 +1,15 @@
 -- Each turn passes a thread.
 use borrow.Author.Needs.{needs}
 use Prim.Native.Nat.{_-_, _≤_}
+use Rattle.limits.specs.Limits.{maxThreads}
 use Rattle.replay.proofs.stuck.held_beside.Statement.{statement}
 use Rattle.replay.proofs.stuck.held_beside.Tie as tie
 
 abbrev Inv-loop : tie.InvT-loop
-Inv-loop state set t lock u₀ u = u ≤ 6
+Inv-loop state set t lock u₀ u = u ≤ maxThreads
 
 abbrev μ-loop : tie.MeasureT-loop
-μ-loop state set t lock u₀ u = 6 - u
+μ-loop state set t lock u₀ u = maxThreads - u
 
 loop-holds : tie.Need-loop-holds Inv-loop μ-loop
 loop-holds c = search needs

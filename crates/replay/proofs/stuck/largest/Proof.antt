@@ -1,14 +1,15 @@
 -- Each turn passes a set.
 use borrow.Author.Needs.{needs}
-use Prim.Native.Nat.{_-_, _≤_}
+use Prim.Native.Nat.{_-_, _^_, _≤_}
+use Rattle.limits.specs.Limits.{maxThreads}
 use Rattle.replay.proofs.stuck.largest.Statement.{statement}
 use Rattle.replay.proofs.stuck.largest.Tie as tie
 
 abbrev Inv-loop : tie.InvT-loop
-Inv-loop text state all₀ set₀ all set = set ≤ 64
+Inv-loop text state all₀ set₀ all set = set ≤ 2 ^ maxThreads
 
 abbrev μ-loop : tie.MeasureT-loop
-μ-loop text state all₀ set₀ all set = 64 - set
+μ-loop text state all₀ set₀ all set = 2 ^ maxThreads - set
 
 loop-holds : tie.Need-loop-holds Inv-loop μ-loop
 loop-holds c = search needs

@@ -1,14 +1,15 @@
 -- Each turn passes a thread.
 use borrow.Author.Needs.{needs}
 use Prim.Native.Nat.{_-_, _≤_}
+use Rattle.limits.specs.Limits.{maxThreads}
 use Rattle.replay.proofs.stuck.stuck.Statement.{statement}
 use Rattle.replay.proofs.stuck.stuck.Tie as tie
 
 abbrev Inv-loop : tie.InvT-loop
-Inv-loop text state set t₀ t = t ≤ 6
+Inv-loop text state set t₀ t = t ≤ maxThreads
 
 abbrev μ-loop : tie.MeasureT-loop
-μ-loop text state set t₀ t = 6 - t
+μ-loop text state set t₀ t = maxThreads - t
 
 loop-holds : tie.Need-loop-holds Inv-loop μ-loop
 loop-holds c = search needs

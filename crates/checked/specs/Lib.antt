@@ -1,0 +1,2 @@
+-- What is left of a text that was checked.
+pub mod Checks

@@ -1,0 +1,2 @@
+-- The limits of a plan, for definitions and contracts.
+pub mod Limits

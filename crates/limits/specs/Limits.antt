@@ -1,0 +1,56 @@
+-- The limits of a plan, for definitions and contracts: the one place where their values stand. src/lib.rt has the same for code, and its functions `named_limits` and
+-- `derived_limits` show that each constant there is its twin. 01, "Rules, in checking order".
+use Prim.Native.Nat.{ℕ, _+_, _*_, _^_}
+
+-- 2: "The text has more than 32,768 bytes"
+abbrev pub maxBytes : ℕ
+maxBytes = 32768
+
+-- a form's line has two bytes at least, so no more forms fit into a text
+abbrev pub maxForms : ℕ
+maxForms = 16384
+
+-- 5: "more than 64 procedures, 1,024 statements, 6 threads, or 16 brackets of hold, loop, either, one and two open together in a procedure"
+abbrev pub maxProcs : ℕ
+maxProcs = 64
+
+abbrev pub maxStatements : ℕ
+maxStatements = 1024
+
+abbrev pub maxThreads : ℕ
+maxThreads = 6
+
+abbrev pub maxBrackets : ℕ
+maxBrackets = 16
+
+-- 6: "a lock above 31"; a set of locks is a mask below 2 to the power of their number
+abbrev pub lockCount : ℕ
+lockCount = 32
+
+abbrev pub maskSize : ℕ
+maskSize = 2 ^ lockCount
+
+-- 9: "Some procedure's size exceeds 1,024"; sizes are counted up to one more than that
+abbrev pub maxSize : ℕ
+maxSize = 1024
+
+abbrev pub sizeRoom : ℕ
+sizeRoom = maxSize + 1
+
+-- 10: "more than 128 critical pairs", and 1: "shorter than .. 128 words for pairs"; pairs are collected up to one more than that
+abbrev pub maxPairs : ℕ
+maxPairs = 128
+
+abbrev pub pairRoom : ℕ
+pairRoom = maxPairs + 1
+
+-- the pairs of all threads; and one more, since each list is collected with room for one more
+abbrev pub maxListed : ℕ
+maxListed = maxThreads * maxPairs
+
+abbrev pub listRoom : ℕ
+listRoom = maxListed + 1
+
+-- 1: "shorter than 6,144 entries for a schedule", which is "never longer than the sum of its threads' sizes"
+abbrev pub maxEntries : ℕ
+maxEntries = maxThreads * maxSize

@@ -1,0 +1,121 @@
+// One thread of the gateway, as a part of the table that the state is: how deep it is in the plan and where, and which locks it holds.
+use limits::LOCK_COUNT;
+use limits::SIZE_ROOM;
+ghost use Prim.Native.Nat.{_≤_, _<_};
+ghost use lib.ListN.{length};
+ghost use Rattle.replay.specs.Tables.{levels, threadRoom};
+
+// The part has the thread's depth,
+const DEPTH: usize = 0;
+
+// its count of each lock,
+pub const COUNTS: usize = 1;
+
+// and a place for each depth. The last is where its remainder starts, those before it are of the holds, loops, eithers and calls that it is in, and the first is the plan's.
+const PLACES: usize = COUNTS + LOCK_COUNT;
+
+// A thread is in at most as many of them as its size says.
+pub const LEVELS: usize = SIZE_ROOM + 1;
+
+pub const THREAD_ROOM: usize = PLACES + LEVELS;
+
+// The depth of a thread, which is always below the limit.
+fn depth(thread: &[usize]) -> usize
+    requires { ⌜ threadRoom ≤ length (now thread) ⌝ }
+    ensures { λ r. ⌜ r < levels ⌝ }
+{
+    thread[DEPTH] % LEVELS
+}
+
+// The place of a thread's remainder.
+pub fn place(thread: &[usize]) -> usize
+    requires { ⌜ threadRoom ≤ length (now thread) ⌝ }
+{
+    let d = depth(thread);
+    thread[PLACES + d]
+}
+
+// The line of the innermost hold, loop, either or call that a thread is in.
+pub fn innermost(thread: &[usize]) -> usize
+    requires { ⌜ threadRoom ≤ length (now thread) ⌝ }
+{
+    let d = depth(thread);
+    if d == 0 { 0 } else { thread[PLACES + d - 1] }
+}
+
+fn store(thread: &mut [usize], i: usize, x: usize)
+    requires { ⌜ (threadRoom ≤ length (now thread)) × (i < threadRoom) ⌝ }
+{
+    thread[i] = x;
+}
+
+// Puts a thread at a place, at a depth below the limit.
+fn put(thread: &mut [usize], d: usize, at: usize) -> bool
+    requires { ⌜ threadRoom ≤ length (now thread) ⌝ }
+{
+    if LEVELS <= d {
+        return false;
+    }
+    store(thread, PLACES + d, at);
+    store(thread, DEPTH, d);
+    true
+}
+
+// Goes to a place behind the line at hand.
+pub fn go(thread: &mut [usize], at: usize) -> bool
+    requires { ⌜ threadRoom ≤ length (now thread) ⌝ }
+{
+    let d = depth(thread);
+    put(thread, d, at)
+}
+
+// Goes to a place inside the line at hand.
+pub fn enter(thread: &mut [usize], at: usize) -> bool
+    requires { ⌜ threadRoom ≤ length (now thread) ⌝ }
+{
+    let d = depth(thread);
+    put(thread, d + 1, at)
+}
+
+// Goes to a place behind the innermost line, or back to it.
+pub fn leave(thread: &mut [usize], at: usize) -> bool
+    requires { ⌜ threadRoom ≤ length (now thread) ⌝ }
+{
+    let d = depth(thread);
+    if d == 0 {
+        return false;
+    }
+    put(thread, d - 1, at)
+}
+
+// The count of a lock up by 1: whether there is such a lock.
+pub fn count_up(thread: &mut [usize], lock: usize) -> bool
+    requires { ⌜ threadRoom ≤ length (now thread) ⌝ }
+{
+    if LOCK_COUNT <= lock {
+        return false;
+    }
+    let count = thread[COUNTS + lock];
+    store(
+        thread,
+        COUNTS + lock,
+        std::num::wrapping_add_usize(count, 1),
+    );
+    true
+}
+
+// The count of a lock down by 1: whether there is such a lock.
+pub fn count_down(thread: &mut [usize], lock: usize) -> bool
+    requires { ⌜ threadRoom ≤ length (now thread) ⌝ }
+{
+    if LOCK_COUNT <= lock {
+        return false;
+    }
+    let count = thread[COUNTS + lock];
+    store(
+        thread,
+        COUNTS + lock,
+        std::num::wrapping_sub_usize(count, 1),
+    );
+    true
+}

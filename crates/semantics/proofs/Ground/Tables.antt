@@ -1,0 +1,61 @@
+-- Functions on the threads' numbers: as lists of threads (`table`) and summed (`total`).
+use Prim.Native.Nat.{ℕ, zero, suc, _≤_, _<_}
+use mathlib.Core.List.{List}
+use mathlib.Core.Logic.{⊎-elim, _≢_}
+use mathlib.Core.Path.{_≡_, refl, sym, ap, _∙_, subst}
+use native.Mathlib.Nat.{not-suc-le-zero, le-of-suc-le-suc}
+use native.Mathlib.Omega.{arith}
+use lib.ListN.{length, set, length-set}
+use lib.Seq.{ext-getD, getD-set-same, getD-set-other}
+use Rattle.laws.proofs.Tests.{eq-or-ne}
+use Rattle.semantics.specs.Run.{ThreadState, nth, absentThread}
+use Rattle.semantics.specs.Retreat.{table, total}
+
+pub length-table : (n : ℕ) (f : ℕ → ThreadState) → length (table n f) ≡ n
+unfolding table
+length-table zero f = refl
+length-table (suc n) f = ap suc (length-table n (λ i. f (suc i)))
+
+pub nth-table : (n : ℕ) (f : ℕ → ThreadState) (i : ℕ) → i < n → nth (table n f) i ≡ f i
+unfolding table
+nth-table zero f i h = absurd (not-suc-le-zero h)
+nth-table (suc n) f zero h = refl
+nth-table (suc n) f (suc i) h = nth-table n (λ i. f (suc i)) i (le-of-suc-le-suc h)
+
+-- a list of n threads is the table of what stands in it
+pub is-table : (n : ℕ) (f : ℕ → ThreadState) (ts : List ThreadState) → length ts ≡ n → ((i : ℕ) → i < n → nth ts i ≡ f i) → ts ≡ table n f
+is-table n f ts e h =
+    ext-getD absentThread ts (table n f) (e ∙ sym (length-table n f))
+    (λ i b. let c : i < n = subst (λ m. i < m) e b in h i c ∙ sym (nth-table n f i c))
+
+pub set-table : (n : ℕ) (f g : ℕ → ThreadState) (k : ℕ) → k < n → ((i : ℕ) → i ≢ k → f i ≡ g i) → set (table n f) k (g k) ≡ table n g
+set-table n f g k b h =
+    is-table n g (set (table n f) k (g k)) (length-set (table n f) k (g k) ∙ length-table n f)
+    (λ i c. ⊎-elim
+    (λ (e : i ≡ k). ap (nth (set (table n f) k (g k))) e
+    ∙ getD-set-same (table n f) k (g k) absentThread (subst (λ m. k < m) (sym (length-table n f)) b) ∙ ap g (sym e))
+    (λ (d : i ≢ k). getD-set-other (table n f) k i (g k) absentThread d ∙ nth-table n f i c ∙ h i d)
+    (eq-or-ne i k))
+
+pub total-le : (n : ℕ) (j h : ℕ → ℕ) → ((i : ℕ) → i < n → j i ≤ h i) → total n j ≤ total n h
+unfolding total
+total-le zero j h a = omega arith
+total-le (suc n) j h a = omega (arith, a 0 (omega arith), total-le n (λ i. j (suc i)) (λ i. h (suc i)) (λ i b. a (suc i) (omega arith)))
+
+pub total-lt : (n : ℕ) (j h : ℕ → ℕ) → ((i : ℕ) → i < n → j i ≤ h i) → (k : ℕ) → k < n → j k < h k → total n j < total n h
+unfolding total
+total-lt zero j h a k b c = absurd (omega arith)
+total-lt (suc n) j h a zero b c = omega (arith, total-le n (λ i. j (suc i)) (λ i. h (suc i)) (λ i b. a (suc i) (omega arith)))
+total-lt (suc n) j h a (suc k) b c =
+    omega (arith, a 0 (omega arith), total-lt n (λ i. j (suc i)) (λ i. h (suc i)) (λ i b. a (suc i) (omega arith)) k (omega arith) c)
+
+pub total-ones : (n : ℕ) (j : ℕ → ℕ) → ((i : ℕ) → j i ≤ 1) → total n j ≤ n
+unfolding total
+total-ones zero j h = omega arith
+total-ones (suc n) j h = omega (arith, h 0, total-ones n (λ i. j (suc i)) (λ i. h (suc i)))
+
+pub total-at : (n : ℕ) (j : ℕ → ℕ) (i : ℕ) → i < n → j i ≤ total n j
+unfolding total
+total-at zero j i b = absurd (omega arith)
+total-at (suc n) j zero b = omega arith
+total-at (suc n) j (suc i) b = omega (arith, total-at n (λ i. j (suc i)) i (omega arith))
