@@ -1,4 +1,5 @@
-/* Lock plans: the verdict and the pair list, on the caller's own buffers.
+/* Lock plans: the verdict, the pair list and the tidy copy, on the caller's own
+ * buffers.
  *
  * A call answers with one 64-bit number, kind + 256 * a + 65536 * b:
  *
@@ -8,12 +9,15 @@
  *             2 LOCKPLAN_REFUSED      rule         line (0 where none is named)
  *   pairs     0 LOCKPLAN_LISTED       0            number of pairs
  *             2 LOCKPLAN_REFUSED      rule         line (0 where none is named)
+ *   tidy      0 LOCKPLAN_COPIED       0            number of bytes written
+ *             2 LOCKPLAN_REFUSED      rule         line (0 where none is named)
  *
- * The stuck set has bit t for thread t. An answer fills the buffer's start, each
- * entry or word lowest byte first, and keeps the rest; free and refused keep
- * the whole buffer. Lengths are in bytes. A buffer of fewer whole entries or
- * words than the constants below is refused with rule 1. No pointer is null,
- * also where its length is 0, and the two buffers do not overlap.
+ * The stuck set has bit t for thread t. The tidy copy is the plan without what is
+ * passed over: one form a line, each line ended, nothing else. An answer fills the
+ * buffer's start, each entry or word lowest byte first, and keeps the rest; free
+ * and refused keep the whole buffer. Lengths are in bytes. A buffer of fewer whole
+ * entries, words or bytes than the constants below is refused with rule 1. No
+ * pointer is null, also where its length is 0, and the two buffers do not overlap.
  *
  * For the stack that a call needs see docs/ANSWERS.md.
  */
@@ -34,9 +38,12 @@ extern "C" {
 /* The same in bytes. */
 #define LOCKPLAN_ENTRY_BYTES (2 * LOCKPLAN_ENTRIES)
 #define LOCKPLAN_WORD_BYTES (8 * LOCKPLAN_WORDS)
+/* Least number of bytes in the buffer of a tidy copy. */
+#define LOCKPLAN_COPY_BYTES 32768
 
 #define LOCKPLAN_FREE 0
 #define LOCKPLAN_LISTED 0
+#define LOCKPLAN_COPIED 0
 #define LOCKPLAN_DEADLOCK 1
 #define LOCKPLAN_REFUSED 2
 
@@ -45,6 +52,9 @@ uint64_t lockplan_verdict(const uint8_t *text, size_t text_len,
 
 uint64_t lockplan_pairs(const uint8_t *text, size_t text_len, uint64_t proc,
                         uint8_t *out, size_t out_len);
+
+uint64_t lockplan_tidy(const uint8_t *text, size_t text_len,
+                       uint8_t *out, size_t out_len);
 
 /* The parts of an answer. */
 
@@ -64,7 +74,8 @@ static inline unsigned lockplan_rule(uint64_t answer)
     return (unsigned)(answer >> 8 & 255);
 }
 
-/* The b of an answer: the number of entries or pairs, the line of a refusal. */
+/* The b of an answer: the number of entries, pairs or bytes, the line of a
+ * refusal. */
 static inline uint64_t lockplan_count(uint64_t answer)
 {
     return answer >> 16;

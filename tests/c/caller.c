@@ -1,5 +1,6 @@
 /* Reads a plan from standard input and prints its report by the C calls: the
- * pairs of each procedure and the verdict.
+ * pairs of each procedure and the verdict. With --tidy it prints the plan's tidy
+ * copy instead, or the line of its refusal.
  *
  *   cc -std=c99 -I ../../include caller.c \
  *      -L ../../target/staticlib -llockplan -o caller
@@ -17,11 +18,18 @@ static uint8_t text[32768 + 1];
 /* Each buffer with some bytes behind it, which the calls keep. */
 static uint8_t words[LOCKPLAN_WORD_BYTES + 8];
 static uint8_t entries[LOCKPLAN_ENTRY_BYTES + 8];
+static uint8_t copy[LOCKPLAN_COPY_BYTES + 8];
+
+static void print_refused(uint64_t answer)
+{
+    printf("(refused %u %llu)\n", lockplan_rule(answer),
+           (unsigned long long)lockplan_line(answer));
+}
 
 static int refused(uint64_t answer)
 {
-    printf("(refused %u %llu)\n)\n", lockplan_rule(answer),
-           (unsigned long long)lockplan_line(answer));
+    print_refused(answer);
+    printf(")\n");
     return 0;
 }
 
@@ -67,15 +75,26 @@ static int kept(const uint8_t *buffer, size_t from, size_t to)
     return 1;
 }
 
-int main(void)
+static int tidy(size_t length)
 {
-    size_t length = fread(text, 1, sizeof text, stdin);
-    uint64_t answer, proc;
-
-    if (ferror(stdin)) {
-        perror("caller");
-        return 2;
+    uint64_t answer;
+    memset(copy, 0xa5, sizeof copy);
+    answer = lockplan_tidy(text, length, copy, LOCKPLAN_COPY_BYTES);
+    if (lockplan_kind(answer) == LOCKPLAN_REFUSED) {
+        if (!kept(copy, 0, sizeof copy))
+            return 3;
+        print_refused(answer);
+        return 0;
     }
+    if (!kept(copy, (size_t)lockplan_count(answer), sizeof copy))
+        return 3;
+    fwrite(copy, 1, (size_t)lockplan_count(answer), stdout);
+    return 0;
+}
+
+static int report(size_t length)
+{
+    uint64_t answer, proc;
     printf("(report\n");
     for (proc = 0;; proc++) {
         memset(words, 0xa5, sizeof words);
@@ -103,4 +122,17 @@ int main(void)
     print_verdict(answer);
     printf(")\n");
     return 0;
+}
+
+int main(int count, char **arguments)
+{
+    size_t length = fread(text, 1, sizeof text, stdin);
+
+    if (ferror(stdin)) {
+        perror("caller");
+        return 2;
+    }
+    if (count > 1 && strcmp(arguments[1], "--tidy") == 0)
+        return tidy(length);
+    return report(length);
 }

@@ -1,5 +1,5 @@
--- The 64-bit answer can be read back: `readVerdict` and `readListing` give the answer of its number, for every answer that a call can give. Kind and part a are below 256:
--- a rule is, and a stuck set has no members but the plan's threads, of which there are six at most.
+-- The 64-bit answer can be read back: `readVerdict`, `readListing` and `readCopied` give the answer of its number, for every answer that a call can give. Kind and part a
+-- are below 256: a rule is, and a stuck set has no members but the plan's threads, of which there are six at most.
 use Prim.Native.Nat.{ℕ, _/_, _%_, _<_, _≤_}
 use native.Mathlib.Omega.{arith}
 use mathlib.Core.Path.{_≡_, refl, sym, ap, _∙_}
@@ -17,15 +17,17 @@ use Rattle.semantics.specs.Stuck.{Schedule}
 use Rattle.semantics.proofs.Gateway.Steps.{threadAt-some}
 use Rattle.semantics.proofs.Gateway.Invariant.{run-length, start-length}
 use Rattle.text.specs.declared.Refusal.{Refusal}
-use Rattle.plan.specs.Rules.{refusedIf, readerRefusal, planRefusal, planOf, verdictRefusal, pairsRefusal}
-use Rattle.plan.proofs.Sound.{accepted-settled}
+use Rattle.plan.specs.Rules.{refusedIf, planRefusal, planOf, verdictRefusal, pairsRefusal, tidyRefusal}
+use Rattle.plan.proofs.AcceptedTable.{accepted-settled}
 use Rattle.answers.specs.declared.Verdict.{Verdict}
 use Rattle.answers.specs.declared.Verdict.the-variants.{Free, Deadlock}
 use Rattle.answers.specs.declared.Verdict.the-variants as verdict
 use Rattle.answers.specs.declared.Listing.the-variants.{Pairs, Refused}
-use Rattle.answers.specs.Answers.{listingOf, answerNumber, listingNumber, verdictNumber, readListing, readVerdict}
+use Rattle.answers.specs.declared.Copied.the-variants.{Bytes}
+use Rattle.answers.specs.declared.Copied.the-variants as copied
+use Rattle.answers.specs.Answers.{listingOf, copiedOf, answerNumber, listingNumber, verdictNumber, copiedNumber, readListing, readVerdict, readCopied}
 use Rattle.answers.specs.Judgement.{Judgement}
-use Rattle.answers.proofs.LineBounds.{Numbers, pairs-bounded, verdict-bounded}
+use Rattle.answers.proofs.LineBounds.{Numbers, pairs-bounded, verdict-bounded, copy-bounded}
 
 -- ---- a stuck set
 
@@ -37,8 +39,8 @@ schedule-below plan es S few s =
     omega (arith, mask-below S maxThreads member)
 
 few-threads : (text : List ℕ) (lent : ℕ) → verdictRefusal text lent ≡ none → length (planOf text .threads) ≤ maxThreads
-unfolding verdictRefusal planRefusal
-few-threads text lent e = accepted-settled text (first-none (readerRefusal text) _ (first-none (refusedIf 1 (ltb lent maxEntries)) (planRefusal text) e .1) .0) .few-threads
+unfolding verdictRefusal
+few-threads text lent e = accepted-settled text (first-none (refusedIf 1 (ltb lent maxEntries)) (planRefusal text) e .1) .few-threads
 
 -- ---- the digits of an answer
 
@@ -90,3 +92,25 @@ pub listings-equal : (text text′ : List ℕ) (p p′ lent lent′ n n′ : ℕ
     → listingNumber (listingOf (pairsRefusal text p lent) n) ≡ listingNumber (listingOf (pairsRefusal text′ p′ lent′) n′)
     → listingOf (pairsRefusal text p lent) n ≡ listingOf (pairsRefusal text′ p′ lent′) n′
 listings-equal text text′ p p′ lent lent′ n n′ h = sym (listing-read text p lent n) ∙ ap readListing h ∙ listing-read text′ p′ lent′ n′
+
+-- a copy of a plan text
+bytes-read : (n : ℕ) → readCopied (copiedNumber (Bytes n)) ≡ Bytes n
+unfolding copiedNumber readCopied
+bytes-read n = rw (kind-read 0 0 n (omega arith) (omega arith), high-read 0 0 n (omega arith) (omega arith))
+
+copy-refused-read : (x : Refusal) → x .rule < 256 → readCopied (copiedNumber (copied.Refused x)) ≡ copied.Refused x
+unfolding copiedNumber readCopied
+copy-refused-read x h =
+    rw (kind-read 2 (x .rule) (x .line) (omega arith) h, low-read 2 (x .rule) (x .line) (omega arith) h, high-read 2 (x .rule) (x .line) (omega arith) h)
+
+pub copied-read : (text : List ℕ) (lent n : ℕ) → readCopied (copiedNumber (copiedOf (tidyRefusal text lent) n)) ≡ copiedOf (tidyRefusal text lent) n
+unfolding copiedOf
+copied-read text lent n = go (tidyRefusal text lent) (copy-bounded text lent)
+  where
+    go : (o : Option Refusal) → ((w : Refusal) → o ≡ some w → Numbers w) → readCopied (copiedNumber (copiedOf o n)) ≡ copiedOf o n
+    go none b = bytes-read n
+    go (some w) b = copy-refused-read w (b w refl .rule)
+
+pub copies-equal : (text text′ : List ℕ) (lent lent′ n n′ : ℕ) → copiedNumber (copiedOf (tidyRefusal text lent) n) ≡ copiedNumber (copiedOf (tidyRefusal text′ lent′) n′)
+    → copiedOf (tidyRefusal text lent) n ≡ copiedOf (tidyRefusal text′ lent′) n′
+copies-equal text text′ lent lent′ n n′ h = sym (copied-read text lent n) ∙ ap readCopied h ∙ copied-read text′ lent′ n′

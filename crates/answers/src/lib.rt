@@ -1,7 +1,7 @@
 // The answers of the calls, and the 64-bit numbers that carry them to C.
 ghost use mathlib.Core.Path.{_≡_};
 ghost use Prim.Native.Nat.{_^_, _<_};
-ghost use Rattle.answers.specs.Answers.{listingNumber, listingHigh, verdictNumber, verdictHigh};
+ghost use Rattle.answers.specs.Answers.{answerNumber, listingNumber, listingHigh, verdictNumber, verdictHigh, copiedNumber, copiedHigh};
 use text::Refusal;
 
 // What listing the pairs of a procedure gives: how many there are, or the refusal.
@@ -17,29 +17,50 @@ pub enum Verdict {
     Refused(Refusal),
 }
 
-// The answer as one number: kind + 256 × a + 65,536 × b.
+// What writing a copy of a plan text gives: how many bytes it has, or the refusal.
+pub enum Copied {
+    Bytes(usize),
+    Refused(Refusal),
+}
+
+// Kind, a and b as one number: kind + 256 × a + 65,536 × b.
+fn number_of(kind: u8, a: u8, b: usize) -> u64
+    requires { ⌜ b < 2 ^ 40 ⌝ }
+    ensures { λ r. ⌜ r ≡ answerNumber kind a b ⌝ }
+{
+    kind as u64 + 256 * (a as u64) + 65536 * (b as u64)
+}
+
+// The answer as one number.
 pub fn listing_number(listing: Listing) -> u64
     requires { ⌜ listingHigh listing < 2 ^ 40 ⌝ }
     ensures { λ r. ⌜ r ≡ listingNumber listing ⌝ }
 {
     match listing {
-        Listing::Pairs(n) => 65536 * (n as u64),
-        Listing::Refused(refusal) => {
-            2 + 256 * (refusal.rule as u64) + 65536 * (refusal.line as u64)
-        },
+        Listing::Pairs(n) => number_of(0, 0, n),
+        Listing::Refused(refusal) => number_of(2, refusal.rule, refusal.line),
     }
 }
 
-// The answer as one number: kind + 256 × a + 65,536 × b.
+// The answer as one number.
 pub fn verdict_number(verdict: Verdict) -> u64
     requires { ⌜ verdictHigh verdict < 2 ^ 40 ⌝ }
     ensures { λ r. ⌜ r ≡ verdictNumber verdict ⌝ }
 {
     match verdict {
-        Verdict::Free => 0,
-        Verdict::Deadlock { entries, stuck } => 1 + 256 * (stuck as u64) + 65536 * (entries as u64),
-        Verdict::Refused(refusal) => {
-            2 + 256 * (refusal.rule as u64) + 65536 * (refusal.line as u64)
-        },
+        Verdict::Free => number_of(0, 0, 0),
+        Verdict::Deadlock { entries, stuck } => number_of(1, stuck, entries),
+        Verdict::Refused(refusal) => number_of(2, refusal.rule, refusal.line),
+    }
+}
+
+// The answer as one number.
+pub fn copied_number(copied: Copied) -> u64
+    requires { ⌜ copiedHigh copied < 2 ^ 40 ⌝ }
+    ensures { λ r. ⌜ r ≡ copiedNumber copied ⌝ }
+{
+    match copied {
+        Copied::Bytes(n) => number_of(0, 0, n),
+        Copied::Refused(refusal) => number_of(2, refusal.rule, refusal.line),
     }
 }

@@ -1,5 +1,6 @@
 // The reference plans of document 01 and some more, from the files that `index` names beside the program: for each the critical pairs of its procedures, the verdict or the
-// refusal, the texts of its procedures and the report. A schedule is replayed by a second gateway, crate `replay`, which reads the plan's text by itself.
+// refusal, the texts of its procedures, the tidy copy and the report. A schedule is replayed by a second gateway, crate `replay`, which reads the plan's text by itself.
+mod copies;
 mod procs;
 mod schedules;
 
@@ -13,8 +14,8 @@ use streams::TEXT_ROOM;
 
 const INDEX_ROOM: usize = 8192;
 
-// Reports are printed of texts with no more bytes: one of 64 procedures and one with thousands of steps are among them.
-const REPORTED: usize = 1000;
+// Reports and tidy copies are printed of texts with no more bytes: one of 64 procedures and one with thousands of steps are among them.
+pub const REPORTED: usize = 1000;
 
 pub fn print_number(pair: &[u8], x: u64) {
     io::write_all(1, pair);
@@ -50,6 +51,7 @@ fn show_plan(text: &[u8], list: &mut [u64], out: &mut [u16]) {
     procs::show_procs(text, Shown::Pairs, list);
     show_verdict(text, out);
     procs::show_procs(text, Shown::Text, list);
+    copies::show_tidy(text);
     show_report(text);
 }
 

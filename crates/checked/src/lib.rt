@@ -1,14 +1,13 @@
 // The rules 2 to 10 over a text, in checking order, each tested over the whole text before the next; and the layout of an accepted text.
-ghost use mathlib.Core.Option.{orElse};
 ghost use mathlib.Core.Path.{_≡_};
 ghost use Prim.Native.Nat.{_≤_};
 ghost use lib.ListN.{length};
 ghost use Rattle.limits.specs.Limits.{maxForms};
 ghost use Rattle.plan.specs.Table.{tableForms};
 ghost use Rattle.plan.specs.Settled.{PlanTable};
-ghost use Rattle.plan.specs.Rules.{readerRefusal, tooLarge, tooManyPairs, readingOf, Tabled};
+ghost use Rattle.plan.specs.Rules.{grammarRefusal, procsRefusal, readingOf};
 ghost use Rattle.procs.specs.Laid.{Laid};
-ghost use Rattle.checked.specs.Checks.{Checks};
+ghost use Rattle.checked.specs.Checks.{ChecksTable, Checks};
 use limits::MAX_FORMS;
 use limits::MAX_PROCS;
 use limits::MAX_THREADS;
@@ -22,20 +21,34 @@ pub struct CheckedText {
     pub layout: Layout,
 }
 
-// The reader's rules, 2 to 8, with a stack of its own for the blocks that are open.
-fn read_forms(text: &[u8], table: &mut [u64]) -> Reading
-    requires { ⌜ maxForms ≤ length (now table) ⌝ }
-    ensures { λ r. ⌜ Tabled (readerRefusal (now (text .entry))) (now (text .entry)) r (now (table .exit)) ⌝ }
+// A refused text, of which no layout is known.
+fn refused_text(reading: Reading) -> CheckedText
+    ensures { λ r. ⌜ r .reading ≡ reading ⌝ }
 {
-    let mut stack = [0u8; MAX_FORMS];
-    plan::read_plan(text, table, &mut stack)
+    CheckedText {
+        reading,
+        layout: Layout {
+            procs: 0,
+            starts: [0u64; MAX_PROCS],
+            threads: 0,
+            runs: [0u64; MAX_THREADS],
+        },
+    }
 }
 
-// Rules 9 and 10 over a table of forms, with a list of its own.
-fn check_table(table: &[u64]) -> CheckedText
+// Rules 4 to 8 over a table of forms, with a stack of its own for the blocks that are open.
+fn check_grammar(table: &[u64]) -> Reading
+    requires { ⌜ length (now table) ≤ maxForms ⌝ }
+    ensures { λ r. ⌜ r ≡ readingOf (grammarRefusal (tableForms (now (table .entry)))) (length (now (table .entry))) ⌝ }
+{
+    let mut stack = [0u8; MAX_FORMS];
+    plan::check_forms(table, &mut stack)
+}
+
+// Rules 9 and 10 over the table of a plan, with a list of its own; and the table's layout.
+fn check_plan(table: &[u64]) -> CheckedText
     requires { ⌜ PlanTable (now table) ⌝ }
-    ensures { λ r. ⌜ (r .reading ≡ readingOf (orElse (tooLarge (tableForms (now (table .entry)))) (tooManyPairs (tableForms (now (table .entry))))) (length (now (table .entry))))
-        × Laid (now (table .entry)) (r .layout) ⌝ }
+    ensures { λ r. ⌜ (r .reading ≡ readingOf (procsRefusal (tableForms (now (table .entry)))) (length (now (table .entry)))) × Laid (now (table .entry)) (r .layout) ⌝ }
 {
     let layout = procs::layout_of(table);
     let sized = procs::check_sizes(table, layout);
@@ -50,22 +63,32 @@ fn check_table(table: &[u64]) -> CheckedText
     CheckedText { reading, layout }
 }
 
+// Rules 4 to 10 over a table of forms.
+fn check_table(table: &[u64]) -> CheckedText
+    requires { ⌜ length (now table) ≤ maxForms ⌝ }
+    ensures { λ r. ⌜ ChecksTable (now (table .entry)) r ⌝ }
+{
+    let formed = check_grammar(table);
+    let Reading::Accepted(_) = formed else {
+        return refused_text(formed);
+    };
+    check_plan(table)
+}
+
 // The plan's rules, 2 to 10, in checking order; the forms of an accepted text stay in the table.
 pub fn read_text(text: &[u8], table: &mut [u64]) -> CheckedText
     requires { ⌜ maxForms ≤ length (now table) ⌝ }
     ensures { λ r. ⌜ Checks (now (text .entry)) r (now (table .exit)) ⌝ }
 {
-    let read = read_forms(text, table);
+    let read = plan::read_forms(text, table);
     let Reading::Accepted(n) = read else {
-        return CheckedText {
-            reading: read,
-            layout: Layout {
-                procs: 0,
-                starts: [0u64; MAX_PROCS],
-                threads: 0,
-                runs: [0u64; MAX_THREADS],
-            },
-        };
+        return refused_text(read);
     };
-    check_table(&table[0..n])
+    let checked = check_table(&table[0..n]);
+    let reading = checked.reading;
+    let layout = checked.layout;
+    CheckedText {
+        reading: plan::in_file(text, reading),
+        layout,
+    }
 }

@@ -1,4 +1,4 @@
--- No rule refuses a text exactly when it is short and the written text of a plan that keeps what the rules say (`accepted-exactly`); then the plan is the one that is read
+-- No rule refuses a text exactly when it is short and its lines spell a plan that keeps what the rules say (`accepted-exactly`); then the plan is the one that is read
 -- (`accepted-plan`), and the listed pairs of its procedures are the critical ones of source 000 (`published-exactly`).
 use Prim.Native.Nat.{ℕ, _<_, _≤_}
 use mathlib.Core.List.{List, List·Memᴰ}
@@ -21,42 +21,41 @@ use Rattle.semantics.proofs.Critical.PairList.{pair-list-critical}
 use Rattle.semantics.proofs.Critical.CriticalLanguage.{critical-is-published}
 use Rattle.plan.specs.Grammar.{forms, planIn}
 use Rattle.plan.specs.Settled.{Settled}
-use Rattle.plan.specs.Rules.{refusedIf, tooLong, formsRefusal, readerRefusal, tooLarge, tooManyPairs, planOf, planRefusal, verdictRefusal, pairsRefusal}
+use Rattle.plan.specs.Rules.{refusedIf, grammarRefusal, tooLarge, tooManyPairs, planOf, planRefusal, verdictRefusal, pairsRefusal, tidyRefusal}
 use Rattle.plan.proofs.Kept.{unflagged}
-use Rattle.plan.proofs.Sound.{accepted-text}
+use Rattle.plan.proofs.AcceptedTable.{accepted-rules, rules-accepted, accepted-text, accepted-settled}
 use Rattle.plan.proofs.Allowed.{rules-plan}
 use Rattle.demands.specs.Broken.{TooLarge, TooManyPairs, planRules, AllUnbroken, AcceptedText}
 use Rattle.demands.proofs.Lowest.{none-lowest, lowest-none}
 use Rattle.demands.proofs.Pairs.{many-pairs}
-use Rattle.demands.proofs.Refusals.{below, read, plan-refuses}
+use Rattle.demands.proofs.Refusals.{below, plan-refuses}
 
 not-above : (n : ℕ) → (maxSize < n → ⊥) → n ≤ maxSize
 not-above n h = omega arith
 
 module _ (text : List ℕ) where
   accepted : planRefusal text ≡ none → AcceptedText text
-  unfolding planRefusal readerRefusal tooLong planOf tooLarge tooManyPairs
+  unfolding planOf tooLarge tooManyPairs
   accepted e =
       let fs = formsOf text in
       let ps = planIn fs .procs in
-      let reader = first-none (readerRefusal text) (orElse (tooLarge fs) (tooManyPairs fs)) e in
-      let large = first-none (tooLarge fs) (tooManyPairs fs) (reader .1) in
-      let x = read text (reader .0) in
-      let written = accepted-text text (reader .0) in
+      let r = accepted-rules text e in
+      let written = accepted-text text e in
+      let settled = accepted-settled text e in
       record {
-        short = ltb-false maxBytes (length text) (unflagged 2 (ltb maxBytes (length text)) (first-none (tooLong text) _ (reader .0) .0));
+        short = r .short;
         plan = planOf text;
-        written = subst (IsText text) written (readable-written text (x .readable));
-        settled = x .settled;
-        sizes = λ p h. not-above (sizeOf ps p) (none-lowest fs written (λ p. ltb maxSize (sizeOf ps p)) TooLarge (λ p h. below maxSize (sizeOf ps p)) 9 (large .0) p h);
-        pairs = none-lowest fs written (λ p. ltb maxPairs (length (pairList ps p))) TooManyPairs (many-pairs ps (x .settled .sound)) 10 (large .1);
+        written = subst (IsText text) written (readable-written text (r .readable));
+        settled = settled;
+        sizes = λ p h. not-above (sizeOf ps p) (none-lowest fs written (λ p. ltb maxSize (sizeOf ps p)) TooLarge (λ p h. below maxSize (sizeOf ps p)) 9 (r .sizes) p h);
+        pairs = none-lowest fs written (λ p. ltb maxPairs (length (pairList ps p))) TooManyPairs (many-pairs ps (settled .sound)) 10 (r .pairs);
       }
 
   module _ (x : AcceptedText text) where
     same-forms : (unreadableLine text ≡ none) × (formsOf text ≡ forms (x .plan))
     same-forms = text-written text (forms (x .plan)) .1 (x .written)
 
-    kept-rules : (formsRefusal (formsOf text) ≡ none) × (planIn (formsOf text) ≡ x .plan)
+    kept-rules : (grammarRefusal (formsOf text) ≡ none) × (planIn (formsOf text) ≡ x .plan)
     kept-rules = rules-plan (formsOf text) (x .plan) .1 (x .settled, same-forms .1)
 
     -- the plan is the one that is read
@@ -65,7 +64,7 @@ module _ (text : List ℕ) where
     accepted-plan = kept-rules .1
 
     unrefused : planRefusal text ≡ none
-    unfolding planRefusal readerRefusal tooLong tooLarge tooManyPairs orElse
+    unfolding tooLarge tooManyPairs
     unrefused =
         let fs = formsOf text in
         let ps = planIn fs .procs in
@@ -76,13 +75,13 @@ module _ (text : List ℕ) where
         subst (λ (q : LockPlan). (p : ℕ) → p < length (q .procs) → sizeOf (q .procs) p ≤ maxSize) (sym same) (x .sizes) in
         let pairs : (p : ℕ) → p < length ps → TooManyPairs ps p → ⊥ =
         subst (λ (q : LockPlan). (p : ℕ) → p < length (q .procs) → TooManyPairs (q .procs) p → ⊥) (sym same) (x .pairs) in
-        rw (
-          le-ltb maxBytes (length text) (x .short),
-          same-forms .0,
-          kept-rules .0,
-          lowest-none fs written (λ p. ltb maxSize (sizeOf ps p)) TooLarge (λ p h. below maxSize (sizeOf ps p)) 9 (λ p h k. omega (arith, sizes p h)),
-          lowest-none fs written (λ p. ltb maxPairs (length (pairList ps p))) TooManyPairs (many-pairs ps (settled .sound)) 10 pairs,
-        )
+        rules-accepted text (record {
+          short = x .short;
+          readable = same-forms .0;
+          formed = kept-rules .0;
+          sizes = lowest-none fs written (λ p. ltb maxSize (sizeOf ps p)) TooLarge (λ p h. below maxSize (sizeOf ps p)) 9 (λ p h k. omega (arith, sizes p h));
+          pairs = lowest-none fs written (λ p. ltb maxPairs (length (pairList ps p))) TooManyPairs (many-pairs ps (settled .sound)) 10 pairs;
+        })
 
     -- demand 2, of the listed pairs
     pub published-exactly : (p : ℕ) → p < length (x .plan .procs) → (w : ℕ) → List·Memᴰ w (pairList (planOf text .procs) p) ↔ PublishedCritical (x .plan .procs) p w
@@ -99,12 +98,20 @@ module _ (text : List ℕ) where
   unbroken-exactly = let k = plan-refuses text .kept in (λ u. accepted (k .1 u), λ x. k .0 (unrefused x))
 
   -- with rule 1
-  pub verdict-accepted-exactly : (lent : ℕ) → (verdictRefusal text lent ≡ none) ↔ ((maxEntries ≤ lent) × AcceptedText text)
-  unfolding verdictRefusal orElse
-  verdict-accepted-exactly lent = (
-    λ e. let x = first-none (refusedIf 1 (ltb lent maxEntries)) (planRefusal text) e in (ltb-false lent maxEntries (unflagged 1 (ltb lent maxEntries) (x .0)), accepted (x .1)),
-    λ x. rw (le-ltb lent maxEntries (x .0)) (unrefused (x .1)),
+  lent-exactly : (needed lent : ℕ) → (orElse (refusedIf 1 (ltb lent needed)) (planRefusal text) ≡ none) ↔ ((needed ≤ lent) × AcceptedText text)
+  unfolding orElse
+  lent-exactly needed lent = (
+    λ e. let x = first-none (refusedIf 1 (ltb lent needed)) (planRefusal text) e in (ltb-false lent needed (unflagged 1 (ltb lent needed) (x .0)), accepted (x .1)),
+    λ x. rw (le-ltb lent needed (x .0)) (unrefused (x .1)),
   )
+
+  pub verdict-accepted-exactly : (lent : ℕ) → (verdictRefusal text lent ≡ none) ↔ ((maxEntries ≤ lent) × AcceptedText text)
+  unfolding verdictRefusal
+  verdict-accepted-exactly lent = lent-exactly maxEntries lent
+
+  pub tidy-accepted-exactly : (lent : ℕ) → (tidyRefusal text lent ≡ none) ↔ ((maxBytes ≤ lent) × AcceptedText text)
+  unfolding tidyRefusal
+  tidy-accepted-exactly lent = lent-exactly maxBytes lent
 
   -- with rules 1 and 11
   pub pairs-accepted-exactly : (p lent : ℕ) → (pairsRefusal text p lent ≡ none) ↔ ((maxPairs ≤ lent) × (x : AcceptedText text) × (p < length (x .plan .procs)))

@@ -1,5 +1,5 @@
 -- The counts that the pass of rules 5 to 8 keeps are counts of the forms read (`counted-more`). Which forms stand behind the last `(proc` (`inside-unique`), and where a
--- procedure begins (`proc-unique`), is settled by the forms; a plan's forms have as many `(proc` lines as it has procedures (`count-forms`).
+-- procedure begins (`proc-unique`), is settled by the forms; a plan's forms have as many `(proc` as it has procedures (`count-forms`).
 use Prim.Native.Nat.{ℕ, suc, _+_}
 use mathlib.Core.Bool.{Bool, true, false, cond}
 use mathlib.Core.List.{List, [], _∷_, _++_, foldl, foldl-append, head-eq-of-cons-eq, tail-eq-of-cons-eq}
@@ -55,7 +55,7 @@ counted-more fs f c x = record {
   threads = omega (arith, add-one-if (isThread f) (c .threads), x .threads, count-snoc isThread fs f);
 }
 
--- ---- `(proc` lines
+-- ---- the `(proc` forms
 
 pub no-proc-in : (fs gs : List Form) → count isProc (fs ++ Proc ∷ gs) ≡ 0 → ⊥
 unfolding count kindIn
@@ -68,7 +68,7 @@ inside-unique [] (y ∷ ys) vs ws e h k = absurd (no-proc-in ys ws (rw (tail-eq-
 inside-unique (x ∷ xs) [] vs ws e h k = absurd (no-proc-in xs vs (rw (← tail-eq-of-cons-eq e) at k))
 inside-unique (x ∷ xs) (y ∷ ys) vs ws e h k = inside-unique xs ys vs ws (tail-eq-of-cons-eq e) h k
 
--- the `(proc` line with so many before it
+-- the `(proc` with so many before it
 pub proc-unique : (xs ys vs ws : List Form) → xs ++ Proc ∷ vs ≡ ys ++ Proc ∷ ws → count isProc xs ≡ count isProc ys → length xs ≡ length ys
 unfolding count kindIn
 proc-unique [] [] vs ws e h = refl

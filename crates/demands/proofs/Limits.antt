@@ -1,4 +1,4 @@
--- Rules 5 to 8: in the forms of a plan the pass names the first line that breaks the rule.
+-- Rules 5 to 8: in the forms of a plan the pass names the first form that breaks the rule.
 use Prim.Native.Nat.{ℕ, _+_, _-_, _<_, _≤_}
 use mathlib.Core.Bool.{Bool, true, false}
 use mathlib.Core.List.{List, [], _∷_, _++_}
@@ -16,10 +16,10 @@ use Rattle.text.specs.declared.Form.the-variants.{Thread, Call, Hold}
 use Rattle.text.specs.Forms.{numberIn, kindIn, isProc, isThread, isCall, isHold}
 use Rattle.text.proofs.Matches.{kind-form}
 use Rattle.plan.specs.declared.Counts.{Counts}
-use Rattle.plan.specs.Limits.{overLimit, testedBy, leastBad, breaks, breakingLine}
-use Rattle.plan.specs.Structure.{misplacedLine}
+use Rattle.plan.specs.Limits.{overLimit, testedBy, leastBad, breaks, breakingForm}
+use Rattle.plan.specs.Structure.{misplacedForm}
 use Rattle.plan.proofs.States.{State}
-use Rattle.demands.specs.Lines.{First, LineWhere, count}
+use Rattle.demands.specs.Lines.{First, FormWhere, count}
 use Rattle.demands.specs.Broken.{PastLimit, procedures, statements, threads, brackets, HighLock, LateCall, AbsentProc}
 use Rattle.demands.proofs.Order.{Names}
 use Rattle.demands.proofs.Firsts.{Decides}
@@ -30,7 +30,8 @@ use Rattle.demands.proofs.Scan.{scan-names}
 
 -- ---- 5
 
-within-limits : (fs : List Form) (c : Counts) (s : State) → Along s fs c → c .procs ≤ maxProcs → c .statements ≤ maxStatements → c .threads ≤ maxThreads → c .depth ≤ maxBrackets → PastLimit fs → ⊥
+within-limits : (fs : List Form) (c : Counts) (s : State) → Along s fs c → c .procs ≤ maxProcs → c .statements ≤ maxStatements → c .threads ≤ maxThreads
+    → c .depth ≤ maxBrackets → PastLimit fs → ⊥
 within-limits fs c s a h i j k (procedures p) = omega (arith, a .counts .procs)
 within-limits fs c s a h i j k (statements p) = omega (arith, a .counts .statements)
 within-limits fs c s a h i j k (threads p) = omega (arith, a .counts .threads)
@@ -43,7 +44,10 @@ past-limit fs c s a =
     (λ (h : c .procs ≤ maxProcs). ⊎-elim
     (λ (i : maxStatements < c .statements). inl (rw (le-ltb maxProcs (c .procs) h, lt-ltb maxStatements (c .statements) i), statements (omega (arith, a .counts .statements))))
     (λ (i : c .statements ≤ maxStatements). ⊎-elim
-    (λ (j : maxThreads < c .threads). inl (rw (le-ltb maxProcs (c .procs) h, le-ltb maxStatements (c .statements) i, lt-ltb maxThreads (c .threads) j), threads (omega (arith, a .counts .threads))))
+    (λ (j : maxThreads < c .threads). inl (
+      rw (le-ltb maxProcs (c .procs) h, le-ltb maxStatements (c .statements) i, lt-ltb maxThreads (c .threads) j),
+      threads (omega (arith, a .counts .threads)),
+    ))
     (λ (j : c .threads ≤ maxThreads). ⊎-elim
     (λ (k : maxBrackets < c .depth). inl (
       rw (le-ltb maxProcs (c .procs) h, le-ltb maxStatements (c .statements) i, le-ltb maxThreads (c .threads) j, lt-ltb maxBrackets (c .depth) k),
@@ -87,7 +91,7 @@ decides-6 f c (hold l) = at-least lockCount l (HighLock (Hold l))
     (λ h. record { lock = l; hold = refl; above = h }) (λ x. omega (arith, x .above, ap numberIn (x .hold)))
 decides-6 f c (untested e) = inr (rw e, λ x. omega (arith, sym e ∙ ap testedBy (x .hold)))
 
--- the count of procedures at a line is that before it, but for a `(proc` line
+-- the count of procedures at a form is that before it, but for a `(proc`
 module _ (before : List Form) (f : Form) (after : List Form) (x : Reached before f after) where
   abbrev here : Counts
   here = countsOf (before ++ f ∷ [])
@@ -124,20 +128,20 @@ decides-8 before f after x (untested e) = inr (rw e, λ y. omega (arith, sym e �
 
 -- ---- in the forms of a plan
 
-module _ (fs : List Form) (structured : misplacedLine fs ≡ none) where
-  pub limits-names : Names (breakingLine 5 fs) (First (LineWhere (λ before f. PastLimit (before ++ f ∷ [])) fs))
+module _ (fs : List Form) (structured : misplacedForm fs ≡ none) where
+  pub limits-names : Names (breakingForm 5 fs) (First (FormWhere (λ before f. PastLimit (before ++ f ∷ [])) fs))
   unfolding breaks pick
   limits-names = scan-names 5 (λ before f. PastLimit (before ++ f ∷ [])) fs
       (λ before f after e. let x = reached fs structured before f after e in
       past-limit (before ++ f ∷ []) (countsOf (before ++ f ∷ [])) (x .to) (past before f after x))
 
-  pub locks-names : Names (breakingLine 6 fs) (First (LineWhere (λ before f. HighLock f) fs))
+  pub locks-names : Names (breakingForm 6 fs) (First (FormWhere (λ before f. HighLock f) fs))
   locks-names = scan-names 6 (λ before f. HighLock f) fs (λ before f after e. decides-6 f (countsOf (before ++ f ∷ [])) (tested f))
 
-  pub calls-names : Names (breakingLine 7 fs) (First (LineWhere LateCall fs))
+  pub calls-names : Names (breakingForm 7 fs) (First (FormWhere LateCall fs))
   calls-names = scan-names 7 LateCall fs (λ before f after e. decides-7 before f after (reached fs structured before f after e) (tested f))
 
-  pub threads-names : Names (breakingLine 8 fs) (First (LineWhere (λ before f. AbsentProc fs f) fs))
+  pub threads-names : Names (breakingForm 8 fs) (First (FormWhere (λ before f. AbsentProc fs f) fs))
   threads-names = scan-names 8 (λ before f. AbsentProc fs f) fs
       (λ before f after e. subst (λ gs. Decides (breaks 8 (countsOf (before ++ f ∷ [])) f) (AbsentProc gs f)) (sym e)
       (decides-8 before f after (reached fs structured before f after e) (tested f)))

@@ -1,4 +1,5 @@
--- Rules 9 and 10 name the `(proc` line of the lowest procedure of which P holds, where their test of a procedure says whether P does (`lowest-names`).
+-- Rules 9 and 10 name the `(proc` of the lowest procedure of which P holds, by its number among the forms, where their test of a procedure says whether P does
+-- (`lowest-names`): `procFormFrom` counts the `(proc` forms (`proc-number`).
 use Prim.Native.Nat.{ℕ, zero, suc, _+_, _-_, _<_}
 use mathlib.Core.Bool.{Bool, true, false, cond}
 use mathlib.Core.List.{List, [], _∷_, _++_}
@@ -13,46 +14,46 @@ use Rattle.text.specs.Forms.{kindIn, isProc}
 use Rattle.text.proofs.Matches.{kind-form}
 use Rattle.semantics.specs.Plan.{Block}
 use Rattle.plan.specs.Grammar.{forms, planIn}
-use Rattle.plan.specs.Rules.{refusedAt, procLineFrom, procLine, lowestFrom, procRefusal}
+use Rattle.plan.specs.Rules.{refusedAt, procFormFrom, procForm, lowestFrom, procRefusal}
 use Rattle.plan.proofs.Lowest.{Lowest, lowest, proc-refusal-none}
-use Rattle.demands.specs.Lines.{First, LineWhere, count}
+use Rattle.demands.specs.Lines.{First, FormWhere, count}
 use Rattle.demands.specs.Broken.{BeginsProc, LowestProc}
 use Rattle.demands.proofs.Order.{Names}
 use Rattle.demands.proofs.Firsts.{first-unique, Decides, holds-where, fails-where}
 use Rattle.demands.proofs.Counting.{proc-unique, count-forms}
 
--- ---- the line of a procedure
+-- ---- the number of a procedure's `(proc`
 
--- a `(proc` line, or another, which the count of procedures passes over
+-- a `(proc`, or another form, which the count of procedures passes over
 data View : Form → Type 0 where
   proc : View Proc
-  other : {f : Form} → isProc f ≡ false → ((line p : ℕ) (fs : List Form) → procLineFrom line p (f ∷ fs) ≡ procLineFrom (suc line) p fs) → View f
+  other : {f : Form} → isProc f ≡ false → ((k p : ℕ) (fs : List Form) → procFormFrom k p (f ∷ fs) ≡ procFormFrom (suc k) p fs) → View f
 
 view : (f : Form) → View f
-unfolding procLineFrom
+unfolding procFormFrom
 view f = go (isProc f) refl
   where
     go : (b : Bool) → isProc f ≡ b → View f
     go true e = subst View (sym (kind-form Proc f e)) proc
-    go false e = other e (λ line p fs. rw e)
+    go false e = other e (λ k p fs. rw e)
 
--- the line of procedure p, where the first line is `line`
-record LineOf (fs : List Form) (line p : ℕ) : Type 0 where
+-- the `(proc` of procedure p, where the first form has the number k
+record ProcAt (fs : List Form) (k p : ℕ) : Type 0 where
   before : List Form
   after : List Form
   split : fs ≡ before ++ Proc ∷ after
-  number : procLineFrom line p fs ≡ line + length before
+  number : procFormFrom k p fs ≡ k + length before
   counted : count isProc before ≡ p
 
-line-here : (fs : List Form) (line : ℕ) → LineOf (Proc ∷ fs) line 0
-unfolding procLineFrom count kindIn
-line-here fs line = record { before = []; after = fs; split = refl; number = omega arith; counted = refl }
+proc-here : (fs : List Form) (k : ℕ) → ProcAt (Proc ∷ fs) k 0
+unfolding procFormFrom count kindIn
+proc-here fs k = record { before = []; after = fs; split = refl; number = omega arith; counted = refl }
 
 -- a form in front
-line-later : (f : Form) (fs : List Form) (line p q : ℕ) → procLineFrom line q (f ∷ fs) ≡ procLineFrom (suc line) p fs → cond (isProc f) 1 0 + p ≡ q
-    → LineOf fs (suc line) p → LineOf (f ∷ fs) line q
+proc-later : (f : Form) (fs : List Form) (k p q : ℕ) → procFormFrom k q (f ∷ fs) ≡ procFormFrom (suc k) p fs → cond (isProc f) 1 0 + p ≡ q
+    → ProcAt fs (suc k) p → ProcAt (f ∷ fs) k q
 unfolding count
-line-later f fs line p q e k x = record {
+proc-later f fs k p q e h x = record {
   before = f ∷ x .before;
   after = x .after;
   split = ap (λ gs. f ∷ gs) (x .split);
@@ -60,29 +61,29 @@ line-later f fs line p q e k x = record {
   counted = omega (arith, x .counted);
 }
 
--- behind a `(proc` line the procedures are counted from the next
-next-line : (line p : ℕ) (fs : List Form) → procLineFrom line (suc p) (Proc ∷ fs) ≡ procLineFrom (suc line) p fs
-unfolding procLineFrom kindIn
-next-line line p fs = let e : suc p - 1 ≡ p = omega arith in rw (eqb·suc-zero p, e)
+-- behind a `(proc` the procedures are counted from the next
+next-proc : (k p : ℕ) (fs : List Form) → procFormFrom k (suc p) (Proc ∷ fs) ≡ procFormFrom (suc k) p fs
+unfolding procFormFrom kindIn
+next-proc k p fs = let e : suc p - 1 ≡ p = omega arith in rw (eqb·suc-zero p, e)
 
-line-of : (fs : List Form) (line p : ℕ) → p < count isProc fs → LineOf fs line p
+proc-at : (fs : List Form) (k p : ℕ) → p < count isProc fs → ProcAt fs k p
 unfolding count kindIn
-line-of [] line p h = absurd (omega arith)
-line-of (f ∷ fs) line p h = go f (view f) p h (line-of fs (suc line))
+proc-at [] k p h = absurd (omega arith)
+proc-at (f ∷ fs) k p h = go f (view f) p h (proc-at fs (suc k))
   where
-    go : (f : Form) → View f → (p : ℕ) → p < cond (isProc f) 1 0 + count isProc fs → ((q : ℕ) → q < count isProc fs → LineOf fs (suc line) q) → LineOf (f ∷ fs) line p
-    go f proc zero h ih = line-here fs line
-    go f proc (suc p) h ih = line-later Proc fs line p (suc p) (next-line line p fs) (omega arith) (ih p (omega arith))
-    go f (other e k) p h ih = line-later f fs line p p (k line p fs) (rw e (omega arith)) (ih p (omega (arith, rw e at h)))
+    go : (f : Form) → View f → (p : ℕ) → p < cond (isProc f) 1 0 + count isProc fs → ((q : ℕ) → q < count isProc fs → ProcAt fs (suc k) q) → ProcAt (f ∷ fs) k p
+    go f proc zero h ih = proc-here fs k
+    go f proc (suc p) h ih = proc-later Proc fs k p (suc p) (next-proc k p fs) (omega arith) (ih p (omega arith))
+    go f (other e same) p h ih = proc-later f fs k p p (same k p fs) (rw e (omega arith)) (ih p (omega (arith, rw e at h)))
 
-proc-line : (fs : List Form) (p n : ℕ) → p < count isProc fs → procLineFrom 1 p fs ≡ n → LineWhere (BeginsProc p) fs n
-proc-line fs p n h e =
-    let x = line-of fs 1 p h in
+number-proc : (fs : List Form) (p n : ℕ) → p < count isProc fs → procFormFrom 1 p fs ≡ n → FormWhere (BeginsProc p) fs n
+number-proc fs p n h e =
+    let x = proc-at fs 1 p h in
     record { before = x .before; form = Proc; after = x .after; split = x .split; number = omega (arith, x .number); holds = (refl, x .counted) }
 
-line-proc : (fs : List Form) (p n : ℕ) → p < count isProc fs → LineWhere (BeginsProc p) fs n → procLineFrom 1 p fs ≡ n
-line-proc fs p n h x =
-    let y = line-of fs 1 p h in
+proc-number : (fs : List Form) (p n : ℕ) → p < count isProc fs → FormWhere (BeginsProc p) fs n → procFormFrom 1 p fs ≡ n
+proc-number fs p n h x =
+    let y = proc-at fs 1 p h in
     let same : x .before ++ Proc ∷ x .after ≡ y .before ++ Proc ∷ y .after = sym (x .split ∙ ap (λ f. x .before ++ f ∷ x .after) (x .holds .0)) ∙ y .split in
     let k = proc-unique (x .before) (y .before) (x .after) (y .after) same (x .holds .1 ∙ sym (y .counted)) in
     omega (arith, x .number, y .number)
@@ -103,7 +104,7 @@ module _ (fs : List Form) (written : fs ≡ forms (planIn fs)) (test : ℕ → B
   fails : (p : ℕ) → p < n → test p ≡ false → P (planIn fs .procs) p → ⊥
   fails p h e r = fails-where (test p) _ (decide p h) e r
 
-  names : (o : Option ℕ) → Lowest test 0 n o → Names (procLine fs o) (LowestProc P (planIn fs))
+  names : (o : Option ℕ) → Lowest test 0 n o → Names (procForm fs o) (LowestProc P (planIn fs))
   names none x m = (λ e. absurd (Option·none-ne-some m e), λ y. absurd (fails (y .proc) (y .present) (x (y .proc) (omega arith) (omega (arith, y .present))) (y .lowest .here)))
   names (some p) x m =
       let present : p < n = omega (arith, x .1) in
@@ -113,15 +114,15 @@ module _ (fs : List Form) (written : fs ≡ forms (planIn fs)) (test : ℕ → B
           proc = p;
           present = present;
           lowest = first;
-          line = subst (λ gs. LineWhere (BeginsProc p) gs m) written (proc-line fs p m (there p present) (Option·some-injective (procLineFrom 1 p fs) m e));
+          begins = subst (λ gs. FormWhere (BeginsProc p) gs m) written (number-proc fs p m (there p present) (Option·some-injective (procFormFrom 1 p fs) m e));
         },
         λ y.
             let same : y .proc ≡ p = first-unique (P (planIn fs .procs)) (y .proc) p (y .lowest) first in
-            let at : LineWhere (BeginsProc p) fs m = rw (same, ← written) at (y .line) in
-            ap {B = Option ℕ} some (line-proc fs p m (there p present) at),
+            let at : FormWhere (BeginsProc p) fs m = rw (same, ← written) at (y .begins) in
+            ap {B = Option ℕ} some (proc-number fs p m (there p present) at),
       )
 
-  pub lowest-names : Names (procLine fs (lowestFrom test 0 (length (planIn fs .procs)))) (LowestProc P (planIn fs))
+  pub lowest-names : Names (procForm fs (lowestFrom test 0 (length (planIn fs .procs)))) (LowestProc P (planIn fs))
   lowest-names = names (lowestFrom test 0 n) (lowest test n 0)
 
   -- the rule refuses nothing exactly where P holds of no procedure
@@ -132,6 +133,6 @@ module _ (fs : List Form) (written : fs ≡ forms (planIn fs)) (test : ℕ → B
   unfolding procRefusal
   lowest-none rule h = go (lowestFrom test 0 n) (lowest test n 0)
     where
-      go : (o : Option ℕ) → Lowest test 0 n o → refusedAt rule (procLine fs o) ≡ none
+      go : (o : Option ℕ) → Lowest test 0 n o → refusedAt rule (procForm fs o) ≡ none
       go none x = refl
       go (some q) x = absurd (h q (omega (arith, x .1)) (holds q (omega (arith, x .1)) (x .2)))

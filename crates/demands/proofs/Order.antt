@@ -1,4 +1,4 @@
--- Refusals one after the other refuse by the first rule broken (`then`), if each names the lines at which its rule is broken (`by-rule`).
+-- Refusals one after the other refuse by the first rule broken (`then`), if each names the line, or the number of the form, at which its rule is broken (`by-rule`).
 use Prim.Native.Nat.{ℕ}
 use mathlib.Core.List.{List, [], _∷_, _++_}
 use mathlib.Core.Logic.{_⊎_, inl, inr, ⊎-elim, _↔_}
@@ -9,7 +9,7 @@ use Rattle.text.specs.Lines.{refusal}
 use Rattle.plan.specs.Rules.{refusedAt}
 use Rattle.demands.specs.Broken.{Rule, Unbroken, AllUnbroken, FirstBroken}
 
--- o is the line of which P holds, or none
+-- o is the number of which P holds, or none
 abbrev pub Names : Option ℕ → (ℕ → Type 0) → Type 0
 Names o P = (n : ℕ) → (o ≡ some n) ↔ P n
 

@@ -1,5 +1,5 @@
--- A plan's forms as the machine of rule 4 reads them: at each line it stands in a state that goes with the forms before the line and their counts (`reached`). So a call
--- stands in a procedure, and behind a thread's line begins no procedure.
+-- A plan's forms as the machine of rule 4 reads them: at each form it stands in a state that goes with the forms before it and their counts (`reached`). So a call stands in
+-- a procedure, and behind a thread's form begins no procedure.
 use Prim.Native.Nat.{ℕ, suc, _≤_}
 use mathlib.Core.Bool.{false}
 use mathlib.Core.List.{List, [], _∷_, _++_, append-nil}
@@ -13,7 +13,7 @@ use Rattle.text.specs.declared.Form.the-variants.{Proc, Thread, Call}
 use Rattle.text.specs.Forms.{kindIn, isProc}
 use Rattle.plan.specs.declared.Counts.{Counts}
 use Rattle.plan.specs.Limits.{counted}
-use Rattle.plan.specs.Structure.{misplacedLine}
+use Rattle.plan.specs.Structure.{misplacedForm}
 use Rattle.plan.proofs.States.{State, initial, next-thread, finished, modeOf, stackOf, misplacedFrom, after-step, step-or-refused}
 use Rattle.plan.proofs.States.{Step, first-thread, more-threads, ends-plan, calls}
 use Rattle.demands.specs.Lines.{count}
@@ -28,41 +28,41 @@ pub record Along (s : State) (fs : List Form) (c : Counts) : Type 0 where
 along-step : {s t : State} {f : Form} → Step s f t → (fs : List Form) (c : Counts) → Along s fs c → Along t (fs ++ f ∷ []) (counted c f)
 along-step {f} x fs c a = record { counts = counted-more fs f c (a .counts); brackets = open-step x fs c (a .brackets) }
 
--- the line of form f, between the forms before it and those after it
+-- at form f, between the forms before it and those after it
 pub record Reached (before : List Form) (f : Form) (later : List Form) : Type 0 where
   pub from : State
   pub to : State
   pub step : Step from f to
   pub at : Along from before (countsOf before)
-  pub line : ℕ
-  pub accepted : misplacedFrom to line later ≡ none
+  pub number : ℕ
+  pub accepted : misplacedFrom to number later ≡ none
 
--- behind the line
+-- behind the form
 pub past : (before : List Form) (f : Form) (later : List Form) (x : Reached before f later) → Along (x .to) (before ++ f ∷ []) (countsOf (before ++ f ∷ []))
 past before f later x = rw counts-snoc (along-step (x .step) before (countsOf before) (x .at))
 
 module _ (f : Form) (later : List Form) where
-  reached-from : (mid before : List Form) (s : State) (line : ℕ) → Along s before (countsOf before) → misplacedFrom s line (mid ++ f ∷ later) ≡ none
+  reached-from : (mid before : List Form) (s : State) (number : ℕ) → Along s before (countsOf before) → misplacedFrom s number (mid ++ f ∷ later) ≡ none
       → Reached (before ++ mid) f later
-  reached-from [] before s line a h =
+  reached-from [] before s number a h =
       ⊎-elim (λ (x : (t : State) × Step s f t).
-      rw append-nil (record { from = s; to = x .0; step = x .1; at = a; line = suc line; accepted = sym (after-step (x .1) line later) ∙ h }))
-      (λ (no-place : (line : ℕ) (fs : List Form) → misplacedFrom s line (f ∷ fs) ≡ some line). absurd (Option·some-ne-none line (sym (no-place line later) ∙ h)))
+      rw append-nil (record { from = s; to = x .0; step = x .1; at = a; number = suc number; accepted = sym (after-step (x .1) number later) ∙ h }))
+      (λ (no-place : (number : ℕ) (fs : List Form) → misplacedFrom s number (f ∷ fs) ≡ some number). absurd (Option·some-ne-none number (sym (no-place number later) ∙ h)))
       (step-or-refused s f)
-  reached-from (g ∷ mid) before s line a h =
+  reached-from (g ∷ mid) before s number a h =
       let rest = mid ++ f ∷ later in
       ⊎-elim (λ (x : (t : State) × Step s g t).
       let a′ : Along (x .0) (before ++ g ∷ []) (countsOf (before ++ g ∷ [])) = rw counts-snoc (along-step (x .1) before (countsOf before) a) in
-      subst (λ gs. Reached gs f later) (append-snoc before g mid) (reached-from mid (before ++ g ∷ []) (x .0) (suc line) a′ (sym (after-step (x .1) line rest) ∙ h)))
-      (λ (no-place : (line : ℕ) (fs : List Form) → misplacedFrom s line (g ∷ fs) ≡ some line). absurd (Option·some-ne-none line (sym (no-place line rest) ∙ h)))
+      subst (λ gs. Reached gs f later) (append-snoc before g mid) (reached-from mid (before ++ g ∷ []) (x .0) (suc number) a′ (sym (after-step (x .1) number rest) ∙ h)))
+      (λ (no-place : (number : ℕ) (fs : List Form) → misplacedFrom s number (g ∷ fs) ≡ some number). absurd (Option·some-ne-none number (sym (no-place number rest) ∙ h)))
       (step-or-refused s g)
 
 at-start : Along initial [] (countsOf [])
 unfolding countsOf Open count
 at-start = record { counts = record { procs = refl; statements = refl; threads = refl }; brackets = record { none-begun = refl; depth = refl } }
 
-pub reached : (fs : List Form) → misplacedLine fs ≡ none → (before : List Form) (f : Form) (later : List Form) → fs ≡ before ++ f ∷ later → Reached before f later
-unfolding misplacedLine modeOf stackOf
+pub reached : (fs : List Form) → misplacedForm fs ≡ none → (before : List Form) (f : Form) (later : List Form) → fs ≡ before ++ f ∷ later → Reached before f later
+unfolding misplacedForm modeOf stackOf
 reached fs h before f later e = reached-from f later before [] initial 1 at-start (rw e at h)
 
 -- ---- calls and threads
@@ -83,14 +83,14 @@ unfolding kindIn
 behind-step threads more-threads = (threads, refl)
 behind-step threads ends-plan = (over, refl)
 
-none-behind : (fs : List Form) (s : State) (line : ℕ) → Behind s → misplacedFrom s line fs ≡ none → count isProc fs ≡ 0
+none-behind : (fs : List Form) (s : State) (number : ℕ) → Behind s → misplacedFrom s number fs ≡ none → count isProc fs ≡ 0
 unfolding count
-none-behind [] s line b h = refl
-none-behind (f ∷ fs) s line b h =
+none-behind [] s number b h = refl
+none-behind (f ∷ fs) s number b h =
     ⊎-elim (λ (x : (t : State) × Step s f t).
     let y = behind-step b (x .1) in
-    rw (y .1) (omega (arith, none-behind fs (x .0) (suc line) (y .0) (sym (after-step (x .1) line fs) ∙ h))))
-    (λ (no-place : (line : ℕ) (fs : List Form) → misplacedFrom s line (f ∷ fs) ≡ some line). absurd (Option·some-ne-none line (sym (no-place line fs) ∙ h)))
+    rw (y .1) (omega (arith, none-behind fs (x .0) (suc number) (y .0) (sym (after-step (x .1) number fs) ∙ h))))
+    (λ (no-place : (number : ℕ) (fs : List Form) → misplacedFrom s number (f ∷ fs) ≡ some number). absurd (Option·some-ne-none number (sym (no-place number fs) ∙ h)))
     (step-or-refused s f)
 
 thread-behind : {s t : State} {n : ℕ} → Step s (Thread n) t → Behind t
@@ -98,4 +98,4 @@ thread-behind first-thread = threads
 thread-behind more-threads = threads
 
 pub thread-last : (before : List Form) (n : ℕ) (later : List Form) → Reached before (Thread n) later → count isProc later ≡ 0
-thread-last before n later x = none-behind later (x .to) (x .line) (thread-behind (x .step)) (x .accepted)
+thread-last before n later x = none-behind later (x .to) (x .number) (thread-behind (x .step)) (x .accepted)

@@ -1,4 +1,5 @@
--- The refusals are those by the first rule broken: the plan's (`refused-exactly`), the verdict's and the pair list's.
+-- The refusals are those by the first rule broken: the plan's (`refused-exactly`), the verdict's, the pair list's and the tidy copy's. Rule by rule, the rules 4 to 10 first over
+-- the forms (`forms-refuses`), then in the file.
 use Prim.Native.Nat.{ℕ, _<_, _≤_}
 use mathlib.Core.Bool.{Bool, true, false, cond}
 use mathlib.Core.List.{List, [], _∷_, _++_}
@@ -18,19 +19,22 @@ use Rattle.semantics.specs.Plan.{Block, LockPlan}
 use Rattle.semantics.specs.Sizes.{sizeOf}
 use Rattle.semantics.specs.Pairs.{pairList}
 use Rattle.plan.specs.Grammar.{forms, planIn}
-use Rattle.plan.specs.Structure.{misplacedLine}
-use Rattle.plan.specs.Limits.{breakingLine}
-use Rattle.plan.specs.Settled.{Settled}
-use Rattle.plan.specs.Rules.{refusedAt, refusedIf, tooLong, formsRefusal, readerRefusal, procLine, lowestFrom, procRefusal, tooLarge, tooManyPairs, planOf, planRefusal, verdictRefusal, pairsRefusal}
+use Rattle.plan.specs.Structure.{misplacedForm}
+use Rattle.plan.specs.Limits.{breakingForm}
+use Rattle.plan.specs.Rules.{refusedAt, refusedIf, tooLong, linesRefusal, grammarRefusal, procForm, lowestFrom, procRefusal, tooLarge, tooManyPairs, formsRefusal}
+use Rattle.plan.specs.Rules.{planOf, planRefusal, verdictRefusal, pairsRefusal, tidyRefusal}
 use Rattle.plan.proofs.Trees.{plan-of-forms}
 use Rattle.plan.proofs.Denotes.{accepted-denotes}
 use Rattle.plan.proofs.FirstMisplaced.{structure-first}
 use Rattle.plan.proofs.Kept.{kept, no-line}
 use Rattle.plan.proofs.Sound.{forms-settled}
-use Rattle.demands.specs.Lines.{First, LineWhere}
-use Rattle.demands.specs.Broken.{TooShort, TooLong, Unreadable, OfForms, FirstLine, Misplaced, PastLimit, HighLock, LateCall, AbsentProc, OfPlan, LowestProc, TooLarge, TooManyPairs, AbsentRequest}
-use Rattle.demands.specs.Broken.{Rule, rule, planRules, verdictRules, pairsRules, FirstBroken}
+use Rattle.plan.proofs.AcceptedTable.{accepted-rules}
+use Rattle.demands.specs.Lines.{First, FormWhere}
+use Rattle.demands.specs.Broken.{TooShort, TooLong, Unreadable, OfForms, FirstForm, Misplaced, PastLimit, HighLock, LateCall, AbsentProc}
+use Rattle.demands.specs.Broken.{OfPlan, LowestProc, TooLarge, TooManyPairs, AbsentRequest}
+use Rattle.demands.specs.Broken.{Rule, rule, formRules, planRules, verdictRules, pairsRules, tidyRules, FirstBroken}
 use Rattle.demands.proofs.Order.{Names, RefusesBy, by-rule, then}
+use Rattle.demands.proofs.InFile.{refuses-in-file}
 use Rattle.demands.proofs.Firsts.{Decides}
 use Rattle.demands.proofs.Readable.{readable-names}
 use Rattle.demands.proofs.Limits.{limits-names, locks-names, calls-names, threads-names}
@@ -65,7 +69,7 @@ module _ (text : List ℕ) where
   rule-3 : RefusesBy (rule 3 (First (Unreadable text)) ∷ []) (refusedAt 3 (unreadableLine text))
   rule-3 = by-rule (rule 3 (First (Unreadable text))) (unreadableLine text) (readable-names text)
 
-  -- the forms that the text is written of are those that are read
+  -- the forms that the text's lines spell are those that are read
   module _ (readable : unreadableLine text ≡ none) where
     same-forms : (fs : List Form) → IsText text fs → formsOf text ≡ fs
     same-forms fs w = text-written text fs .1 w .1
@@ -77,38 +81,29 @@ module _ (text : List ℕ) where
       λ x. h n .1 (subst (λ fs. P fs n) (sym (same-forms (x .forms) (x .written))) (x .broken)),
     ))
 
-    rule-4 : RefusesBy (rule 4 (OfForms Misplaced text) ∷ []) (refusedAt 4 (misplacedLine (formsOf text)))
-    rule-4 = of-forms 4 Misplaced (misplacedLine (formsOf text)) (structure-first (formsOf text))
+    rule-4 : RefusesBy (rule 4 (OfForms Misplaced text) ∷ []) (refusedAt 4 (misplacedForm (formsOf text)))
+    rule-4 = of-forms 4 Misplaced (misplacedForm (formsOf text)) (structure-first (formsOf text))
 
     -- of rules 5 to 8
-    by-line : (number : ℕ) (P : List Form → List Form → Form → Type 0) → Names (breakingLine number (formsOf text)) (First (LineWhere (P (formsOf text)) (formsOf text)))
-        → RefusesBy (rule number (FirstLine P text) ∷ []) (refusedAt number (breakingLine number (formsOf text)))
-    by-line number P h = of-forms number (λ fs. First (LineWhere (P fs) fs)) (breakingLine number (formsOf text)) h
+    by-form : (number : ℕ) (P : List Form → List Form → Form → Type 0) → Names (breakingForm number (formsOf text)) (First (FormWhere (P (formsOf text)) (formsOf text)))
+        → RefusesBy (rule number (FirstForm P text) ∷ []) (refusedAt number (breakingForm number (formsOf text)))
+    by-form number P h = of-forms number (λ fs. First (FormWhere (P fs) fs)) (breakingForm number (formsOf text)) h
 
-  -- what the reader's rules settle
-  pub record Read : Type 0 where
-    pub readable : unreadableLine text ≡ none
-    pub structured : misplacedLine (formsOf text) ≡ none
-    pub settled : Settled (planIn (formsOf text))
+  -- the plan whose forms the text's lines spell is the one that is read
+  module _ (readable : unreadableLine text ≡ none) (formed : grammarRefusal (formsOf text) ≡ none) where
+    structured : misplacedForm (formsOf text) ≡ none
+    structured = kept (formsOf text) formed .0
 
-  pub read : readerRefusal text ≡ none → Read
-  unfolding readerRefusal
-  read e =
-      let x = first-none (refusedAt 3 (unreadableLine text)) (formsRefusal (formsOf text)) (first-none (tooLong text) _ e .1) in
-      record { readable = no-line 3 (unreadableLine text) (x .0); structured = kept (formsOf text) (x .1) .0; settled = forms-settled (formsOf text) (x .1) }
-
-  -- the plan that the text is written of is the one that is read
-  module _ (x : Read) where
     plan : LockPlan
     plan = planIn (formsOf text)
 
     of-plan : (P : LockPlan → ℕ → Type 0) (o : Option ℕ) → Names o (P plan) → Names o (OfPlan P text)
     unfolding plan
     of-plan P o h n =
-        let d = accepted-denotes (formsOf text) (x .structured) in (
-          λ e. record { plan = plan; grammatical = d .0; written = subst (IsText text) (d .1) (readable-written text (x .readable)); broken = h n .0 e },
+        let d = accepted-denotes (formsOf text) structured in (
+          λ e. record { plan = plan; grammatical = d .0; written = subst (IsText text) (d .1) (readable-written text readable); broken = h n .0 e },
           λ y.
-              let same : plan ≡ y .plan = ap planIn (same-forms (x .readable) (forms (y .plan)) (y .written)) ∙ plan-of-forms (y .plan) (y .grammatical) in
+              let same : plan ≡ y .plan = ap planIn (same-forms readable (forms (y .plan)) (y .written)) ∙ plan-of-forms (y .plan) (y .grammatical) in
               h n .1 (subst (λ q. P q n) (sym same) (y .broken)),
         )
 
@@ -117,8 +112,8 @@ module _ (text : List ℕ) where
     unfolding plan procRefusal
     by-proc number P test decide =
         let fs = formsOf text in
-        let o = procLine fs (lowestFrom test 0 (length (plan .procs))) in
-        by-rule (rule number (OfPlan (LowestProc P) text)) o (of-plan (LowestProc P) o (lowest-names fs (accepted-denotes fs (x .structured) .1) test P decide))
+        let o = procForm fs (lowestFrom test 0 (length (plan .procs))) in
+        by-rule (rule number (OfPlan (LowestProc P) text)) o (of-plan (LowestProc P) o (lowest-names fs (accepted-denotes fs structured .1) test P decide))
 
     rule-9 : RefusesBy (rule 9 (OfPlan (LowestProc TooLarge) text) ∷ []) (tooLarge (formsOf text))
     unfolding tooLarge plan
@@ -126,7 +121,7 @@ module _ (text : List ℕ) where
 
     rule-10 : RefusesBy (rule 10 (OfPlan (LowestProc TooManyPairs) text) ∷ []) (tooManyPairs (formsOf text))
     unfolding tooManyPairs plan
-    rule-10 = by-proc 10 TooManyPairs (λ p. ltb maxPairs (length (pairList (plan .procs) p))) (many-pairs (plan .procs) (x .settled .sound))
+    rule-10 = by-proc 10 TooManyPairs (λ p. ltb maxPairs (length (pairList (plan .procs) p))) (many-pairs (plan .procs) (forms-settled (formsOf text) formed .sound))
 
     rule-11 : (p : ℕ) → RefusesBy (rule 11 (OfPlan (AbsentRequest p) text) ∷ []) (refusedIf 11 (leb (length (planOf text .procs)) p))
     unfolding planOf plan
@@ -138,28 +133,37 @@ module _ (text : List ℕ) where
 -- ---- the rules, one after the other
 
 module _ (text : List ℕ) where
+  module _ (readable : unreadableLine text ≡ none) where
+    forms-refuses : RefusesBy (formRules text) (formsRefusal (formsOf text))
+    unfolding formRules formsRefusal grammarRefusal
+    forms-refuses =
+        let fs = formsOf text in
+        then
+        (then (rule-4 text readable)
+        (λ e. let structured = no-line 4 (misplacedForm fs) e in then (by-form text readable 5 (λ fs before f. PastLimit (before ++ f ∷ [])) (limits-names fs structured))
+        (λ _. then (by-form text readable 6 (λ fs before f. HighLock f) (locks-names fs structured))
+        (λ _. then (by-form text readable 7 (λ fs before f. LateCall before f) (calls-names fs structured))
+        (λ _. by-form text readable 8 (λ fs before f. AbsentProc fs f) (threads-names fs structured))))))
+        (λ formed. then (rule-9 text readable formed)
+        (λ _. rule-10 text readable formed))
+
   pub plan-refuses : RefusesBy (planRules text) (planRefusal text)
-  unfolding planRules planRefusal readerRefusal formsRefusal
+  unfolding planRules planRefusal linesRefusal
   plan-refuses =
-      let fs = formsOf text in
-      then
-      (then (rule-2 text)
-      (λ _. then (rule-3 text)
-      (λ e. let readable = no-line 3 (unreadableLine text) e in then (rule-4 text readable)
-      (λ e. let structured = no-line 4 (misplacedLine fs) e in then (by-line text readable 5 (λ fs before f. PastLimit (before ++ f ∷ [])) (limits-names fs structured))
-      (λ _. then (by-line text readable 6 (λ fs before f. HighLock f) (locks-names fs structured))
-      (λ _. then (by-line text readable 7 (λ fs before f. LateCall before f) (calls-names fs structured))
-      (λ _. by-line text readable 8 (λ fs before f. AbsentProc fs f) (threads-names fs structured))))))))
-      (λ e. let x = read text e in then (rule-9 text x)
-      (λ _. rule-10 text x))
+      then (then (rule-2 text) (λ _. rule-3 text))
+      (λ e. refuses-in-file text (forms-refuses (no-line 3 (unreadableLine text) (first-none (tooLong text) _ e .1))))
 
   pub verdict-refuses : (lent : ℕ) → RefusesBy (verdictRules text lent) (verdictRefusal text lent)
   unfolding verdictRules verdictRefusal
   verdict-refuses lent = then (rule-1 maxEntries lent) (λ _. plan-refuses)
 
   pub pairs-refuses : (p lent : ℕ) → RefusesBy (pairsRules text p lent) (pairsRefusal text p lent)
-  unfolding pairsRules pairsRefusal planRefusal
-  pairs-refuses p lent = then (rule-1 maxPairs lent) (λ _. then plan-refuses (λ e. rule-11 text (read text (first-none (readerRefusal text) _ e .0)) p))
+  unfolding pairsRules pairsRefusal
+  pairs-refuses p lent = then (rule-1 maxPairs lent) (λ _. then plan-refuses (λ e. let r = accepted-rules text e in rule-11 text (r .readable) (r .formed) p))
+
+  pub tidy-refuses : (lent : ℕ) → RefusesBy (tidyRules text lent) (tidyRefusal text lent)
+  unfolding tidyRules tidyRefusal
+  tidy-refuses lent = then (rule-1 maxBytes lent) (λ _. plan-refuses)
 
 -- (r, l) is the refusal exactly when rule r is the first one broken, at line l
 module _ (text : List ℕ) (r l : ℕ) where
@@ -171,3 +175,6 @@ module _ (text : List ℕ) (r l : ℕ) where
 
   pub pairs-refused-exactly : (p lent : ℕ) → (pairsRefusal text p lent ≡ some (refusal r l)) ↔ FirstBroken (pairsRules text p lent) r l
   pairs-refused-exactly p lent = pairs-refuses text p lent .refused r l
+
+  pub tidy-refused-exactly : (lent : ℕ) → (tidyRefusal text lent ≡ some (refusal r l)) ↔ FirstBroken (tidyRules text lent) r l
+  tidy-refused-exactly lent = tidy-refuses text lent .refused r l

@@ -1,29 +1,31 @@
--- What it means that a text breaks a rule, and at which line: said of the text, and of the forms or the plan that it is the written text of. A text keeps the rules 2 to
+-- What it means that a text breaks a rule, and at which line: said of the text, and of the forms or the plan that its lines spell. A text keeps the rules 2 to
 -- 10 exactly when its plan is not refused (theorems `accepted-exactly`, `unbroken-exactly`), and (r, l) is the refusal exactly when rule r is the first one broken, at line
 -- l (`refused-exactly`). Each rule is stated for texts that break none before it, as `FirstBroken` asks: the numbers of brackets and of the caller count on rule 4, sizes
 -- on rule 7, a pair as one number on rule 6. 01, "Rules, in checking order".
 use Prim.Native.Nat.{ℕ, _+_, _-_, _<_, _≤_}
 use mathlib.Core.List.{List, [], _∷_, _++_, List·Memᴰ}
+use mathlib.Core.Bool.{false}
 use mathlib.Core.Logic.{_⊎_}
 use mathlib.Core.Path.{_≡_}
-use lib.ListN.{length, getD}
+use lib.ListN.{length}
 use Rattle.limits.specs.Limits.{maxBytes, maxProcs, maxStatements, maxThreads, maxBrackets, lockCount, maxSize, maxPairs, maxEntries}
 use Rattle.laws.specs.Ascending.{Ascends}
 use Rattle.text.specs.declared.Form.{Form}
 use Rattle.text.specs.declared.Form.the-variants.{Proc, Thread, Call, Hold}
 use Rattle.text.specs.Forms.{IsForm, isProc, isThread, isStatement, isBracket, isClose}
-use Rattle.text.specs.Lines.{split, IsText}
+use Rattle.text.specs.Lines.{split, endedLine, unindented, passedOver, IsText}
 use Rattle.semantics.specs.Plan.{Block, LockPlan}
 use Rattle.semantics.specs.Sizes.{sizeOf}
 use Rattle.semantics.specs.Pairs.{Critical}
 use Rattle.plan.specs.Grammar.{forms, Grammatical}
 use Rattle.plan.specs.Places.{NoPlace, EndsEarly}
 use Rattle.plan.specs.Settled.{Settled}
-use Rattle.demands.specs.Lines.{First, LineWhere, count}
+use Rattle.demands.specs.Lines.{First, FormWhere, InFile, count}
 
 -- ---- of the lent buffer and the bytes
 
--- 1: "The lent buffer is shorter than 6,144 entries for a schedule or 128 words for pairs (line 0)."
+-- 1: "The lent buffer is shorter than 6,144 entries for a schedule or 128 words for pairs (line 0)." 02, change 1, of the tidy copy: "The output must hold 32,768 bytes,
+-- otherwise rule 1 applies."
 abbrev pub TooShort : ℕ → ℕ → ℕ → Type 0
 TooShort needed lent n = (lent < needed) × (n ≡ 0)
 
@@ -33,13 +35,14 @@ TooLong text n = (maxBytes < length text) × (n ≡ 0)
 
 -- ---- of the lines
 
--- 3: "Some line is none of the forms above"
+-- 3: "Some line is none of the forms above". 02, change 1: "Rule 3 judges what remains of each line" that is not passed over
 pub record NoForm (text : List ℕ) (n : ℕ) : Type 0 where
   pub from-one : 1 ≤ n
   pub present : n ≤ length (split text .ended)
-  pub unknown : (f : Form) → IsForm (getD (split text .ended) (n - 1) []) f → ⊥
+  pub judged : passedOver (endedLine text n) ≡ false
+  pub unknown : (f : Form) → IsForm (unindented (endedLine text n)) f → ⊥
 
--- "or the last is not ended"
+-- "or the last is not ended"; 02, change 1: "a last line not ended breaks it even if passed over"
 pub record NotEnded (text : List ℕ) (n : ℕ) : Type 0 where
   pub last : n ≡ length (split text .ended) + 1
   pub bytes : 0 < length (split text .tail)
@@ -47,17 +50,17 @@ pub record NotEnded (text : List ℕ) (n : ℕ) : Type 0 where
 abbrev pub Unreadable : List ℕ → ℕ → Type 0
 Unreadable text n = NoForm text n ⊎ NotEnded text n
 
--- ---- of the forms
+-- ---- of the forms, which are named by their numbers, from 1
 
--- P, of the forms that the text is written of, and a line
+-- P, of the forms that the text's lines spell, and of a form's number
 pub record OfForms (P : List Form → ℕ → Type 0) (text : List ℕ) (n : ℕ) : Type 0 where
   pub forms : List Form
   pub written : IsText text forms
   pub broken : P forms n
 
--- "first such line", of the forms that the text is written of: P says something of all of them, of those before the line, and of the line's own
-abbrev pub FirstLine : (List Form → List Form → Form → Type 0) → List ℕ → ℕ → Type 0
-FirstLine P text n = OfForms (λ fs. First (LineWhere (P fs) fs)) text n
+-- "first such line": the first form of which P holds. P says something of all forms, of those before it, and of itself
+abbrev pub FirstForm : (List Form → List Form → Form → Type 0) → List ℕ → ℕ → Type 0
+FirstForm P text n = OfForms (λ fs. First (FormWhere (P fs) fs)) text n
 
 -- 4: "A line stands where the text's structure has no place for it (first such line), or the text ends too early (one more than the last line)."
 abbrev pub Misplaced : List Form → ℕ → Type 0
@@ -71,7 +74,7 @@ pub record TooDeep (fs : List Form) : Type 0 where
   pub last : count isProc inside ≡ 0
   pub unclosed : count isClose inside + maxBrackets < count isBracket inside
 
--- 5: "There are more than 64 procedures, 1,024 statements, 6 threads, or 16 brackets .. (first line past a limit)", among the forms up to a line
+-- 5: "There are more than 64 procedures, 1,024 statements, 6 threads, or 16 brackets .. (first line past a limit)", among the forms up to one
 pub data PastLimit (fs : List Form) : Type 0 where
   procedures : maxProcs < count isProc fs → PastLimit fs
   statements : maxStatements < count isStatement fs → PastLimit fs
@@ -100,14 +103,14 @@ pub record AbsentProc (fs : List Form) (f : Form) : Type 0 where
 
 -- ---- of the plan
 
--- P, of the plan that the text is written of, and a line
+-- P, of the plan whose forms the text's lines spell, and of a form's number or of 0, no line
 pub record OfPlan (P : LockPlan → ℕ → Type 0) (text : List ℕ) (n : ℕ) : Type 0 where
   pub plan : LockPlan
   pub grammatical : Grammatical plan
   pub written : IsText text (forms plan)
   pub broken : P plan n
 
--- the `(proc` line of procedure p: "Procedures are numbered from 0 in text order"
+-- the `(proc` of procedure p: "Procedures are numbered from 0 in text order"
 abbrev pub BeginsProc : ℕ → List Form → Form → Type 0
 BeginsProc p before f = (f ≡ Proc) × (count isProc before ≡ p)
 
@@ -116,7 +119,7 @@ pub record LowestProc (P : List Block → ℕ → Type 0) (plan : LockPlan) (n :
   pub proc : ℕ
   pub present : proc < length (plan .procs)
   pub lowest : First (P (plan .procs)) proc
-  pub line : LineWhere (BeginsProc proc) (forms plan) n
+  pub begins : FormWhere (BeginsProc proc) (forms plan) n
 
 -- 9: "Some procedure's size exceeds 1,024"
 abbrev pub TooLarge : List Block → ℕ → Type 0
@@ -135,7 +138,7 @@ AbsentRequest p plan n = (length (plan .procs) ≤ p) × (n ≡ 0)
 
 -- ---- the rules in checking order
 
--- a rule: its number, and that it is broken at a line
+-- a rule: its number, and that it is broken at a line or, of the rules that name a form, at a form's number
 pub record Rule : Type 1 where
   pub number : ℕ
   pub broken : ℕ → Type 0
@@ -143,19 +146,26 @@ pub record Rule : Type 1 where
 abbrev pub rule : ℕ → (ℕ → Type 0) → Rule
 rule n broken = record { number = n; broken = broken }
 
--- the plan's rules
-unfoldable pub planRules : List ℕ → List Rule
-planRules text =
-    rule 2 (TooLong text) ∷
-    rule 3 (First (Unreadable text)) ∷
+-- the rules 4 to 10, which name a form by its number
+unfoldable pub formRules : List ℕ → List Rule
+formRules text =
     rule 4 (OfForms Misplaced text) ∷
-    rule 5 (FirstLine (λ fs before f. PastLimit (before ++ f ∷ [])) text) ∷
-    rule 6 (FirstLine (λ fs before f. HighLock f) text) ∷
-    rule 7 (FirstLine (λ fs before f. LateCall before f) text) ∷
-    rule 8 (FirstLine (λ fs before f. AbsentProc fs f) text) ∷
+    rule 5 (FirstForm (λ fs before f. PastLimit (before ++ f ∷ [])) text) ∷
+    rule 6 (FirstForm (λ fs before f. HighLock f) text) ∷
+    rule 7 (FirstForm (λ fs before f. LateCall before f) text) ∷
+    rule 8 (FirstForm (λ fs before f. AbsentProc fs f) text) ∷
     rule 9 (OfPlan (LowestProc TooLarge) text) ∷
     rule 10 (OfPlan (LowestProc TooManyPairs) text) ∷
     []
+
+-- the same rules, each at the line in the file that goes with the number that it names
+unfoldable pub rulesInFile : List ℕ → List Rule → List Rule
+rulesInFile text [] = []
+rulesInFile text (q ∷ qs) = rule (q .number) (InFile text (q .broken)) ∷ rulesInFile text qs
+
+-- the plan's rules
+unfoldable pub planRules : List ℕ → List Rule
+planRules text = rule 2 (TooLong text) ∷ rule 3 (First (Unreadable text)) ∷ rulesInFile text (formRules text)
 
 -- the verdict's, where so many entries are lent
 unfoldable pub verdictRules : List ℕ → ℕ → List Rule
@@ -165,7 +175,11 @@ verdictRules text lent = rule 1 (TooShort maxEntries lent) ∷ planRules text
 unfoldable pub pairsRules : List ℕ → ℕ → ℕ → List Rule
 pairsRules text p lent = rule 1 (TooShort maxPairs lent) ∷ (planRules text ++ rule 11 (OfPlan (AbsentRequest p) text) ∷ [])
 
--- a rule that no line breaks. One that speaks of forms or of a plan is so kept by a text that is written of none: an earlier rule is broken there
+-- the tidy copy's, where so many bytes are lent
+unfoldable pub tidyRules : List ℕ → ℕ → List Rule
+tidyRules text lent = rule 1 (TooShort maxBytes lent) ∷ planRules text
+
+-- a rule that no line breaks. One that speaks of forms or of a plan is so kept by a text whose lines spell none: an earlier rule is broken there
 abbrev pub Unbroken : Rule → Type 0
 Unbroken q = (n : ℕ) → q .broken n → ⊥
 
@@ -181,7 +195,7 @@ FirstBroken (q ∷ qs) r l = ((q .number ≡ r) × q .broken l) ⊎ (Unbroken q 
 
 -- ---- a text that keeps the rules
 
--- The text is short and the written text of a plan that keeps what the rules say: `Settled` has those of 4 to 8, then 9 and 10.
+-- The text is short and its lines spell a plan that keeps what the rules say: `Settled` has those of 4 to 8, then 9 and 10.
 pub record AcceptedText (text : List ℕ) : Type 0 where
   pub short : length text ≤ maxBytes
   pub plan : LockPlan

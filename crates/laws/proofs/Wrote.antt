@@ -4,7 +4,7 @@ use Prim.Native.Nat.{ℕ, suc, _+_, _-_, _<_, _≤_}
 use native.Mathlib.Numerals.{add-one}
 use native.Mathlib.Nat.{add-zero}
 use native.Mathlib.Omega.{arith}
-use mathlib.Core.Path.{_≡_, sym, ap, _∙_}
+use mathlib.Core.Path.{_≡_, refl, sym, ap, _∙_}
 use mathlib.Core.List.{List, [], _∷_, _++_, append-nil, append-assoc}
 use lib.ListN.{length, take, drop, getD, set, length-append, length-drop, take-append-drop}
 use lib.Seq.{drop-cons, drop-drop, length-take-le, take-at, drop-at, set-at, append-snoc, take-suc, take-length}
@@ -94,3 +94,8 @@ start-wrote l l′ i a h n t d = record {
   fits = omega arith;
   written = sym (take-append-drop i l′) ∙ rw (t, d);
 }
+
+-- what fills a buffer's start is settled by the buffer and its length
+pub filled-equal : {A : Type 0} (a b l : List A) → length a ≡ length b → filled a l ≡ filled b l → a ≡ b
+filled-equal a b l n e =
+    sym (take-at a (drop (length a) l) (length a) refl) ∙ ap (take (length a)) e ∙ take-at b (drop (length b) l) (length a) (sym n)

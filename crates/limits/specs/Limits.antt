@@ -2,7 +2,7 @@
 -- `derived_limits` show that each constant there is its twin. 01, "Rules, in checking order".
 use Prim.Native.Nat.{ℕ, _+_, _*_, _^_}
 
--- 2: "The text has more than 32,768 bytes"
+-- 2: "The text has more than 32,768 bytes". 02, change 1, of the tidy copy: "The output must hold 32,768 bytes, otherwise rule 1 applies."
 abbrev pub maxBytes : ℕ
 maxBytes = 32768
 

@@ -20,17 +20,16 @@ use Rattle.plan.specs.Table.{tableForms}
 use Rattle.plan.specs.Settled.{tablePlan}
 use Rattle.text.specs.declared.Refusal.{Refusal}
 use Rattle.text.specs.Lines.{refusal, formsOf}
-use Rattle.plan.specs.Rules.{refusedIf, planOf, readerRefusal, planRefusal, pairsRefusal, tooManyPairs, Tabled}
+use Rattle.plan.specs.Rules.{refusedIf, planOf, planRefusal, pairsRefusal, tooManyPairs, Tabled}
 use Rattle.buffers.specs.LittleEndian.{listBytes}
 use Rattle.pairs.specs.Promises.{PairsCollected}
 use Rattle.pairs.proofs.Lists.{few-pairs}
 use Rattle.answers.specs.declared.Listing.{Listing}
 use Rattle.answers.specs.declared.Listing.the-variants.{Pairs, Refused}
-use Rattle.answers.specs.Answers.{listingOf, listingNumber, listingHigh}
-use Rattle.listing.specs.Listed.{TablePairs, PairsFound, pairsOf, written, Exact, Listed, ListedBytes}
-use Rattle.plan.proofs.Sound.{accepted-settled}
+use Rattle.answers.specs.Answers.{listingOf, listingNumber, listingHigh, written}
+use Rattle.listing.specs.Listed.{TablePairs, PairsFound, pairsOf, Exact, Listed, ListedBytes}
 use Rattle.answers.proofs.LineBounds.{Numbers, pairs-bounded}
-use Rattle.plan.proofs.AcceptedTable.{plan-kept, plan-forms}
+use Rattle.plan.proofs.AcceptedTable.{accepted-settled, plan-kept, plan-forms}
 use Rattle.plan.proofs.Filling.{refused-is}
 use Rattle.plan.proofs.Kept.{unflagged}
 
@@ -84,12 +83,12 @@ text-listed text p lent n table list q r h t g w =
 -- ---- demand 2
 
 pub exact-pairs : (text : List ℕ) (p lent : ℕ) → pairsRefusal text p lent ≡ none → Exact text p
-unfolding pairsRefusal planRefusal
+unfolding pairsRefusal
 exact-pairs text p lent e =
     let absent = refusedIf 11 (leb (length (planOf text .procs)) p) in
     let plan-first = first-none (refusedIf 1 (ltb lent maxPairs)) (orElse (planRefusal text) absent) e .1 in
     let both = first-none (planRefusal text) absent plan-first in
-    let settled = accepted-settled text (first-none (readerRefusal text) _ (both .0) .0) in
+    let settled = accepted-settled text (both .0) in
     let there : p < length (planOf text .procs) = leb-false (length (planOf text .procs)) p (unflagged 11 _ (both .1)) in
     record { critical = pair-list-critical (planOf text .procs) (λ q. q) (settled .sound) p there; ascending = pair-list-ascends (planOf text .procs) p }
 

@@ -2,7 +2,7 @@
 use Prim.Native.Nat.{ℕ, _/_, _<_}
 use mathlib.Core.List.{List, List·Memᴰ}
 use mathlib.Core.Logic.{_↔_}
-use mathlib.Core.Option.{Option, none, some}
+use mathlib.Core.Option.{Option, none}
 use mathlib.Core.Path.{_≡_}
 use lib.Dec.{leb}
 use lib.ListN.{length, take}
@@ -14,17 +14,11 @@ use Rattle.plan.specs.Settled.{tablePlan}
 use Rattle.plan.specs.Rules.{refusedIf, planOf, pairsRefusal}
 use Rattle.buffers.specs.LittleEndian.{listBytes}
 use Rattle.answers.specs.declared.Listing.{Listing}
-use Rattle.laws.specs.Wrote.{filled}
-use Rattle.answers.specs.Answers.{listingOf, listingNumber}
+use Rattle.answers.specs.Answers.{listingOf, listingNumber, written}
 
 -- the critical pairs of procedure p of a text's plan
 abbrev pub pairsOf : List ℕ → ℕ → List ℕ
 pairsOf text p = pairList (planOf text .procs) p
-
--- "A refusal .. writes nothing"
-abbrev pub written : Option Refusal → List ℕ → List ℕ → List ℕ
-written none given before = filled given before
-written (some r) given before = before
 
 -- demand 2: for each procedure the listed pairs are exactly the critical pairs of the published definition, none missing and none added, "ascending without
 -- repeats"

@@ -13,21 +13,24 @@ use Rattle.text.specs.declared.Refusal.{Refusal}
 use Rattle.text.specs.Lines.{refusal}
 use Rattle.semantics.specs.Plan.{LockPlan}
 use Rattle.semantics.proofs.Critical.PairList.{pair-list-ascends}
-use Rattle.plan.specs.Rules.{planOf, verdictRefusal, pairsRefusal}
+use Rattle.plan.specs.Rules.{planOf, verdictRefusal, pairsRefusal, tidyRefusal}
 use Rattle.buffers.specs.LittleEndian.{listBytes}
 use Rattle.demands.specs.Broken.{Rule, FirstBroken, AcceptedText}
-use Rattle.demands.proofs.Refusals.{verdict-refused-exactly, pairs-refused-exactly}
-use Rattle.demands.proofs.Accepted.{accepted-plan, verdict-accepted-exactly, pairs-accepted-exactly, published-exactly}
+use Rattle.demands.proofs.Refusals.{verdict-refused-exactly, pairs-refused-exactly, tidy-refused-exactly}
+use Rattle.demands.proofs.Accepted.{accepted-plan, verdict-accepted-exactly, pairs-accepted-exactly, tidy-accepted-exactly, published-exactly}
 use Rattle.answers.specs.declared.Verdict.{Verdict}
 use Rattle.answers.specs.declared.Verdict.the-variants.{Free, Deadlock, Refused}
 use Rattle.answers.specs.declared.Listing.{Listing}
 use Rattle.answers.specs.declared.Listing.the-variants as listing
-use Rattle.answers.specs.Answers.{listingOf, readListing, readVerdict}
-use Rattle.listing.specs.Listed.{pairsOf, written, ListedBytes}
+use Rattle.answers.specs.declared.Copied.{Copied}
+use Rattle.answers.specs.declared.Copied.the-variants as copied
+use Rattle.answers.specs.Answers.{listingOf, copiedOf, copiedNumber, readListing, readVerdict, readCopied, written}
+use Rattle.listing.specs.Listed.{pairsOf, ListedBytes}
+use Rattle.tidy_text.specs.Tidy.{tidyOf, Tidied, TidiedNumber}
 use Rattle.answers.specs.Judgement.{Judgement}
 use Rattle.verdict.specs.Judged.{JudgedBytes}
-use Rattle.lockplan.specs.Demands.{RefusesExactly, VerdictRefuses, PairsRefuse, Demand1, ListsExactly, Demand2, JudgesExactly, Demand3}
-use Rattle.answers.proofs.ReadBack.{verdict-read, listing-read}
+use Rattle.lockplan.specs.Demands.{RefusesExactly, VerdictRefuses, PairsRefuse, TidyRefuses, Demand1, ListsExactly, Demand2, JudgesExactly, Demand3}
+use Rattle.answers.proofs.ReadBack.{verdict-read, listing-read, copied-read}
 
 -- ---- demand 1
 
@@ -78,6 +81,19 @@ pairs-refuse text p lent n r given before after e b =
     rw e (by-refusal _ _ (λ x. listingOf a n ≡ listing.Refused x) a before after (λ r l. pairs-refused-exactly text r l p lent) (pairs-accepted-exactly text p lent)
     (listing-is a n) (λ x h. rw (listing-is a n x .0 h) at b))
 
+-- the copy's case of a refusal
+copied-is : (a : Option Refusal) (n : ℕ) (x : Refusal) → (copiedOf a n ≡ copied.Refused x) ↔ (a ≡ some x)
+unfolding copiedOf
+copied-is none n x = (λ e. let z : _≡_ {A = ℕ} 0 1 = cc in absurd (omega arith), λ e. absurd (Option·none-ne-some x e))
+copied-is (some y) n x = (λ e. let i : y ≡ x = cc in ap {B = Option Refusal} some i, λ e. ap copied.Refused (Option·some-injective y x e))
+
+tidy-refuses : (text before after : List ℕ) (r : Copied) → Tidied text before r after → TidyRefuses text (length before) r before after
+tidy-refuses text before after r d =
+    let a = tidyRefusal text (length before) in
+    let n = length (tidyOf text) in
+    rw (d .answer) (by-refusal _ _ (λ x. copiedOf a n ≡ copied.Refused x) a before after (λ r l. tidy-refused-exactly text r l (length before)) (tidy-accepted-exactly text (length before))
+    (copied-is a n) (λ x h. rw (copied-is a n x .0 h) at (d .output)))
+
 -- the answers that the numbers carry
 module _ (text before after : List ℕ) (n : ℕ) where
   verdict-carried : (d : JudgedBytes text before n after) → readVerdict n ≡ d .verdict
@@ -85,6 +101,9 @@ module _ (text before after : List ℕ) (n : ℕ) where
 
   listing-carried : (p : ℕ) (d : ListedBytes text p before n after) → readListing n ≡ listingOf (pairsRefusal text p (length before / 8)) (length (pairsOf text p))
   listing-carried p d = ap readListing (d .answer) ∙ listing-read text p (length before / 8) (length (pairsOf text p))
+
+  pub copied-carried : (d : TidiedNumber text before n after) → readCopied n ≡ d .copied
+  copied-carried d = ap readCopied (d .number ∙ ap copiedNumber (d .tidied .answer)) ∙ copied-read text (length before) (length (tidyOf text)) ∙ sym (d .tidied .answer)
 
 pub demand-1 : (text before after : List ℕ) → Demand1 text before after
 unfolding listBytes
@@ -95,6 +114,8 @@ demand-1 text before after = record {
   pair-list = λ p r d. pairs-refuse text p (length before) (length (pairsOf text p)) r (pairsOf text p) before after (d .answer) (d .buffer);
   lockplan-pairs = λ p n d. pairs-refuse text p (length before / 8) (length (pairsOf text p)) (readListing n) (listBytes 8 (pairsOf text p)) before after
       (listing-carried text before after n p d) (d .buffer);
+  tidy = λ r d. tidy-refuses text before after r d;
+  lockplan-tidy = λ n d. rw (copied-carried text before after n d) (tidy-refuses text before after (d .copied) (d .tidied));
 }
 
 -- ---- demand 2

@@ -1,2 +1,3 @@
--- The three demands, of every answer that the promises of the calls let them give.
+-- The three demands, and what is asked of tidy copies, of every answer that the promises of the calls let them give.
 pub mod Demands
+pub mod TidyCopies

@@ -7,7 +7,7 @@ use mathlib.Core.Logic.{_↔_}
 use mathlib.Core.Option.{some}
 use mathlib.Core.Path.{_≡_}
 use lib.ListN.{length}
-use Rattle.limits.specs.Limits.{maxPairs, maxEntries}
+use Rattle.limits.specs.Limits.{maxBytes, maxPairs, maxEntries}
 use Rattle.laws.specs.Mask.{inMask}
 use Rattle.laws.specs.Ascending.{Ascends}
 use Rattle.text.specs.declared.Refusal.{Refusal}
@@ -17,16 +17,19 @@ use Rattle.semantics.specs.Run.{ThreadState, run, start}
 use Rattle.semantics.specs.Stuck.{Stuck, DeadlockFree, Schedule}
 use Rattle.semantics.specs.Language.{PublishedCritical}
 use Rattle.buffers.specs.LittleEndian.{listBytes}
-use Rattle.demands.specs.Broken.{Rule, FirstBroken, verdictRules, pairsRules, AcceptedText}
+use Rattle.demands.specs.Broken.{Rule, FirstBroken, verdictRules, pairsRules, tidyRules, AcceptedText}
 use Rattle.answers.specs.declared.Verdict.{Verdict}
 use Rattle.answers.specs.declared.Verdict.the-variants.{Free, Deadlock, Refused}
 use Rattle.answers.specs.declared.Listing.{Listing}
 use Rattle.answers.specs.declared.Listing.the-variants.{Pairs}
 use Rattle.answers.specs.declared.Listing.the-variants as listing
+use Rattle.answers.specs.declared.Copied.{Copied}
+use Rattle.answers.specs.declared.Copied.the-variants as copied
 use Rattle.laws.specs.Wrote.{filled}
-use Rattle.answers.specs.Answers.{readListing, readVerdict}
+use Rattle.answers.specs.Answers.{readListing, readVerdict, readCopied}
 use Rattle.listing.specs.Listed.{Listed, ListedBytes}
 use Rattle.verdict.specs.Judged.{Judged, JudgedBytes}
+use Rattle.tidy_text.specs.Tidy.{Tidied, TidiedNumber}
 
 -- the answer is a refusal exactly by the first rule broken, in checking order, and by its line; it is none exactly where the rules are kept; a refusal writes nothing.
 -- `Refuses x` says that the answer is the refusal x, `Kept` that the rules are kept
@@ -44,12 +47,18 @@ abbrev pub PairsRefuse : List ℕ → ℕ → ℕ → Listing → List ℕ → L
 PairsRefuse text p lent r before after =
     RefusesExactly (pairsRules text p lent) ((maxPairs ≤ lent) × (x : AcceptedText text) × (p < length (x .plan .procs))) (λ x. r ≡ listing.Refused x) before after
 
+-- of the tidy copy, where so many bytes are lent
+abbrev pub TidyRefuses : List ℕ → ℕ → Copied → List ℕ → List ℕ → Type 0
+TidyRefuses text lent r before after = RefusesExactly (tidyRules text lent) ((maxBytes ≤ lent) × AcceptedText text) (λ x. r ≡ copied.Refused x) before after
+
 -- Demand 1: each text that keeps the rules is accepted, and each other is refused with the number of the first rule broken and its line, and nothing is written.
 pub record Demand1 (text before after : List ℕ) : Type 0 where
   pub judge : (v : Verdict) → Judged text before v after → VerdictRefuses text (length before) v before after
   pub lockplan-verdict : (n : ℕ) → JudgedBytes text before n after → VerdictRefuses text (length before / 2) (readVerdict n) before after
   pub pair-list : (p : ℕ) (r : Listing) → Listed text p before r after → PairsRefuse text p (length before) r before after
   pub lockplan-pairs : (p n : ℕ) → ListedBytes text p before n after → PairsRefuse text p (length before / 8) (readListing n) before after
+  pub tidy : (r : Copied) → Tidied text before r after → TidyRefuses text (length before) r before after
+  pub lockplan-tidy : (n : ℕ) → TidiedNumber text before n after → TidyRefuses text (length before) (readCopied n) before after
 
 -- so many pairs are listed, ascending without repeats, and a pair is listed exactly when it is a critical pair of procedure p by source 000's Definition 4.1
 pub record ListsExactly (ps : List Block) (p : ℕ) (r : Listing) (pairs : List ℕ) : Type 0 where

@@ -1,2 +1,3 @@
--- The three demands.
+-- The three demands; what is asked of tidy copies.
 pub mod Demands
+pub mod TidyCopies

@@ -1,8 +1,10 @@
-// The library's calls: the verdict on a plan, the pair list of a procedure, a procedure's text, and the verdict and the pair list for C.
+// The library's calls: the verdict on a plan, the pair list of a procedure, a procedure's text, the tidy copy of a plan text; and all but the third for C.
 ghost use Rattle.parts.specs.Parts.{PartAt};
 ghost use Rattle.listing.specs.Listed.{Listed, ListedBytes};
 ghost use Rattle.procedure_text.specs.ProcText.{procText};
+ghost use Rattle.tidy_text.specs.Tidy.{Tidied, TidiedNumber};
 ghost use Rattle.verdict.specs.Judged.{Judged, JudgedBytes};
+pub use answers::Copied;
 pub use answers::Listing;
 pub use answers::Verdict;
 use limits::MAX_ENTRIES;
@@ -30,6 +32,13 @@ pub fn proc_text(text: &[u8], proc: usize) -> &[u8]
     procedure_text::lines_of(text, proc)
 }
 
+// The tidy copy of a plan text, in 01's bare form, at the start of `out`.
+pub fn tidy(text: &[u8], out: &mut [u8]) -> Copied
+    ensures { λ r. ⌜ Tidied (now (text .entry)) (now (out .entry)) r (now (out .exit)) ⌝ }
+{
+    tidy_text::write_copy(text, out)
+}
+
 // The verdict for C: entries as two bytes each, lowest first.
 #[no_mangle]
 pub extern "C" fn lockplan_verdict(text: &[u8], out: &mut [u8]) -> u64
@@ -46,4 +55,12 @@ pub extern "C" fn lockplan_pairs(text: &[u8], proc: u64, out: &mut [u8]) -> u64
 {
     let mut list = [0u64; PAIR_ROOM];
     listing::list_bytes(text, proc as usize, out, &mut list)
+}
+
+// The tidy copy for C.
+#[no_mangle]
+pub extern "C" fn lockplan_tidy(text: &[u8], out: &mut [u8]) -> u64
+    ensures { λ r. ⌜ TidiedNumber (now (text .entry)) (now (out .entry)) r (now (out .exit)) ⌝ }
+{
+    tidy_text::copy_number(text, out)
 }

@@ -1,3 +1,5 @@
--- The part of a text that a procedure is.
+-- The laws that the proofs of the functions cite; parts of a text that are whole lines, by the forms that they spell; the forms of a procedure.
 pub mod Turns
-pub mod Lines
+pub mod WholeLines
+pub mod Spans
+pub mod ProcForms

@@ -13,7 +13,9 @@ use denote.Ref.{RefT}
 use Rattle.text.specs.declared.Form.{Form}
 use Rattle.text.specs.Forms.{beginsOther}
 use Rattle.plan.specs.Table.{formAt}
-use Rattle.parts.specs.Parts.{leftAfter, skipLines, formsBefore, span, PartAt, linesSpan}
+use Rattle.text.specs.Lines.{lineOf}
+use Rattle.text.proofs.FormLines.{line-of-first, line-of-grows}
+use Rattle.parts.specs.Parts.{leftAfter, skipLines, formsBefore, span, PartAt, linesSpan, formsSpan}
 
 module _ (text : List ℕ) (left i r : ℕ) where
   turn : i < length text → skipLines left (drop i text) ≡ cond (eqb left 0) 0 (suc (skipLines (leftAfter (getD text i 0) left) (drop (i + 1) text)))
@@ -78,18 +80,27 @@ skip-grows (byte ∷ bytes) a (suc b) h = rw (eqb·suc-zero b) (go (eqb a 0) (sk
     go false k = omega arith
 
 -- the part, by the two places that the code finds
-module _ (text : List ℕ) (line n e start end : ℕ) (p : start ≡ skipLines (line - 1) text) (q : end ≡ skipLines e text) (g : e ≡ line + n) where
-  pub part-ordered : start ≤ end
-  part-ordered = omega (arith, skip-grows text (line - 1) e (omega arith))
+module _ (text : List ℕ) (k n e first last start end : ℕ) (f : first ≡ lineOf text k) (l : last ≡ lineOf text e) (p : start ≡ skipLines (first - 1) text)
+    (q : end ≡ skipLines last text) (g : e ≡ k + n) where
+  pub part-lines : span start (end - start) ≡ formsSpan text k (k + n)
+  unfolding formsSpan linesSpan
+  part-lines = rw (p, q, f, l, g)
 
-  pub part-within : end ≤ length text
-  part-within = omega (arith, skip-within text e)
+-- the first line is not behind the last, and from any place up to its end on there are bytes up to the last line's end
+pub lines-ordered : (text : List ℕ) (k n e first last : ℕ) → first ≡ lineOf text k → last ≡ lineOf text e → e ≡ k + n → first ≤ last
+lines-ordered text k n e first last f l g = omega (arith, line-of-grows text k e (omega arith))
 
-  pub part-lines : span start (end - start) ≡ linesSpan text (line - 1) (line + n)
-  unfolding linesSpan
-  part-lines = rw (p, q, g)
+pub part-ordered : (text : List ℕ) (first last d start end : ℕ) → start ≡ skipLines (first - d) text → end ≡ skipLines last text → first ≤ last → start ≤ end
+part-ordered text first last d start end p q h = omega (arith, skip-grows text (first - d) last (omega arith))
+
+pub part-within : (text : List ℕ) (last end : ℕ) → end ≡ skipLines last text → end ≤ length text
+part-within text last end q = omega (arith, skip-within text last)
+
+pub part-first : (text : List ℕ) (k first : ℕ) → first ≡ lineOf text k → 1 ≤ first
+part-first text k first e = omega (arith, line-of-first text k)
 
 -- the part that is returned
-pub part-returned : (s r : RefT (List ℕ)) (line n e start end : ℕ) → start ≡ skipLines (line - 1) (s .now) → end ≡ skipLines e (s .now) → e ≡ line + n
-    → r .ptr ≡ (s .ptr .0, start + s .ptr .1) → r .now ≡ take (end - start) (drop start (s .now)) → PartAt s (linesSpan (s .now) (line - 1) (line + n)) r
-part-returned s r line n e start end p q g l b = rw (← part-lines (s .now) line n e start end p q g) (record { lies = l; bytes = b })
+pub part-returned : (s r : RefT (List ℕ)) (k n e first last start end : ℕ) → first ≡ lineOf (s .now) k → last ≡ lineOf (s .now) e
+    → start ≡ skipLines (first - 1) (s .now) → end ≡ skipLines last (s .now) → e ≡ k + n
+    → r .ptr ≡ (s .ptr .0, start + s .ptr .1) → r .now ≡ take (end - start) (drop start (s .now)) → PartAt s (formsSpan (s .now) k (k + n)) r
+part-returned s r k n e first last start end f l p q g a b = rw (← part-lines (s .now) k n e first last start end f l p q g) (record { lies = a; bytes = b })

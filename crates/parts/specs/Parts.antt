@@ -1,4 +1,4 @@
--- Parts of a text by the numbers of its lines.
+-- Parts of a text by the numbers of its lines, and by those of its forms.
 use Prim.Native.Nat.{ℕ, suc, _+_, _-_}
 use mathlib.Core.Bool.{_&&_, cond}
 use mathlib.Core.List.{List, [], _∷_}
@@ -7,6 +7,7 @@ use lib.Dec.{eqb}
 use lib.ListN.{take, drop}
 use denote.Ref.{RefT}
 use Rattle.text.specs.declared.Form.{Form}
+use Rattle.text.specs.Lines.{lineOf}
 use Rattle.text.specs.Forms.{isClose, beginsOther}
 use Rattle.plan.specs.Limits.{depthAfter}
 
@@ -36,11 +37,16 @@ pub record PartAt (s : RefT (List ℕ)) (part : Span) (r : RefT (List ℕ)) : Ty
   pub lies : r .ptr ≡ (s .ptr .0, part .start + s .ptr .1)
   pub bytes : r .now ≡ bytesIn (s .now) part
 
--- the lines from a (counted from 0) up to b
+-- the lines from a (counted from 0) up to b, without it
 unfoldable pub linesSpan : List ℕ → ℕ → ℕ → Span
 linesSpan text a b = span (skipLines a text) (skipLines b text - skipLines a text)
 
--- how many of the forms within a procedure stand up to its closing line, that line too: up to the `)` that meets no open bracket of a hold, a loop, an either, a one or
+-- whole lines as they stand in the file, from that of form a to that of form b, forms counted from 1: with the spaces before the forms and what is passed over between
+-- them
+unfoldable pub formsSpan : List ℕ → ℕ → ℕ → Span
+formsSpan text a b = linesSpan text (lineOf text a - 1) (lineOf text b)
+
+-- how many of the forms within a procedure stand up to its closing form, that too: up to the `)` that meets no open bracket of a hold, a loop, an either, a one or
 -- a two, of which `depth` are open before
 unfoldable pub formsToClosing : ℕ → List Form → ℕ
 formsToClosing depth [] = 0

@@ -1,9 +1,9 @@
-// The part of a plan text that a procedure is: from its `(proc` line to its closing line, line end included.
+// The part of a plan text that a procedure is: whole lines as they stand, from its `(proc` line to its closing line, line end included.
 ghost use mathlib.Core.Path.{_≡_};
 ghost use Prim.Native.Nat.{_+_, _-_, _≤_};
 ghost use lib.ListN.{length, drop};
 ghost use Rattle.plan.specs.Table.{tableForms};
-ghost use Rattle.parts.specs.Parts.{leftAfter, skipLines, formsBefore, PartAt, linesSpan};
+ghost use Rattle.parts.specs.Parts.{leftAfter, skipLines, formsBefore, PartAt, formsSpan};
 
 // The lines still to be passed after a byte.
 fn left_after(byte: u8, lines: usize) -> usize
@@ -49,12 +49,14 @@ fn proc_end(table: &[u64], at: usize) -> usize
     i
 }
 
-// The lines of a text from a procedure's `(proc` line, whose number is `line`, to its last, by the table of the text's forms.
-pub fn proc_part<'a>(text: &'a [u8], table: &[u64], line: usize) -> &'a [u8]
-    requires { ⌜ (1 ≤ line) × (line ≤ length (now table)) ⌝ }
-    ensures { λ r. ⌜ PartAt (text .entry) (linesSpan (now (text .entry)) (line - 1) (line + formsBefore (tableForms (drop line (now (table .entry)))))) r ⌝ }
+// The lines of a text from the line of a procedure's `(proc`, which is form number `form`, to its closing line, by the table of the text's forms.
+pub fn proc_part<'a>(text: &'a [u8], table: &[u64], form: usize) -> &'a [u8]
+    requires { ⌜ (1 ≤ form) × (form ≤ length (now table)) ⌝ }
+    ensures { λ r. ⌜ PartAt (text .entry) (formsSpan (now (text .entry)) form (form + formsBefore (tableForms (drop form (now (table .entry)))))) r ⌝ }
 {
-    let start = line_start(text, line - 1);
-    let end = line_start(text, proc_end(table, line));
+    let first = text::line_of(text, form);
+    let last = text::line_of(text, proc_end(table, form));
+    let start = line_start(text, first - 1);
+    let end = line_start(text, last);
     &text[start..end]
 }

@@ -11,19 +11,19 @@ use Rattle.text.specs.declared.Form.{Form}
 use Rattle.text.specs.declared.Form.the-variants.{Close}
 use Rattle.semantics.specs.Plan.{Block, done, skip, call, hold, loop, either, end, LockPlan, bodyIn, WellFormed}
 use Rattle.plan.specs.Grammar.{blockForms, procForms, threadForms, forms, Grammatical}
-use Rattle.plan.specs.Structure.{misplaced, misplacedLine}
+use Rattle.plan.specs.Structure.{misplaced, misplacedForm}
 use Rattle.plan.proofs.Trees.{later-blocks}
 use Rattle.plan.proofs.States.{Bracket, statement, one, two, State, first-proc, next-proc, next-thread, in-block}
 use Rattle.plan.proofs.States.{modeOf, stackOf, misplacedFrom, after-step}
 use Rattle.plan.proofs.States.{Step, begins-plan, first, next, first-thread, more-threads, ends-plan, skips, calls, holds, loops, chooses}
 use Rattle.plan.proofs.States.{begins-one, begins-two, ends-proc, ends-statement, ends-one, ends-two, ends-choice}
 
--- no form is misplaced and the text does not end too early, whatever the number of the first line
+-- no form is misplaced and the text does not end too early, whatever the number of the first form
 abbrev pub Accepts : State → List Form → Type 0
-Accepts s fs = (line : ℕ) → misplacedFrom s line fs ≡ none
+Accepts s fs = (number : ℕ) → misplacedFrom s number fs ≡ none
 
 pub accepts-step : {s t : State} {f : Form} → Step s f t → (fs : List Form) → Accepts t fs → Accepts s (f ∷ fs)
-accepts-step x fs h line = after-step x line fs ∙ h (suc line)
+accepts-step x fs h number = after-step x number fs ∙ h (suc number)
 
 pub accepts-block : (b : Block) (empty : Bool) → WellFormed empty b → (ks : List Bracket) (fs : List Form) → Accepts (in-block true ks) fs
     → Accepts (in-block empty ks) (blockForms b fs)
@@ -51,7 +51,7 @@ accepts-procs (b ∷ bs) fs w h =
 
 accepts-threads : (ns : List ℕ) → Accepts next-thread (threadForms ns (Close ∷ []))
 unfolding threadForms misplaced modeOf
-accepts-threads [] = accepts-step ends-plan [] (λ line. refl)
+accepts-threads [] = accepts-step ends-plan [] (λ number. refl)
 accepts-threads (n ∷ ns) = accepts-step more-threads (threadForms ns (Close ∷ [])) (accepts-threads ns)
 
 accepts-plan : (bs : List Block) (ns : List ℕ) → 0 < length bs → 0 < length ns → ((p : ℕ) → p < length bs → WellFormed false (bodyIn bs p))
@@ -63,6 +63,6 @@ accepts-plan (b ∷ bs) (n ∷ ns) h k w =
     accepts-step first _ (accepts-block b false (w 0 (omega arith)) [] _ (accepts-step ends-proc _
     (accepts-procs bs _ (later-blocks b bs w) (accepts-step first-thread _ (accepts-threads ns)))))
 
-pub forms-accepted : (plan : LockPlan) → Grammatical plan → misplacedLine (forms plan) ≡ none
-unfolding forms misplacedLine modeOf stackOf
+pub forms-accepted : (plan : LockPlan) → Grammatical plan → misplacedForm (forms plan) ≡ none
+unfolding forms misplacedForm modeOf stackOf
 forms-accepted plan g = accepts-step begins-plan _ (accepts-plan (plan .procs) (plan .threads) (g .some-procedure) (g .some-thread) (g .blocks)) 1

@@ -19,8 +19,8 @@ use Rattle.semantics.proofs.Thread.Remainders.{written-weaken}
 use Rattle.text.specs.Forms.{numberIn, kindIn}
 use Rattle.plan.specs.declared.Counts.{Counts}
 use Rattle.plan.specs.Grammar.{blockForms, procForms, threadForms, forms, Grammatical, planIn}
-use Rattle.plan.specs.Limits.{asCounts, counted, overLimit, testedBy, leastBad, breaks, breaking, breakingLine, noCounts}
-use Rattle.plan.specs.Rules.{formsRefusal}
+use Rattle.plan.specs.Limits.{asCounts, counted, overLimit, testedBy, leastBad, breaks, breaking, breakingForm, noCounts}
+use Rattle.plan.specs.Rules.{grammarRefusal}
 use Rattle.plan.proofs.Trees.{plan-of-forms}
 use Rattle.plan.proofs.Accepts.{forms-accepted}
 use Rattle.plan.proofs.Denotes.{accepted-denotes}
@@ -142,18 +142,18 @@ settled-kept plan x =
       procs-kept (plan .procs) 0 0 (threadForms (plan .threads) (Close ∷ [])) few small written (x .few-open) threads,
     )
 
--- a rule that each form keeps names no line
+-- a rule that each form keeps names none
 module _ (rule : ℕ) (keeps-rule : (c : Counts) (f : Form) → Keeps c f → breaks rule c f ≡ false) where
-  unbroken : (fs : List Form) (c : Counts) (line : ℕ) → Kept c fs → breaking rule c line fs ≡ none
+  unbroken : (fs : List Form) (c : Counts) (number : ℕ) → Kept c fs → breaking rule c number fs ≡ none
   unfolding Kept breaking
-  unbroken [] c line k = refl
-  unbroken (f ∷ fs) c line k = rw (keeps-rule (counted c f) f (k .0)) (unbroken fs (counted c f) (suc line) (k .1))
+  unbroken [] c number k = refl
+  unbroken (f ∷ fs) c number k = rw (keeps-rule (counted c f) f (k .0)) (unbroken fs (counted c f) (suc number) (k .1))
 
 pub settled-grammatical : (plan : LockPlan) → Settled plan → Grammatical plan
 settled-grammatical plan x = record { some-procedure = x .some-proc; some-thread = x .some-thread; blocks = x .sound .filled }
 
-pub settled-accepted : (plan : LockPlan) → Settled plan → formsRefusal (forms plan) ≡ none
-unfolding formsRefusal breakingLine breaks pick orElse
+pub settled-accepted : (plan : LockPlan) → Settled plan → grammarRefusal (forms plan) ≡ none
+unfolding grammarRefusal breakingForm breaks pick orElse
 settled-accepted plan x =
     let k = settled-kept plan x in
     rw (
@@ -165,7 +165,7 @@ settled-accepted plan x =
     )
 
 -- Rules 4 to 8 accept exactly the texts of the plans that keep what the rules settle.
-pub rules-plan : (fs : List Form) (plan : LockPlan) → ((formsRefusal fs ≡ none) × (planIn fs ≡ plan)) ↔ (Settled plan × (fs ≡ forms plan))
+pub rules-plan : (fs : List Form) (plan : LockPlan) → ((grammarRefusal fs ≡ none) × (planIn fs ≡ plan)) ↔ (Settled plan × (fs ≡ forms plan))
 rules-plan fs plan = (
   λ h. (rw (h .1) at (forms-settled fs (h .0)), rw (h .1) at (accepted-denotes fs (kept fs (h .0) .0) .1)),
   λ h. (rw (h .1) (settled-accepted plan (h .0)), rw (h .1) (plan-of-forms plan (settled-grammatical plan (h .0)))),

@@ -12,7 +12,7 @@ use Rattle.text.specs.declared.Form.{Form}
 use Rattle.text.specs.declared.Form.the-variants.{Plan, Proc, Thread, Close, Skip, Call, Hold, Loop, Either, One, Two}
 use Rattle.semantics.specs.Plan.{Block, done, skip, call, hold, loop, either, LockPlan, bodyIn, WellFormed}
 use Rattle.plan.specs.Grammar.{blockForms, procForms, threadForms, forms, Grammatical, planIn}
-use Rattle.plan.specs.Structure.{misplaced, misplacedLine}
+use Rattle.plan.specs.Structure.{misplaced, misplacedForm}
 use Rattle.plan.specs.Places.{IsPlan}
 use Rattle.plan.proofs.Trees.{plan-of-forms}
 use Rattle.plan.proofs.States.{Bracket, statement, one, two}
@@ -167,29 +167,29 @@ rest-step (ends-two {ks}) fs r = closes (AfterBlock (two ∷ ks)) fs r
 rest-step (ends-choice {ks}) fs r = follows (BlockThen true (AfterBlock ks)) fs Close r
 
 -- the text ends
-at-end : (s : State) (line : ℕ) → misplacedFrom s line [] ≡ none → Rest s []
+at-end : (s : State) (number : ℕ) → misplacedFrom s number [] ≡ none → Rest s []
 unfolding Rest misplaced modeOf
-at-end initial line h = absurd (Option·some-ne-none line h)
-at-end first-proc line h = absurd (Option·some-ne-none line h)
-at-end next-proc line h = absurd (Option·some-ne-none line h)
-at-end next-thread line h = absurd (Option·some-ne-none line h)
-at-end finished line h = refl
-at-end (in-block true ks) line h = absurd (Option·some-ne-none line h)
-at-end (in-block false ks) line h = absurd (Option·some-ne-none line h)
-at-end (needs-one ks) line h = absurd (Option·some-ne-none line h)
-at-end (needs-two ks) line h = absurd (Option·some-ne-none line h)
-at-end (ends-either ks) line h = absurd (Option·some-ne-none line h)
+at-end initial number h = absurd (Option·some-ne-none number h)
+at-end first-proc number h = absurd (Option·some-ne-none number h)
+at-end next-proc number h = absurd (Option·some-ne-none number h)
+at-end next-thread number h = absurd (Option·some-ne-none number h)
+at-end finished number h = refl
+at-end (in-block true ks) number h = absurd (Option·some-ne-none number h)
+at-end (in-block false ks) number h = absurd (Option·some-ne-none number h)
+at-end (needs-one ks) number h = absurd (Option·some-ne-none number h)
+at-end (needs-two ks) number h = absurd (Option·some-ne-none number h)
+at-end (ends-either ks) number h = absurd (Option·some-ne-none number h)
 
-accepted-rest : (fs : List Form) (s : State) (line : ℕ) → misplacedFrom s line fs ≡ none → Rest s fs
-accepted-rest [] s line h = at-end s line h
-accepted-rest (f ∷ fs) s line h =
-    ⊎-elim (λ (x : (t : State) × Step s f t). rest-step (x .1) fs (accepted-rest fs (x .0) (suc line) (sym (after-step (x .1) line fs) ∙ h)))
-    (λ (no-place : (line : ℕ) (fs : List Form) → misplacedFrom s line (f ∷ fs) ≡ some line).
-    absurd (Option·some-ne-none line (sym (no-place line fs) ∙ h)))
+accepted-rest : (fs : List Form) (s : State) (number : ℕ) → misplacedFrom s number fs ≡ none → Rest s fs
+accepted-rest [] s number h = at-end s number h
+accepted-rest (f ∷ fs) s number h =
+    ⊎-elim (λ (x : (t : State) × Step s f t). rest-step (x .1) fs (accepted-rest fs (x .0) (suc number) (sym (after-step (x .1) number fs) ∙ h)))
+    (λ (no-place : (number : ℕ) (fs : List Form) → misplacedFrom s number (f ∷ fs) ≡ some number).
+    absurd (Option·some-ne-none number (sym (no-place number fs) ∙ h)))
     (step-or-refused s f)
 
-pub accepted-plan : (fs : List Form) → misplacedLine fs ≡ none → IsPlan fs
-unfolding misplacedLine Rest modeOf stackOf forms
+pub accepted-plan : (fs : List Form) → misplacedForm fs ≡ none → IsPlan fs
+unfolding misplacedForm Rest modeOf stackOf forms
 accepted-plan fs h =
     let r : Follows Plan (Procs 1) fs = accepted-rest fs initial 1 h in
     let k = r .goes-on in
@@ -199,20 +199,20 @@ accepted-plan fs h =
       written = r .split ∙ ap (λ x. Plan ∷ x) (k .split);
     }
 
-pub plan-accepted : (fs : List Form) → IsPlan fs → misplacedLine fs ≡ none
+pub plan-accepted : (fs : List Form) → IsPlan fs → misplacedForm fs ≡ none
 plan-accepted fs x = rw (x .written) (forms-accepted (x .plan) (x .grammatical))
 
 -- the tree of forms that are those of a plan is that plan
 pub planIn-written : (fs : List Form) (x : IsPlan fs) → planIn fs ≡ x .plan
 planIn-written fs x = ap planIn (x .written) ∙ plan-of-forms (x .plan) (x .grammatical)
 
-pub accepted-denotes : (fs : List Form) → misplacedLine fs ≡ none → Grammatical (planIn fs) × (fs ≡ forms (planIn fs))
+pub accepted-denotes : (fs : List Form) → misplacedForm fs ≡ none → Grammatical (planIn fs) × (fs ≡ forms (planIn fs))
 accepted-denotes fs h =
     let x = accepted-plan fs h in
     rw (planIn-written fs x) (x .grammatical, x .written)
 
--- Rule 4, "the text's structure": no line is misplaced in the text of a plan that the grammar has, and in no other
-pub structure-plan : (fs : List Form) (plan : LockPlan) → ((misplacedLine fs ≡ none) × (planIn fs ≡ plan)) ↔ (Grammatical plan × (fs ≡ forms plan))
+-- Rule 4, "the text's structure": no form is misplaced in the text of a plan that the grammar has, and in no other
+pub structure-plan : (fs : List Form) (plan : LockPlan) → ((misplacedForm fs ≡ none) × (planIn fs ≡ plan)) ↔ (Grammatical plan × (fs ≡ forms plan))
 structure-plan fs plan = (
   λ h. rw (h .1) at (accepted-denotes fs (h .0)),
   λ h. let x : IsPlan fs = record { plan = plan; grammatical = h .0; written = h .1 } in (plan-accepted fs x, planIn-written fs x),

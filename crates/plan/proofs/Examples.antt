@@ -15,7 +15,7 @@ use Rattle.laws.proofs.Tests.{T-and}
 use Rattle.text.specs.Forms.{numberIn, kindIn}
 use Rattle.text.specs.Kinds.{kindOf, planKind, twoKind, threadKind, callKind, holdKind, numbered, keywordKind}
 use Rattle.text.specs.Kinds.{betweenKeyword, afterKeyword, numberOf, appendDigit, leadingOf, digitOf}
-use Rattle.text.specs.Lines.{split, formsIn, formsOf, unreadable, unreadableLine}
+use Rattle.text.specs.Lines.{split, unindented, passedOver, formsIn, formsOf, unreadable, unreadableLine, lineFor, lineOf}
 use Rattle.semantics.specs.Plan.{bodyIn, _⨾_}
 use Rattle.semantics.specs.Sizes.{sizeWith, sizeAt, sizeOf, sizes, threadSizes}
 use Rattle.semantics.specs.Run.{up, down, move, compatible, withAll, apart, threadAt, stepIn, step, run, start}
@@ -25,14 +25,14 @@ use Rattle.semantics.specs.Conflict.{any, unmet, searchFrom}
 use Rattle.semantics.proofs.Stuck.LargestStuck.{atHold, round, rounds}
 use Rattle.semantics.proofs.Analysis.CaseTest.{written, soundFrom, all, pairsFrom, sameBelow, stuckAre, answers, passes, passes-facts}
 use Rattle.plan.specs.Grammar.{inFront, behind, planIn}
-use Rattle.plan.specs.Structure.{among, only, closeBlock, onClose, advanceOf, misplaced, misplacedLine}
-use Rattle.plan.specs.Limits.{counted, overLimit, testedBy, leastBad, breaks, breaking, breakingLine}
+use Rattle.plan.specs.Structure.{among, only, closeBlock, onClose, advanceOf, misplaced, misplacedForm}
+use Rattle.plan.specs.Limits.{counted, overLimit, testedBy, leastBad, breaks, breaking, breakingForm}
 use Rattle.text.specs.declared.Refusal.{Refusal}
 use Rattle.text.specs.Lines.{refusal}
-use Rattle.plan.specs.Rules.{tooLong, formsRefusal, readerRefusal, planOf, procLineFrom}
+use Rattle.plan.specs.Rules.{tooLong, linesRefusal, grammarRefusal, formsRefusal, planOf, procFormFrom}
 use Rattle.plan.specs.Rules.{lowestFrom, procRefusal, tooLarge, tooManyPairs, planRefusal}
 use Rattle.plan.specs.Examples.{Outcome, refusedBy, accepted, Example, Gives, copies, loops, eithers}
-use Rattle.plan.specs.Examples.{rule3, rule4, rule5, rule678, rule9, to8, to9, reference, limits}
+use Rattle.plan.specs.Examples.{rule3, rule4, rule5, rule678, rule9, remarks, to8, to9, reference, limits}
 
 -- ---- the test
 
@@ -53,10 +53,10 @@ right [] = true
 right (e ∷ es) = comesOut (e .text) (e .outcome) && right es
 
 examples-right : T (right (reference ++ limits))
-unfolding right comesOut reference limits rule3 rule4 rule5 rule678 rule9 copies loops eithers kindOf planKind twoKind threadKind callKind
-    holdKind numbered keywordKind betweenKeyword afterKeyword numberOf appendDigit leadingOf digitOf split formsIn formsOf unreadable unreadableLine
-    pick orElse bind equal inFront behind planIn among only closeBlock onClose advanceOf misplaced misplacedLine counted overLimit testedBy leastBad
-    numberIn kindIn breaks breaking breakingLine tooLong formsRefusal readerRefusal planOf procLineFrom lowestFrom procRefusal tooLarge
+unfolding right comesOut reference limits rule3 rule4 rule5 rule678 rule9 remarks copies loops eithers kindOf planKind twoKind threadKind callKind
+    holdKind numbered keywordKind betweenKeyword afterKeyword numberOf appendDigit leadingOf digitOf split unindented passedOver formsIn formsOf unreadable unreadableLine
+    lineFor lineOf pick orElse bind equal inFront behind planIn among only closeBlock onClose advanceOf misplaced misplacedForm counted overLimit testedBy leastBad
+    numberIn kindIn breaks breaking breakingForm tooLong linesRefusal grammarRefusal formsRefusal planOf procFormFrom lowestFrom procRefusal tooLarge
     tooManyPairs planRefusal bodyIn _⨾_ sizeWith sizeAt sizeOf sizes threadSizes heldFrom pairsWith pairsAt pairList up down insertOnce
     ascending move compatible withAll apart threadAt stepIn step run start bit any unmet searchFrom atHold round rounds written
     soundFrom all pairsFrom sameBelow setOf stuckAre answers passes
@@ -98,5 +98,5 @@ reference-facts e m = examples-facts e (Memᴰ·append-left limits m)
 -- "procedure 8 has size 766", procedure 9 "size 1,534"
 pub doubling-sizes : (sizeOf (planOf to8 .procs) 8 ≡ 766) × (sizeOf (planOf to9 .procs) 9 ≡ 1534)
 unfolding kindOf planKind twoKind threadKind callKind holdKind numbered keywordKind betweenKeyword afterKeyword numberOf appendDigit leadingOf digitOf
-    split formsIn formsOf pick equal inFront behind planIn planOf bodyIn sizeWith sizeAt sizeOf
+    split unindented formsIn formsOf pick equal inFront behind planIn planOf bodyIn sizeWith sizeAt sizeOf
 doubling-sizes = (refl, refl)

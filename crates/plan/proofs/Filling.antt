@@ -1,13 +1,13 @@
--- The table while it is filled: its first n codes are the forms of the lines read so far, and with the forms of the lines that are left they are the text's.
+-- The table while it is filled: its first n codes are the forms read so far, and with the forms of the lines that are left they are the text's; what is passed over
+-- changes neither.
 use Prim.Native.Nat.{ℕ, _+_, _-_, _*_, _<_, _≤_}
 use native.Mathlib.Numerals.{add-one}
 use native.Mathlib.Omega.{arith}
 use mathlib.Core.Path.{_≡_, refl, sym, ap, _∙_}
 use mathlib.Core.List.{List, [], _∷_, _++_, map-append, append-nil}
 use mathlib.Core.Option.{Option, none, some, Option·none-ne-some, orElse}
-use Rattle.laws.proofs.Tests.{first-none}
 use borrow.Author.Tests.{lt-ltb, le-ltb}
-use lib.ListN.{length, take, set, length-map, length-take}
+use lib.ListN.{length, take, set, length-map}
 use lib.Seq.{length-take-le, take-suc-set, append-snoc}
 use Rattle.limits.specs.Limits.{maxBytes, maxForms}
 use Rattle.text.specs.declared.Form.{Form}
@@ -15,27 +15,30 @@ use Rattle.text.specs.declared.Refusal.{Refusal}
 use Rattle.text.specs.declared.Line.{Line}
 use Rattle.text.specs.declared.Line.the-variants.{Read}
 use Rattle.text.specs.declared.Line.the-variants as line
-use Rattle.text.specs.Lines.{refusal, lineAt, formsOf, unreadableLine}
-use Rattle.text.proofs.Splits.{few-forms}
-use Rattle.text.proofs.Reading.{formsFrom, unreadableFrom, next-forms, next-unreadable, next-later, next-within}
+use Rattle.text.specs.declared.Place.{Place}
+use Rattle.text.specs.Lines.{refusal, lineAt, formsOf, unreadableLine, lineOf}
+use Rattle.text.specs.Passing.{place, ReadAlike, Stops}
+use Rattle.text.proofs.Reading.{formsFrom, unreadableFrom, next-forms, next-unreadable, next-later}
 use Rattle.text.proofs.Reading.{next-small, refused-answer, refused-line, ended-forms, ended-readable}
 use Rattle.plan.specs.declared.Reading.{Reading}
 use Rattle.plan.specs.declared.Reading.the-variants.{Accepted, Refused}
 use Rattle.plan.specs.Table.{codeOf, formAt, tableForms, withLine}
-use Rattle.plan.specs.Rules.{refusedAt, tooLong, formsRefusal, readerRefusal, readingOf, Tabled}
+use Rattle.plan.specs.Rules.{refusedAt, tooLong, linesRefusal, inFile, readingOf, readInFile, Tabled}
 use Rattle.plan.proofs.Codes.{form-of-code}
-use Rattle.plan.proofs.Passes.{first-refuses}
 
--- lines up to the place `at` are in the table, n of them, of two bytes at least
-pub record Filling (text table : List ℕ) (at n : ℕ) : Type 0 where
-  pub pace : n * 2 ≤ at
-  pub within : at ≤ length text
-  pub read : tableForms (take n table) ++ formsFrom text at ≡ formsOf text
-  pub readable : unreadableFrom text at (n + 1) ≡ unreadableLine text
+-- the forms before the place p are in the table, n of them, each with a line end behind it; at p stands the next form, or the text's end
+pub record Filling (text table : List ℕ) (p : Place) (n : ℕ) : Type 0 where
+  pub pace : n * 2 ≤ p .at
+  pub within : p .at ≤ length text
+  pub counted : p .line ≤ p .at + 1
+  pub stops : Stops text (p .at)
+  pub read : tableForms (take n table) ++ formsFrom text (p .at) ≡ formsOf text
+  pub readable : unreadableFrom text (p .at) (p .line) ≡ unreadableLine text
 
-pub filling-none : (text table : List ℕ) → Filling text table 0 0
+pub filling-none : (text table : List ℕ) (p : Place) → ReadAlike text (place 0 1) p → Stops text (p .at) → Filling text table p 0
 unfolding formsOf unreadableLine
-filling-none text table = record { pace = omega arith; within = omega arith; read = refl; readable = refl }
+filling-none text table p a s =
+    record { pace = omega arith; within = a .within; counted = omega (arith, a .counted); stops = s; read = sym (a .forms); readable = sym (a .readable) }
 
 -- the line that was put into the table is the one that was read
 pub read-again : (q a r : Line) → q ≡ r → q ≡ a → r ≡ a
@@ -44,42 +47,52 @@ read-again q a r g e = sym g ∙ e
 pub line-put : (f : Form) (w n : ℕ) (table : List ℕ) → w ≡ codeOf f → set table n w ≡ set table n (codeOf f)
 line-put f w n table k = ap (set table n) k
 
-module _ (text table : List ℕ) (at n : ℕ) (q : Line) (s : Filling text table at n) (e : q ≡ lineAt text at (n + 1)) where
-  pub filling-more : (f : Form) (next : ℕ) (table₀ table₁ : List ℕ) → q ≡ Read f next → table₁ ≡ withLine q n table
-      → length text ≤ maxBytes → maxForms ≤ length table₀ → length table ≡ length table₀
-      → at < length text → Filling text table₁ next (n + 1)
-  filling-more f next table₀ table₁ g k a b c h =
-      let room : n < length table = omega arith in
-      let put : table₁ ≡ set table n (codeOf f) = rw g at k in
-      let form : formAt (codeOf f) ≡ f = form-of-code f (omega (arith, next-small text at (n + 1) q e f next g)) in
-      let one : tableForms (take (n + 1) table₁) ≡ tableForms (take n table) ++ (f ∷ []) =
-      rw (put, add-one, take-suc-set table n (codeOf f) room, map-append formAt (take n table) (codeOf f ∷ []), form) in
-      record {
-        pace = omega (arith, next-later text at (n + 1) q e f next g);
-        within = next-within text at (n + 1) q e f next g;
-        read = ap (λ l. l ++ formsFrom text next) one ∙ append-snoc (tableForms (take n table)) f (formsFrom text next)
-            ∙ ap (λ l. tableForms (take n table) ++ l) (next-forms text at (n + 1) q e f next g (formsFrom text at) refl) ∙ s .read;
-        readable = next-unreadable text at (n + 1) q e f next g (unreadableLine text) (s .readable);
-      }
+module _ (text table : List ℕ) (p : Place) (n : ℕ) (q : Line) (s : Filling text table p n) (e : q ≡ lineAt text (p .at) (p .line)) where
+  module _ (f : Form) (next : ℕ) (g : q ≡ Read f next) (p′ : Place) (a : ReadAlike text (place next (p .line + 1)) p′) where
+    pub filling-more : (table₀ table₁ : List ℕ) → table₁ ≡ withLine q n table → length text ≤ maxBytes → maxForms ≤ length table₀ → length table ≡ length table₀
+        → p .at < length text → Stops text (p′ .at) → Filling text table₁ p′ (n + 1)
+    filling-more table₀ table₁ k b c d h stops =
+        let room : n < length table = omega (arith, s .pace) in
+        let put : table₁ ≡ set table n (codeOf f) = rw g at k in
+        let form : formAt (codeOf f) ≡ f = form-of-code f (omega (arith, next-small text (p .at) (p .line) q e f next g)) in
+        let one : tableForms (take (n + 1) table₁) ≡ tableForms (take n table) ++ (f ∷ []) =
+        rw (put, add-one, take-suc-set table n (codeOf f) room, map-append formAt (take n table) (codeOf f ∷ []), form) in
+        let later = next-later text (p .at) (p .line) q e f next g in
+        record {
+          pace = omega (arith, s .pace, later, a .later);
+          within = a .within;
+          counted = omega (arith, s .counted, later, a .counted);
+          stops = stops;
+          read = ap (λ l. l ++ formsFrom text (p′ .at)) one ∙ append-snoc (tableForms (take n table)) f (formsFrom text (p′ .at))
+              ∙ ap (λ l. tableForms (take n table) ++ f ∷ l) (sym (a .forms))
+              ∙ ap (λ l. tableForms (take n table) ++ l) (next-forms text (p .at) (p .line) q e f next g (formsFrom text (p .at)) refl) ∙ s .read;
+          readable = sym (a .readable) ∙ next-unreadable text (p .at) (p .line) q e f next g (unreadableLine text) (s .readable);
+        }
 
-  pub filling-refused : (x : Refusal) (table₁ : List ℕ) → at < length text → q ≡ line.Refused x → Tabled (refusedAt 3 (unreadableLine text)) text (Refused x) table₁
+    pub filling-less : length text - p′ .at < length text - p .at
+    filling-less = omega (arith, next-later text (p .at) (p .line) q e f next g, a .later, a .within)
+
+  pub next-counted : (f : Form) (next : ℕ) → q ≡ Read f next → p .line + 1 ≤ next + 1
+  next-counted f next g = omega (arith, s .counted, next-later text (p .at) (p .line) q e f next g)
+
+  pub filling-refused : (x : Refusal) (table₁ : List ℕ) → p .at < length text → q ≡ line.Refused x → Tabled (refusedAt 3 (unreadableLine text)) text (Refused x) table₁
   unfolding readingOf
   filling-refused x table₁ h g =
-      let u : some (n + 1) ≡ unreadableLine text = refused-line text at (n + 1) q e x h g (unreadableLine text) (s .readable) in
+      let u : some (p .line) ≡ unreadableLine text = refused-line text (p .at) (p .line) q e x h (s .stops) g (unreadableLine text) (s .readable) in
       record {
-        answer = ap Refused (refused-answer text at (n + 1) q e x h g) ∙ ap (λ o. readingOf (refusedAt 3 o) (length (formsOf text))) u;
+        answer = ap Refused (refused-answer text (p .at) (p .line) q e x h (s .stops) g) ∙ ap (λ o. readingOf (refusedAt 3 o) (length (formsOf text))) u;
         forms = λ none-refused. absurd (Option·none-ne-some _ (sym (rw (← u) at none-refused)));
       }
 
-pub filling-done : (text table table₀ : List ℕ) (at n : ℕ) → Filling text table at n → length text ≤ at → length text ≤ maxBytes
+pub filling-done : (text table table₀ : List ℕ) (p : Place) (n : ℕ) → Filling text table p n → length text ≤ p .at → length text ≤ maxBytes
     → maxForms ≤ length table₀ → length table ≡ length table₀
     → Tabled (refusedAt 3 (unreadableLine text)) text (Accepted n) table
 unfolding readingOf
-filling-done text table table₀ at n s h a b c =
-    let e : none ≡ unreadableLine text = ended-readable text at (n + 1) h (unreadableLine text) (s .readable) in
+filling-done text table table₀ p n s h a b c =
+    let e : none ≡ unreadableLine text = ended-readable text (p .at) (p .line) h (unreadableLine text) (s .readable) in
     let f : tableForms (take n table) ≡ formsOf text =
-    sym (append-nil (tableForms (take n table))) ∙ ap (λ l. tableForms (take n table) ++ l) (ended-forms text at (n + 1) h (formsFrom text at) refl) ∙ s .read in
-    let k : length (formsOf text) ≡ n = ap length (sym f) ∙ length-map (take n table) formAt ∙ length-take-le n table (omega arith) in
+    sym (append-nil (tableForms (take n table))) ∙ ap (λ l. tableForms (take n table) ++ l) (ended-forms text (p .at) (p .line) h (formsFrom text (p .at)) refl) ∙ s .read in
+    let k : length (formsOf text) ≡ n = ap length (sym f) ∙ length-map (take n table) formAt ∙ length-take-le n table (omega (arith, s .pace, s .within)) in
     record { answer = rw (← e, k); forms = λ _. rw k f }
 
 -- an answer that accepts
@@ -99,47 +112,26 @@ unfolding readingOf
 refused-is none m x e = let z : _≡_ {A = ℕ} 0 1 = cc in absurd (omega arith)
 refused-is (some w) m x e = let k : w ≡ x = cc in ap {B = Option Refusal} some k
 
--- ---- the rules 2, 3, and then those over the table
+-- ---- the rules 2 and 3
 
-pub plan-long : (text table : List ℕ) → maxBytes < length text → Tabled (readerRefusal text) text (Refused (refusal 2 0)) table
-unfolding readerRefusal tooLong orElse readingOf
-plan-long text table h = rw (lt-ltb maxBytes (length text) h) (record { answer = refl; forms = λ e. absurd (Option·none-ne-some _ (sym e)) })
+pub lines-long : (text table : List ℕ) → maxBytes < length text → Tabled (linesRefusal text) text (Refused (refusal 2 0)) table
+unfolding linesRefusal tooLong orElse readingOf
+lines-long text table h = rw (lt-ltb maxBytes (length text) h) (record { answer = refl; forms = λ e. absurd (Option·none-ne-some _ (sym e)) })
 
--- of a text that is not too long the first rule is 3
-from-rule-3 : (text : List ℕ) → length text ≤ maxBytes → readerRefusal text ≡ orElse (refusedAt 3 (unreadableLine text)) (formsRefusal (formsOf text))
-unfolding readerRefusal tooLong orElse
-from-rule-3 text h = rw (le-ltb maxBytes (length text) h)
+pub lines-read : (text table : List ℕ) (q : Reading) → length text ≤ maxBytes → Tabled (refusedAt 3 (unreadableLine text)) text q table → Tabled (linesRefusal text) text q table
+unfolding linesRefusal tooLong orElse
+lines-read text table q h t = rw (le-ltb maxBytes (length text) h) t
 
-module _ (text table : List ℕ) (q : Reading) (t : Tabled (refusedAt 3 (unreadableLine text)) text q table) (h : length text ≤ maxBytes) where
-  pub plan-unreadable : (x : Refusal) → q ≡ Refused x → Tabled (readerRefusal text) text q table
-  plan-unreadable x g = record {
-    answer = rw (from-rule-3 text h) (first-refuses (refusedAt 3 (unreadableLine text)) (formsRefusal (formsOf text)) q (length (formsOf text)) x (t .answer) g);
-    forms = λ e. t .forms (first-none (refusedAt 3 (unreadableLine text)) (formsRefusal (formsOf text)) (sym (from-rule-3 text h) ∙ e) .0);
-  }
+-- ---- the line in the file
 
-  module _ (n : ℕ) (g : q ≡ Accepted n) where
-    pub filled-count : n ≡ length (formsOf text)
-    filled-count = accepted-count (refusedAt 3 (unreadableLine text)) (length (formsOf text)) n (sym (t .answer) ∙ g)
+pub file-accepted : (text : List ℕ) (q : Reading) (n : ℕ) → q ≡ Accepted n → Accepted n ≡ readInFile text q
+file-accepted text q n e = rw e
 
-    pub filled-room : (table₀ : List ℕ) → maxForms ≤ length table₀ → length table ≡ length table₀ → n ≤ length table
-    filled-room table₀ a b = omega (arith, filled-count, few-forms text)
+pub file-refused : (text : List ℕ) (q : Reading) (x : Refusal) (l : ℕ) → q ≡ Refused x → l ≡ lineOf text (x .line) → Refused (refusal (x .rule) l) ≡ readInFile text q
+file-refused text q x l e g = rw (e, g)
 
-    part-length : length (take (n - 0) table) ≤ maxForms
-    part-length = rw (length-take) (omega (arith, filled-count, few-forms text))
-
-    pub part-small : length (take (n - 0) table) < 65536
-    part-small = omega (arith, part-length)
-
-    pub part-fits : (stack : List ℕ) → maxForms ≤ length stack → length (take (n - 0) table) ≤ length stack
-    part-fits stack a = omega (arith, part-length)
-
-    pub plan-readable : (r : Reading) → r ≡ readingOf (formsRefusal (tableForms (take (n - 0) table))) (length (take (n - 0) table))
-        → Tabled (readerRefusal text) text r table
-    unfolding orElse
-    plan-readable r e =
-        let z : n - 0 ≡ length (formsOf text) = omega (arith, filled-count) in
-        let none-refused : refusedAt 3 (unreadableLine text) ≡ none =
-        accepted-none (refusedAt 3 (unreadableLine text)) (length (formsOf text)) n (sym (t .answer) ∙ g) in
-        let fs : tableForms (take (n - 0) table) ≡ formsOf text = rw z (t .forms none-refused) in
-        let len : length (take (n - 0) table) ≡ length (formsOf text) = sym (length-map (take (n - 0) table) formAt) ∙ ap length fs in
-        record { answer = rw (from-rule-3 text h, none-refused) (e ∙ rw (fs, len)); forms = λ _. t .forms none-refused }
+-- a refusal that names a form, as a reading, with the form's line
+pub read-in-file : (text : List ℕ) (o : Option Refusal) (n : ℕ) → readInFile text (readingOf o n) ≡ readingOf (inFile text o) n
+unfolding readingOf
+read-in-file text none n = refl
+read-in-file text (some x) n = refl

@@ -1,4 +1,4 @@
--- Where no rule of 5 to 8 names a line, each form keeps each of them (`kept`).
+-- Where no rule of 5 to 8 names a form, each form keeps each of them (`kept`).
 use Prim.Native.Nat.{ℕ, suc, _≤_}
 use mathlib.Core.Bool.{Bool, true, false, cond}
 use mathlib.Core.List.{List, [], _∷_}
@@ -12,11 +12,11 @@ use Rattle.limits.specs.Limits.{maxProcs, maxStatements, maxThreads, maxBracket
 use Rattle.laws.specs.Choice.{pick}
 use Rattle.text.specs.declared.Form.{Form}
 use Rattle.plan.specs.declared.Counts.{Counts}
-use Rattle.plan.specs.Limits.{counted, overLimit, breaks, breaking, breakingLine, noCounts}
-use Rattle.plan.specs.Structure.{misplacedLine}
+use Rattle.plan.specs.Limits.{counted, overLimit, breaks, breaking, breakingForm, noCounts}
+use Rattle.plan.specs.Structure.{misplacedForm}
 use Rattle.text.specs.declared.Refusal.{Refusal}
 use Rattle.text.specs.Lines.{refusal}
-use Rattle.plan.specs.Rules.{refusedAt, refusedIf, formsRefusal}
+use Rattle.plan.specs.Rules.{refusedAt, refusedIf, grammarRefusal}
 
 -- no rule is broken by a form, where c counts what has been read, the form too
 pub record Keeps (c : Counts) (f : Form) : Type 0 where
@@ -30,41 +30,41 @@ unfoldable pub Kept : Counts → List Form → Type 0
 Kept c [] = Unit {0}
 Kept c (f ∷ fs) = Keeps (counted c f) f × Kept (counted c f) fs
 
-unnamed : (b : Bool) (line : ℕ) (later : Option ℕ) → cond b (some line) later ≡ none → (b ≡ false) × (later ≡ none)
-unnamed true line later h = absurd (Option·some-ne-none line h)
-unnamed false line later h = (refl, h)
+unnamed : (b : Bool) (number : ℕ) (later : Option ℕ) → cond b (some number) later ≡ none → (b ≡ false) × (later ≡ none)
+unnamed true number later h = absurd (Option·some-ne-none number h)
+unnamed false number later h = (refl, h)
 
-kept-from : (fs : List Form) (c : Counts) (line : ℕ) → breaking 5 c line fs ≡ none → breaking 6 c line fs ≡ none → breaking 7 c line fs ≡ none
-    → breaking 8 c line fs ≡ none → Kept c fs
+kept-from : (fs : List Form) (c : Counts) (number : ℕ) → breaking 5 c number fs ≡ none → breaking 6 c number fs ≡ none → breaking 7 c number fs ≡ none
+    → breaking 8 c number fs ≡ none → Kept c fs
 unfolding Kept breaking breaks pick
-kept-from [] c line five six seven eight = tt
-kept-from (f ∷ fs) c line five six seven eight =
+kept-from [] c number five six seven eight = tt
+kept-from (f ∷ fs) c number five six seven eight =
     let d = counted c f in
-    let x = unnamed (overLimit d) line (breaking 5 d (suc line) fs) five in
-    let y = unnamed (breaks 6 d f) line (breaking 6 d (suc line) fs) six in
-    let z = unnamed (breaks 7 d f) line (breaking 7 d (suc line) fs) seven in
-    let u = unnamed (breaks 8 d f) line (breaking 8 d (suc line) fs) eight in
-    (record { limits = x .0; lock = y .0; callee = z .0; thread = u .0 }, kept-from fs d (suc line) (x .1) (y .1) (z .1) (u .1))
+    let x = unnamed (overLimit d) number (breaking 5 d (suc number) fs) five in
+    let y = unnamed (breaks 6 d f) number (breaking 6 d (suc number) fs) six in
+    let z = unnamed (breaks 7 d f) number (breaking 7 d (suc number) fs) seven in
+    let u = unnamed (breaks 8 d f) number (breaking 8 d (suc number) fs) eight in
+    (record { limits = x .0; lock = y .0; callee = z .0; thread = u .0 }, kept-from fs d (suc number) (x .1) (y .1) (z .1) (u .1))
 
--- a rule that refuses nothing names no line
+-- a rule that refuses nothing names nothing
 pub no-line : (rule : ℕ) (o : Option ℕ) → refusedAt rule o ≡ none → o ≡ none
 no-line rule none h = refl
-no-line rule (some line) h = absurd (Option·some-ne-none (refusal rule line) h)
+no-line rule (some number) h = absurd (Option·some-ne-none (refusal rule number) h)
 
 pub unflagged : (rule : ℕ) (b : Bool) → refusedIf rule b ≡ none → b ≡ false
 unflagged rule true h = absurd (Option·some-ne-none (refusal rule 0) h)
 unflagged rule false h = refl
 
 -- what rules 4 to 8 say of forms that none of them refuses
-pub kept : (fs : List Form) → formsRefusal fs ≡ none → (misplacedLine fs ≡ none) × Kept noCounts fs
-unfolding formsRefusal breakingLine
+pub kept : (fs : List Form) → grammarRefusal fs ≡ none → (misplacedForm fs ≡ none) × Kept noCounts fs
+unfolding grammarRefusal breakingForm
 kept fs h =
     let r : ℕ → Option Refusal = λ rule. refusedAt rule (breaking rule noCounts 1 fs) in
-    let a = first-none (refusedAt 4 (misplacedLine fs)) (orElse (r 5) (orElse (r 6) (orElse (r 7) (r 8)))) h in
+    let a = first-none (refusedAt 4 (misplacedForm fs)) (orElse (r 5) (orElse (r 6) (orElse (r 7) (r 8)))) h in
     let b = first-none (r 5) (orElse (r 6) (orElse (r 7) (r 8))) (a .1) in
     let c = first-none (r 6) (orElse (r 7) (r 8)) (b .1) in
     let d = first-none (r 7) (r 8) (c .1) in (
-      no-line 4 (misplacedLine fs) (a .0),
+      no-line 4 (misplacedForm fs) (a .0),
       kept-from fs noCounts 1
           (no-line 5 (breaking 5 noCounts 1 fs) (b .0)) (no-line 6 (breaking 6 noCounts 1 fs) (c .0))
           (no-line 7 (breaking 7 noCounts 1 fs) (d .0)) (no-line 8 (breaking 8 noCounts 1 fs) (d .1)),

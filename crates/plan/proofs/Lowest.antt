@@ -11,7 +11,7 @@ use native.Mathlib.Omega.{arith}
 use lib.ListN.{length}
 use Rattle.text.specs.declared.Form.{Form}
 use Rattle.plan.specs.Grammar.{planIn}
-use Rattle.plan.specs.Rules.{procLine, lowestFrom, procRefusal}
+use Rattle.plan.specs.Rules.{procForm, lowestFrom, procRefusal}
 use Rattle.plan.proofs.Kept.{no-line}
 
 -- what a search among n numbers from p on says by its answer
@@ -37,11 +37,11 @@ lowest test (suc n) p = go (test p) refl (lowestFrom test (suc p) n) (lowest tes
 pub proc-refusal-none : (rule : ℕ) (fs : List Form) (test : ℕ → Bool) → procRefusal rule fs test ≡ none
     → (p : ℕ) → p < length (planIn fs .procs) → test p ≡ false
 unfolding procRefusal
-proc-refusal-none rule fs test e p h = go (lowestFrom test 0 n) (lowest test n 0) (no-line rule (procLine fs (lowestFrom test 0 n)) e)
+proc-refusal-none rule fs test e p h = go (lowestFrom test 0 n) (lowest test n 0) (no-line rule (procForm fs (lowestFrom test 0 n)) e)
   where
     n : ℕ
     n = length (planIn fs .procs)
 
-    go : (o : Option ℕ) → Lowest test 0 n o → procLine fs o ≡ none → test p ≡ false
+    go : (o : Option ℕ) → Lowest test 0 n o → procForm fs o ≡ none → test p ≡ false
     go none x e = x p (omega arith) (omega arith)
     go (some q) x e = absurd (Option·some-ne-none _ e)

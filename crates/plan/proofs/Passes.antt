@@ -113,16 +113,16 @@ stack-pop buffer (suc d) = let e : suc d - 1 ≡ d = omega arith in rw e
 
 -- ---- rule 4, one form of a table on
 
--- a form's place is one below its line
-line-next : (i : ℕ) → suc (i + 1) ≡ i + 1 + 1
-line-next i = omega arith
+-- a form's place is one below its number
+number-next : (i : ℕ) → suc (i + 1) ≡ i + 1 + 1
+number-next i = omega arith
 
 module _ (table : List ℕ) (mode d i : ℕ) (stack : List ℕ) (r : Option ℕ) where
   turn : (f : Form) (top : ℕ) (q : Advance) → i < length table → f ≡ formAt (getD table i 0) → top ≡ innermost (stackOf stack d) → q ≡ advanceOf mode top f
       → misplaced mode (stackOf stack d) (i + 1) (map formAt (drop i table))
       ≡ goOn q (stackOf stack d) (i + 1) (λ m s. misplaced m s (i + 1 + 1) (map formAt (drop (i + 1) table)))
   unfolding misplaced
-  turn f top q h e t g = rw (drop-cons table i 0 h, g, t, e, ← line-next i, add-one)
+  turn f top q h e t g = rw (drop-cons table i 0 h, g, t, e, ← number-next i, add-one)
 
   module _ (f : Form) (top : ℕ) (q : Advance) (h : i < length table) (e : f ≡ formAt (getD table i 0))
       (t : top ≡ innermost (stackOf stack d)) (g : q ≡ advanceOf mode top f)
@@ -197,7 +197,7 @@ module _ (table : List ℕ) (rule i : ℕ) (c d : Counts) (f : Form) (q : Bool) 
     (b : q ≡ breaks rule d f) (p : breaking rule c (i + 1) (map formAt (drop i table)) ≡ r) where
   tested : cond q (some (i + 1)) (breaking rule d (i + 1 + 1) (map formAt (drop (i + 1) table))) ≡ r
   unfolding breaking
-  tested = rw (b, k, e, ← line-next i, add-one) (rw (drop-cons table i 0 h, add-one) at p)
+  tested = rw (b, k, e, ← number-next i, add-one) (rw (drop-cons table i 0 h, add-one) at p)
 
   pub rule-again : q ≡ false → breaking rule d (i + 1 + 1) (map formAt (drop (i + 1) table)) ≡ r
   rule-again z = rw z at tested

@@ -1,4 +1,4 @@
--- What rules 4 to 8 settle of a plan's tree (`accepted-settled`). The counts run along with the forms: a block adds its statements and leaves the
+-- What rules 4 to 8 settle of a plan's tree (`forms-settled`). The counts run along with the forms: a block adds its statements and leaves the
 -- other counts as they were, so a call within procedure p meets the count p + 1, and a thread the count of all procedures.
 use Prim.Native.Nat.{ℕ, zero, suc, _+_, _-_, _<_, _≤_}
 use mathlib.Core.Bool.{Bool, true, false}
@@ -8,21 +8,18 @@ use mathlib.Core.Path.{_≡_, refl, subst}
 use native.Mathlib.Omega.{arith}
 use native.Mathlib.Nat.{add-zero}
 use lib.ListN.{length, getD}
-use Rattle.laws.proofs.Tests.{first-none}
 use borrow.Author.Tests.{ltb-false, leb-false}
 use Rattle.limits.specs.Limits.{maxProcs, maxStatements, maxThreads, maxBrackets}
 use Rattle.text.specs.declared.Form.{Form}
 use Rattle.text.specs.declared.Form.the-variants.{Close, Two}
-use Rattle.text.specs.Lines.{formsOf, unreadableLine}
 use Rattle.semantics.specs.Plan.{Block, done, skip, call, hold, loop, either, end, LockPlan, bodyIn, WellFormed, Written}
 use Rattle.semantics.proofs.Thread.Remainders.{written-weaken}
 use Rattle.plan.specs.Grammar.{blockForms, procForms, threadForms, forms, Grammatical, planIn}
 use Rattle.laws.specs.Choice.{pick}
 use Rattle.text.specs.Forms.{numberIn, kindIn}
 use Rattle.plan.specs.Limits.{asCounts, counted, testedBy, leastBad, breaks, noCounts}
-use Rattle.plan.specs.Settled.{statements, allStatements, nesting, Settled, PlanTable}
-use Rattle.plan.specs.Table.{tableForms}
-use Rattle.plan.specs.Rules.{refusedAt, tooLong, formsRefusal, readerRefusal, planOf}
+use Rattle.plan.specs.Settled.{statements, allStatements, nesting, Settled}
+use Rattle.plan.specs.Rules.{grammarRefusal}
 use Rattle.plan.proofs.Trees.{later-blocks}
 use Rattle.plan.proofs.Denotes.{accepted-denotes}
 use Rattle.plan.proofs.Kept.{Kept, kept, within-limits}
@@ -172,30 +169,8 @@ kept-settled plan g k =
       few-open = x .nested;
     }
 
-pub forms-settled : (fs : List Form) → formsRefusal fs ≡ none → Settled (planIn fs)
+pub forms-settled : (fs : List Form) → grammarRefusal fs ≡ none → Settled (planIn fs)
 forms-settled fs h =
     let k = kept fs h in
     let d = accepted-denotes fs (k .0) in
     kept-settled (planIn fs) (d .0) (subst (λ l. Kept noCounts l) (d .1) (k .1))
-
--- a text that the reader accepts: its forms are those of its plan, and rules 4 to 8 settle the plan
-pub accepted-forms : (text : List ℕ) → readerRefusal text ≡ none → formsRefusal (formsOf text) ≡ none
-unfolding readerRefusal
-accepted-forms text h =
-    let x = first-none (tooLong text) _ h in
-    let y = first-none (refusedAt 3 (unreadableLine text)) (formsRefusal (formsOf text)) (x .1) in
-    y .1
-
-pub accepted-text : (text : List ℕ) → readerRefusal text ≡ none → formsOf text ≡ forms (planOf text)
-unfolding planOf
-accepted-text text h = accepted-denotes (formsOf text) (kept (formsOf text) (accepted-forms text h) .0) .1
-
-pub accepted-settled : (text : List ℕ) → readerRefusal text ≡ none → Settled (planOf text)
-unfolding planOf
-accepted-settled text h = forms-settled (formsOf text) (accepted-forms text h)
-
--- the table of an accepted text
-pub accepted-table : (text ws : List ℕ) → readerRefusal text ≡ none → tableForms ws ≡ formsOf text → PlanTable ws
-unfolding planOf
-accepted-table text ws h e =
-    record { written = rw e (accepted-text text h); settled = rw e (accepted-settled text h) }

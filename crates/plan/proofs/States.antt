@@ -52,9 +52,9 @@ stackOf (needs-one ks) = brackets ks
 stackOf (needs-two ks) = brackets ks
 stackOf (ends-either ks) = brackets ks
 
--- rule 4 for the forms from a line on, in a state
+-- rule 4 for the forms from a number on, in a state
 abbrev pub misplacedFrom : State → ℕ → List Form → Option ℕ
-misplacedFrom s line fs = misplaced (modeOf s) (stackOf s) line fs
+misplacedFrom s number fs = misplaced (modeOf s) (stackOf s) number fs
 
 -- the steps
 pub data Step : State → Form → State → Type 0 where
@@ -77,31 +77,31 @@ pub data Step : State → Form → State → Type 0 where
   ends-two : {ks : List Bracket} → Step (in-block true (two ∷ ks)) Close (ends-either ks)
   ends-choice : {ks : List Bracket} → Step (ends-either ks) Close (in-block true ks)
 
-pub after-step : {s t : State} {f : Form} → Step s f t → (line : ℕ) (fs : List Form) → misplacedFrom s line (f ∷ fs) ≡ misplacedFrom t (suc line) fs
+pub after-step : {s t : State} {f : Form} → Step s f t → (number : ℕ) (fs : List Form) → misplacedFrom s number (f ∷ fs) ≡ misplacedFrom t (suc number) fs
 unfolding misplaced modeOf stackOf brackets advanceOf only among onClose closeBlock pick
-after-step begins-plan line fs = refl
-after-step first line fs = refl
-after-step next line fs = refl
-after-step first-thread line fs = refl
-after-step more-threads line fs = refl
-after-step ends-plan line fs = refl
-after-step (skips {e = true}) line fs = refl
-after-step (skips {e = false}) line fs = refl
-after-step (calls {e = true}) line fs = refl
-after-step (calls {e = false}) line fs = refl
-after-step (holds {e = true}) line fs = refl
-after-step (holds {e = false}) line fs = refl
-after-step (loops {e = true}) line fs = refl
-after-step (loops {e = false}) line fs = refl
-after-step (chooses {e = true}) line fs = refl
-after-step (chooses {e = false}) line fs = refl
-after-step begins-one line fs = refl
-after-step begins-two line fs = refl
-after-step ends-proc line fs = refl
-after-step ends-statement line fs = refl
-after-step ends-one line fs = refl
-after-step ends-two line fs = refl
-after-step ends-choice line fs = refl
+after-step begins-plan number fs = refl
+after-step first number fs = refl
+after-step next number fs = refl
+after-step first-thread number fs = refl
+after-step more-threads number fs = refl
+after-step ends-plan number fs = refl
+after-step (skips {e = true}) number fs = refl
+after-step (skips {e = false}) number fs = refl
+after-step (calls {e = true}) number fs = refl
+after-step (calls {e = false}) number fs = refl
+after-step (holds {e = true}) number fs = refl
+after-step (holds {e = false}) number fs = refl
+after-step (loops {e = true}) number fs = refl
+after-step (loops {e = false}) number fs = refl
+after-step (chooses {e = true}) number fs = refl
+after-step (chooses {e = false}) number fs = refl
+after-step begins-one number fs = refl
+after-step begins-two number fs = refl
+after-step ends-proc number fs = refl
+after-step ends-statement number fs = refl
+after-step ends-one number fs = refl
+after-step ends-two number fs = refl
+after-step ends-choice number fs = refl
 
 -- a form has its step, or no place
 data Outcome (s : State) (f : Form) : Advance → Type 0 where
@@ -132,7 +132,7 @@ closing (statement ∷ ks) = steps ends-statement
 closing (one ∷ ks) = steps ends-one
 closing (two ∷ ks) = steps ends-two
 
--- The states by the forms: on each first line the plan's, a procedure's, a thread's and a closing line; then skip, call, hold, loop, either, one, two.
+-- The states by the forms: first the plan's, a procedure's, a thread's and a closing form; then skip, call, hold, loop, either, one, two.
 place : (s : State) (f : Form) → Place s f
 unfolding modeOf stackOf brackets advanceOf only among onClose closeBlock pick
 place initial = by-form (Place initial) (steps begins-plan) refused (λ n. refused) refused
@@ -156,12 +156,12 @@ place (needs-two ks) = by-form (Place (needs-two ks)) refused refused (λ n. ref
 place (ends-either ks) = by-form (Place (ends-either ks)) refused refused (λ n. refused) (steps ends-choice)
     refused (λ n. refused) (λ l. refused) refused refused refused refused
 
-pub step-or-refused : (s : State) (f : Form) → ((t : State) × Step s f t) ⊎ ((line : ℕ) (fs : List Form) → misplacedFrom s line (f ∷ fs) ≡ some line)
+pub step-or-refused : (s : State) (f : Form) → ((t : State) × Step s f t) ⊎ ((number : ℕ) (fs : List Form) → misplacedFrom s number (f ∷ fs) ≡ some number)
 unfolding misplaced
 step-or-refused s f = go (place s f)
   where
     go : {a : Advance} → Outcome s f a
         → ((t : State) × Step s f t)
-        ⊎ ((line : ℕ) (fs : List Form) → goOn a (stackOf s) line (λ mode stack. misplaced mode stack (suc line) fs) ≡ some line)
-    go refused = inr (λ line fs. refl)
+        ⊎ ((number : ℕ) (fs : List Form) → goOn a (stackOf s) number (λ mode stack. misplaced mode stack (suc number) fs) ≡ some number)
+    go refused = inr (λ number fs. refl)
     go (steps {t} x) = inl (t, x)

@@ -55,7 +55,7 @@ atTwo f [] = []
 atTwo f (b ∷ []) = []
 atTwo f (b ∷ r ∷ bs) = f b r ∷ bs
 
--- an either with the blocks of one and two and the empty one up to its own closing line, and the block that goes on behind it
+-- an either with the blocks of one and two and the empty one up to its own closing form, and the block that goes on behind it
 abbrev pub atFour : (Block → Block → Block → Block) → List Block → List Block
 atFour f [] = []
 atFour f (a ∷ []) = []

@@ -28,7 +28,7 @@ pub record Small (c : Counts) (n : ℕ) : Type 0 where
 abbrev pub addIf : Bool → ℕ → ℕ
 addIf b n = cond b (n + 1) n
 
--- how many brackets are open within the procedure behind a form, where d were open before. A closing line with none open closes the procedure or the plan
+-- how many brackets are open within the procedure behind a form, where d were open before. A `)` with none open closes the procedure or the plan
 abbrev pub depthAfter : Form → ℕ → ℕ
 depthAfter f d = cond (isClose f) (d - 1) (addIf (isBracket f) d)
 
@@ -53,11 +53,11 @@ leastBad rule c = pick (eqb rule 6) lockCount (pick (eqb rule 7) (c .procs - 1) 
 unfoldable pub breaks : ℕ → Counts → Form → Bool
 breaks rule c f = pick (eqb rule 5) (overLimit c) (pick (eqb (testedBy f) rule) (leb (leastBad rule c) (numberIn f)) false)
 
--- the first line that breaks a rule, of the forms from a line on: "first line past a limit", "first such line"
+-- the first form that breaks a rule, of the forms from number n on: "first line past a limit", "first such line"
 unfoldable pub breaking : ℕ → Counts → ℕ → List Form → Option ℕ
-breaking rule c line [] = none
-breaking rule c line (f ∷ fs) = cond (breaks rule (counted c f) f) (some line) (breaking rule (counted c f) (suc line) fs)
+breaking rule c n [] = none
+breaking rule c n (f ∷ fs) = cond (breaks rule (counted c f) f) (some n) (breaking rule (counted c f) (suc n) fs)
 
 -- rule 5, 6, 7 or 8 over the whole text
-unfoldable pub breakingLine : ℕ → List Form → Option ℕ
-breakingLine rule fs = breaking rule noCounts 1 fs
+unfoldable pub breakingForm : ℕ → List Form → Option ℕ
+breakingForm rule fs = breaking rule noCounts 1 fs

@@ -1,5 +1,6 @@
--- The rules in checking order, as three refusals: the plan's, by the reader's first, the verdict's, the pair list's. 01, "Rules, in checking order": "A refusal
--- returns its number and a line (0 where none is named) .. Each rule is tested over the whole text before the next."
+-- The rules in checking order, as four refusals: the plan's, the verdict's, the pair list's, the tidy copy's. 01, "Rules, in checking order": "A refusal returns its
+-- number and a line (0 where none is named) .. Each rule is tested over the whole text before the next." The rules 4 to 10 are said of the list of forms and name a form
+-- by its number, from 1; `planRefusal` names its line in the file.
 use Prim.Native.Nat.{ℕ, zero, suc, _-_}
 use mathlib.Core.Bool.{Bool, _&&_, cond}
 use mathlib.Core.List.{List, [], _∷_}
@@ -11,21 +12,21 @@ use Rattle.limits.specs.Limits.{maxBytes, maxSize, maxPairs, maxEntries}
 use Rattle.text.specs.declared.Form.{Form}
 use Rattle.text.specs.declared.Refusal.{Refusal}
 use Rattle.text.specs.Forms.{isProc}
-use Rattle.text.specs.Lines.{refusal, formsOf, unreadableLine}
+use Rattle.text.specs.Lines.{refusal, formsOf, unreadableLine, lineOf}
 use Rattle.semantics.specs.Plan.{LockPlan}
 use Rattle.semantics.specs.Sizes.{sizeOf}
 use Rattle.semantics.specs.Pairs.{pairList}
 use Rattle.plan.specs.Grammar.{planIn}
-use Rattle.plan.specs.Structure.{misplacedLine}
+use Rattle.plan.specs.Structure.{misplacedForm}
 use Rattle.plan.specs.Table.{tableForms}
-use Rattle.plan.specs.Limits.{breakingLine}
+use Rattle.plan.specs.Limits.{breakingForm}
 use Rattle.plan.specs.declared.Reading.{Reading}
 use Rattle.plan.specs.declared.Reading.the-variants.{Accepted, Refused}
 
--- a rule that names a line
+-- a rule that names a line or, of the rules over forms, a form by its number
 abbrev pub refusedAt : ℕ → Option ℕ → Option Refusal
 refusedAt rule none = none
-refusedAt rule (some line) = some (refusal rule line)
+refusedAt rule (some n) = some (refusal rule n)
 
 -- a rule that names no line
 abbrev pub refusedIf : ℕ → Bool → Option Refusal
@@ -35,41 +36,41 @@ refusedIf rule b = cond b (some (refusal rule 0)) none
 unfoldable pub tooLong : List ℕ → Option Refusal
 tooLong text = refusedIf 2 (ltb maxBytes (length text))
 
--- rules 4 to 8, of the forms of a text
-unfoldable pub formsRefusal : List Form → Option Refusal
-formsRefusal fs =
-    orElse (refusedAt 4 (misplacedLine fs))
-    (orElse (refusedAt 5 (breakingLine 5 fs))
-    (orElse (refusedAt 6 (breakingLine 6 fs))
-    (orElse (refusedAt 7 (breakingLine 7 fs))
-    (refusedAt 8 (breakingLine 8 fs)))))
+-- rules 2 and 3: what makes a text a list of forms
+unfoldable pub linesRefusal : List ℕ → Option Refusal
+linesRefusal text = orElse (tooLong text) (refusedAt 3 (unreadableLine text))
 
--- rules 2 to 8: what the reader settles
-unfoldable pub readerRefusal : List ℕ → Option Refusal
-readerRefusal text = orElse (tooLong text) (orElse (refusedAt 3 (unreadableLine text)) (formsRefusal (formsOf text)))
+-- rules 4 to 8, of the forms of a text
+unfoldable pub grammarRefusal : List Form → Option Refusal
+grammarRefusal fs =
+    orElse (refusedAt 4 (misplacedForm fs))
+    (orElse (refusedAt 5 (breakingForm 5 fs))
+    (orElse (refusedAt 6 (breakingForm 6 fs))
+    (orElse (refusedAt 7 (breakingForm 7 fs))
+    (refusedAt 8 (breakingForm 8 fs)))))
 
 -- the plan of a text that no rule refuses
 unfoldable pub planOf : List ℕ → LockPlan
 planOf text = planIn (formsOf text)
 
--- "Procedures are numbered from 0 in text order": the line of procedure p's `(proc`, of the forms from a line on
-unfoldable pub procLineFrom : ℕ → ℕ → List Form → ℕ
-procLineFrom line p [] = 0
-procLineFrom line p (f ∷ fs) = cond (isProc f && eqb p 0) line (procLineFrom (suc line) (cond (isProc f) (p - 1) p) fs)
+-- "Procedures are numbered from 0 in text order": which form procedure p's `(proc` is, of the forms from number k on; 0 where there is none
+unfoldable pub procFormFrom : ℕ → ℕ → List Form → ℕ
+procFormFrom k p [] = 0
+procFormFrom k p (f ∷ fs) = cond (isProc f && eqb p 0) k (procFormFrom (suc k) (cond (isProc f) (p - 1) p) fs)
 
 -- the lowest of n numbers from p on that passes a test
 unfoldable pub lowestFrom : (ℕ → Bool) → ℕ → ℕ → Option ℕ
 lowestFrom test p zero = none
 lowestFrom test p (suc n) = cond (test p) (some p) (lowestFrom test (suc p) n)
 
--- the `(proc` line of the procedure found, if one is
-abbrev pub procLine : List Form → Option ℕ → Option ℕ
-procLine fs none = none
-procLine fs (some p) = some (procLineFrom 1 p fs)
+-- the `(proc` of the procedure found, if one is
+abbrev pub procForm : List Form → Option ℕ → Option ℕ
+procForm fs none = none
+procForm fs (some p) = some (procFormFrom 1 p fs)
 
--- "`(proc` line of the lowest such", of the procedures that pass a test
+-- "`(proc` line of the lowest such", of the procedures that pass a test: the number of that form
 unfoldable pub procRefusal : ℕ → List Form → (ℕ → Bool) → Option Refusal
-procRefusal rule fs test = refusedAt rule (procLine fs (lowestFrom test 0 (length (planIn fs .procs))))
+procRefusal rule fs test = refusedAt rule (procForm fs (lowestFrom test 0 (length (planIn fs .procs))))
 
 -- 9: "Some procedure's size exceeds 1,024"
 unfoldable pub tooLarge : List Form → Option Refusal
@@ -79,9 +80,26 @@ tooLarge fs = procRefusal 9 fs (λ p. ltb maxSize (sizeOf (planIn fs .procs) p))
 unfoldable pub tooManyPairs : List Form → Option Refusal
 tooManyPairs fs = procRefusal 10 fs (λ p. ltb maxPairs (length (pairList (planIn fs .procs) p)))
 
+-- rules 9 and 10, of the forms of a plan
+abbrev pub procsRefusal : List Form → Option Refusal
+procsRefusal fs = orElse (tooLarge fs) (tooManyPairs fs)
+
+-- rules 4 to 10
+unfoldable pub formsRefusal : List Form → Option Refusal
+formsRefusal fs = orElse (grammarRefusal fs) (procsRefusal fs)
+
+-- 02, change 1, "Lines are still counted as they stand in the file": a refusal that names a form by its number, with the form's line in its place, or one more than the last
+-- line for the number behind the last form's
+abbrev pub refusalInFile : List ℕ → Refusal → Refusal
+refusalInFile text x = refusal (x .rule) (lineOf text (x .line))
+
+abbrev pub inFile : List ℕ → Option Refusal → Option Refusal
+inFile text none = none
+inFile text (some x) = some (refusalInFile text x)
+
 -- the plan's rules, 2 to 10
 unfoldable pub planRefusal : List ℕ → Option Refusal
-planRefusal text = orElse (readerRefusal text) (orElse (tooLarge (formsOf text)) (tooManyPairs (formsOf text)))
+planRefusal text = orElse (linesRefusal text) (inFile text (formsRefusal (formsOf text)))
 
 -- the verdict's: 1, "The lent buffer is shorter than 6,144 entries for a schedule", then the plan's
 unfoldable pub verdictRefusal : List ℕ → ℕ → Option Refusal
@@ -91,11 +109,20 @@ verdictRefusal text lent = orElse (refusedIf 1 (ltb lent maxEntries)) (planRefus
 unfoldable pub pairsRefusal : List ℕ → ℕ → ℕ → Option Refusal
 pairsRefusal text p lent = orElse (refusedIf 1 (ltb lent maxPairs)) (orElse (planRefusal text) (refusedIf 11 (leb (length (planOf text .procs)) p)))
 
--- The cases of the reader's answer, with 01's numbers: none of its rules is broken, and how many forms there are; or the number of the first rule broken and its
--- line.
+-- the tidy copy's: 02, change 1, "The output must hold 32,768 bytes, otherwise rule 1 applies.", then the plan's
+unfoldable pub tidyRefusal : List ℕ → ℕ → Option Refusal
+tidyRefusal text lent = orElse (refusedIf 1 (ltb lent maxBytes)) (planRefusal text)
+
+-- The cases of a reading, with 01's numbers: none of the rules asked is broken, and how many forms there are; or the number of the first rule broken and its line, of a
+-- reading of forms the number of the form.
 unfoldable pub readingOf : Option Refusal → ℕ → Reading
 readingOf none n = Accepted n
 readingOf (some r) n = Refused r
+
+-- a reading of forms, with the line in the file of the form that it names
+abbrev pub readInFile : List ℕ → Reading → Reading
+readInFile text (Accepted n) = Accepted n
+readInFile text (Refused x) = Refused (refusalInFile text x)
 
 -- The promise of a call that reads a text into a table, where `refused` says whether and how the text is refused: the answer, and where it is accepted the table
 -- begins with the text's forms.

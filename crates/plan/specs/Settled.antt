@@ -49,7 +49,7 @@ pub record Settled (plan : LockPlan) : Type 0 where
 abbrev pub tablePlan : List ℕ → LockPlan
 tablePlan ws = planIn (tableForms ws)
 
--- a table that holds the forms of a plan within rules 4 to 8: what `read_plan` leaves of an accepted text (theorem `accepted-table`)
+-- a table that holds the forms of a plan within rules 4 to 8: what an accepted text leaves (theorem `formed-table`)
 pub record PlanTable (ws : List ℕ) : Type 0 where
   pub written : tableForms ws ≡ forms (tablePlan ws)
   pub settled : Settled (tablePlan ws)

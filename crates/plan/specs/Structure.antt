@@ -1,7 +1,7 @@
 -- Rule 4: where a form may stand. A machine reads the forms with a mode, which says what may stand next, and a stack of the brackets that are open within the
 -- procedure. An either's own bracket needs no entry on the stack: its two blocks have theirs, and behind the second the mode alone asks for the either's end.
--- The machine accepts exactly the forms of grammatical plans (theorem `structure-plan`), and otherwise names the first line with which no plan begins, or one
--- more than the last line (theorem `structure-first`). 01, "The plan text" and rule 4.
+-- The machine accepts exactly the forms of grammatical plans (theorem `structure-plan`), and otherwise names the first form with which no plan begins, or one
+-- more than the last (theorem `structure-first`); forms are numbered from 1. 01, "The plan text" and rule 4.
 use mathlib.Core.Bool.{cond}
 use Prim.Native.Nat.{ℕ, zero, suc}
 use mathlib.Core.List.{List, [], _∷_, tail}
@@ -109,19 +109,19 @@ advanceOf mode top Either = inBlock mode (Stay needsOne)
 advanceOf mode top One = only needsOne mode (Push ofOne)
 advanceOf mode top Two = only needsTwo mode (Push ofTwo)
 
--- the machine after a step, or the line of a form without a place
+-- the machine after a step, or the number of a form without a place
 abbrev pub goOn : Advance → List ℕ → ℕ → (ℕ → List ℕ → Option ℕ) → Option ℕ
-goOn (Stay mode) stack line k = k mode stack
-goOn (Push bracket) stack line k = k firstStatement (bracket ∷ stack)
-goOn (Pop mode) stack line k = k mode (tail stack)
-goOn Misplaced stack line k = some line
+goOn (Stay mode) stack n k = k mode stack
+goOn (Push bracket) stack n k = k firstStatement (bracket ∷ stack)
+goOn (Pop mode) stack n k = k mode (tail stack)
+goOn Misplaced stack n k = some n
 
 -- "A line stands where the text's structure has no place for it (first such line), or the text ends too early (one more than the last line)": in a mode, with a
--- stack of open brackets, for the forms from a line on
+-- stack of open brackets, for the forms from number n on; `lineOf` gives the line of the form that is named, or of the number behind the last
 unfoldable pub misplaced : ℕ → List ℕ → ℕ → List Form → Option ℕ
-misplaced mode stack line [] = cond (eqb mode complete) none (some line)
-misplaced mode stack line (f ∷ fs) = goOn (advanceOf mode (innermost stack) f) stack line (λ mode′ stack′. misplaced mode′ stack′ (suc line) fs)
+misplaced mode stack n [] = cond (eqb mode complete) none (some n)
+misplaced mode stack n (f ∷ fs) = goOn (advanceOf mode (innermost stack) f) stack n (λ mode′ stack′. misplaced mode′ stack′ (suc n) fs)
 
 -- rule 4
-unfoldable pub misplacedLine : List Form → Option ℕ
-misplacedLine fs = misplaced atStart [] 1 fs
+unfoldable pub misplacedForm : List Form → Option ℕ
+misplacedForm fs = misplaced atStart [] 1 fs

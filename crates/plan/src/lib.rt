@@ -1,14 +1,15 @@
-// The plan text as a table of forms, and the rules 2 to 8: each is a pass over the table.
+// The plan text as a table of forms (rules 2 and 3), and the rules 4 to 8: each is a pass over the table. A rule over the table names a form by its number, from 1, in the
+// place of a line; `in_file` gives the form's line.
 ghost use mathlib.Core.Path.{_≡_};
 ghost use Prim.Native.Nat.{_+_, _-_, _≤_, _<_};
 ghost use lib.ListN.{length};
 ghost use Rattle.limits.specs.Limits.{maxBytes, maxForms};
 ghost use Rattle.text.specs.Forms.{numberIn};
-ghost use Rattle.text.specs.Lines.{lineAt, formsOf, unreadableLine};
+ghost use Rattle.text.specs.Lines.{lineAt, unreadableLine};
 ghost use Rattle.plan.specs.Table.{codeOf, formAt, tableForms, withLine};
-ghost use Rattle.plan.specs.Structure.{only, among, closeBlock, onClose, advanceOf, misplacedLine, stackOf, innermost};
-ghost use Rattle.plan.specs.Limits.{Small, addIf, depthAfter, counted, overLimit, testedBy, leastBad, breaks, breakingLine};
-ghost use Rattle.plan.specs.Rules.{refusedAt, formsRefusal, readerRefusal, readingOf, Tabled};
+ghost use Rattle.plan.specs.Structure.{only, among, closeBlock, onClose, advanceOf, misplacedForm, stackOf, innermost};
+ghost use Rattle.plan.specs.Limits.{Small, addIf, depthAfter, counted, overLimit, testedBy, leastBad, breaks, breakingForm};
+ghost use Rattle.plan.specs.Rules.{refusedAt, linesRefusal, grammarRefusal, readingOf, readInFile, Tabled};
 use limits::LOCK_COUNT;
 use limits::MAX_BRACKETS;
 use limits::MAX_BYTES;
@@ -18,6 +19,7 @@ use limits::MAX_STATEMENTS;
 use limits::MAX_THREADS;
 use text::Form;
 use text::Line;
+use text::Place;
 use text::Refusal;
 
 // What a form does to the machine of rule 4: it goes on in a mode, opens a bracket, closes one and goes on in a mode, or has no place.
@@ -164,7 +166,7 @@ fn lower(n: usize) -> usize
 // Rule 4 over a table: the stack is lent, as long as the table.
 fn check_structure(table: &[u64], stack: &mut [u8]) -> Reading
     requires { ⌜ length (now table) ≤ length (now stack) ⌝ }
-    ensures { λ r. ⌜ r ≡ readingOf (refusedAt 4 (misplacedLine (tableForms (now (table .entry))))) (length (now (table .entry))) ⌝ }
+    ensures { λ r. ⌜ r ≡ readingOf (refusedAt 4 (misplacedForm (tableForms (now (table .entry))))) (length (now (table .entry))) ⌝ }
 {
     let mut mode: u8 = 0;
     let mut depth: usize = 0;
@@ -301,7 +303,7 @@ fn breaks_rule(rule: u8, c: Counts, form: Form) -> bool
 // A rule of 5 to 8 over a table.
 fn check_rule(table: &[u64], rule: u8) -> Reading
     requires { ⌜ length (now table) < 65536 ⌝ }
-    ensures { λ r. ⌜ r ≡ readingOf (refusedAt rule (breakingLine rule (tableForms (now (table .entry))))) (length (now (table .entry))) ⌝ }
+    ensures { λ r. ⌜ r ≡ readingOf (refusedAt rule (breakingForm rule (tableForms (now (table .entry))))) (length (now (table .entry))) ⌝ }
 {
     let mut c = Counts {
         procs: 0,
@@ -322,9 +324,9 @@ fn check_rule(table: &[u64], rule: u8) -> Reading
 }
 
 // Rules 4 to 8 over a table, each over the whole of it before the next.
-fn check_forms(table: &[u64], stack: &mut [u8]) -> Reading
+pub fn check_forms(table: &[u64], stack: &mut [u8]) -> Reading
     requires { ⌜ (length (now table) < 65536) × (length (now table) ≤ length (now stack)) ⌝ }
-    ensures { λ r. ⌜ r ≡ readingOf (formsRefusal (tableForms (now (table .entry)))) (length (now (table .entry))) ⌝ }
+    ensures { λ r. ⌜ r ≡ readingOf (grammarRefusal (tableForms (now (table .entry)))) (length (now (table .entry))) ⌝ }
 {
     let structure = check_structure(table, stack);
     let Reading::Accepted(_) = structure else {
@@ -345,12 +347,12 @@ fn check_forms(table: &[u64], stack: &mut [u8]) -> Reading
     check_rule(table, 8)
 }
 
-// The line that starts at the place `at`, its form into place n of the table.
-fn put_line(text: &[u8], at: usize, table: &mut [u64], n: usize) -> Line
+// The line at a place, its form into place n of the table.
+fn put_line(text: &[u8], place: Place, table: &mut [u64], n: usize) -> Line
     requires { ⌜ n < length (now table) ⌝ }
-    ensures { λ r. ⌜ (r ≡ lineAt (now (text .entry)) at (n + 1)) × (now (table .exit) ≡ withLine r n (now (table .entry))) ⌝ }
+    ensures { λ r. ⌜ (r ≡ lineAt (now (text .entry)) (place .at) (place .line)) × (now (table .exit) ≡ withLine r n (now (table .entry))) ⌝ }
 {
-    let line = text::read_line(text, at, n + 1);
+    let line = text::read_line(text, place.at, place.line);
     let Line::Read { form, next: _ } = line else {
         return line;
     };
@@ -358,19 +360,26 @@ fn put_line(text: &[u8], at: usize, table: &mut [u64], n: usize) -> Line
     line
 }
 
-// The text's forms into a table, line after line (rule 3). A form's line has two bytes at least, so a table of half the bytes has room.
+// The text's forms into a table, line after line (rule 3), what is to be passed over left out. A form's line has two bytes at least, so a table of half the bytes has
+// room.
 fn fill(text: &[u8], table: &mut [u64]) -> Reading
     requires { ⌜ (length (now text) ≤ maxBytes) × (maxForms ≤ length (now table)) ⌝ }
     ensures { λ r. ⌜ Tabled (refusedAt 3 (unreadableLine (now (text .entry)))) (now (text .entry)) r (now (table .exit)) ⌝ }
 {
-    let mut at: usize = 0;
+    let mut here = text::pass_over(text, Place { at: 0, line: 1 });
     let mut n: usize = 0;
-    while at < text.len() {
-        let line = put_line(text, at, table, n);
+    while here.at < text.len() {
+        let line = put_line(text, here, table, n);
         match line {
             Line::Read { form: _, next } => {
                 n += 1;
-                at = next;
+                here = text::pass_over(
+                    text,
+                    Place {
+                        at: next,
+                        line: here.line + 1,
+                    },
+                );
             }
             Line::Refused(refusal) => return Reading::Refused(refusal),
         }
@@ -378,26 +387,26 @@ fn fill(text: &[u8], table: &mut [u64]) -> Reading
     Reading::Accepted(n)
 }
 
-// A plan text into a lent table of forms, by the rules 2 to 8 in checking order. The table and the stack are MAX_FORMS long.
-pub fn read_plan(text: &[u8], table: &mut [u64], stack: &mut [u8]) -> Reading
-    requires { ⌜ (maxForms ≤ length (now table)) × (maxForms ≤ length (now stack)) ⌝ }
-    ensures { λ r. ⌜ Tabled (readerRefusal (now (text .entry))) (now (text .entry)) r (now (table .exit)) ⌝ }
+// A plan text into a lent table of forms, by the rules 2 and 3. The table is MAX_FORMS long.
+pub fn read_forms(text: &[u8], table: &mut [u64]) -> Reading
+    requires { ⌜ maxForms ≤ length (now table) ⌝ }
+    ensures { λ r. ⌜ Tabled (linesRefusal (now (text .entry))) (now (text .entry)) r (now (table .exit)) ⌝ }
 {
     if MAX_BYTES < text.len() {
         return Reading::Refused(Refusal { rule: 2, line: 0 });
     }
-    let filled = fill(text, table);
-    let Reading::Accepted(n) = filled else {
-        return filled;
-    };
-    check_forms(&table[0..n], stack)
+    fill(text, table)
 }
 
-// Whether a text keeps the rules 2 to 8: how many forms it has, or the number of the first rule broken and its line.
-pub fn check_plan(text: &[u8]) -> Reading
-    ensures { λ r. ⌜ r ≡ readingOf (readerRefusal (now (text .entry))) (length (formsOf (now (text .entry)))) ⌝ }
+// A reading of a text's forms, with the line in the file of the form that it names.
+pub fn in_file(text: &[u8], reading: Reading) -> Reading
+    ensures { λ r. ⌜ r ≡ readInFile (now (text .entry)) reading ⌝ }
 {
-    let mut table = [0u64; MAX_FORMS];
-    let mut stack = [0u8; MAX_FORMS];
-    read_plan(text, &mut table, &mut stack)
+    match reading {
+        Reading::Accepted(n) => Reading::Accepted(n),
+        Reading::Refused(refusal) => Reading::Refused(Refusal {
+            rule: refusal.rule,
+            line: text::line_of(text, refusal.line),
+        }),
+    }
 }

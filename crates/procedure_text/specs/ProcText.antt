@@ -1,5 +1,5 @@
--- The part of a text that the text call answers with. 01, "Pairs, verdict, schedule".
-use Prim.Native.Nat.{ℕ, _+_, _-_}
+-- The part of a text that the text call answers with. 01, "Pairs, verdict, schedule"; 02, change 1: whole lines, as they stand in the file.
+use Prim.Native.Nat.{ℕ, _+_}
 use mathlib.Core.Bool.{Bool, cond}
 use mathlib.Core.List.{List}
 use mathlib.Core.Option.{Option, none, some}
@@ -9,15 +9,15 @@ use Rattle.text.specs.Lines.{formsOf}
 use Rattle.text.specs.declared.Refusal.{Refusal}
 use Rattle.plan.specs.Table.{tableForms}
 use Rattle.plan.specs.Settled.{tablePlan}
-use Rattle.plan.specs.Rules.{planOf, planRefusal, procLineFrom}
-use Rattle.parts.specs.Parts.{Span, span, linesSpan, formsBefore, formsToClosing}
+use Rattle.plan.specs.Rules.{planOf, planRefusal, procFormFrom}
+use Rattle.parts.specs.Parts.{Span, span, formsSpan, formsBefore, formsToClosing}
 
--- "from the `(proc` line to its closing line, line end included": the lines of procedure p, where the text has it. They are the lines of the procedure's forms (theorem
+-- "from the `(proc` line to its closing line, line end included": the lines of procedure p as they stand, where the text has it. They spell the procedure's forms (theorem
 -- `proc-written`)
 unfoldable pub linesOfProc : List ℕ → ℕ → Span
 linesOfProc text p =
-    let line = procLineFrom 1 p (formsOf text) in
-    linesSpan text (line - 1) (line + formsToClosing 0 (drop line (formsOf text)))
+    let k = procFormFrom 1 p (formsOf text) in
+    formsSpan text k (k + formsToClosing 0 (drop k (formsOf text)))
 
 -- "with an empty part and no number if a rule about the plan (here 2 to 10) refuses it or the procedure is absent"
 abbrev pub orEmpty : Option Refusal → Bool → Span → Span
@@ -31,5 +31,5 @@ procText text p = orEmpty (planRefusal text) (ltb p (length (planOf text .procs)
 -- the lines of a procedure of a table, in its text
 unfoldable pub tableLines : List ℕ → List ℕ → ℕ → Span
 tableLines text ws p =
-    let line = procLineFrom 1 p (tableForms ws) in
-    cond (ltb p (length (tablePlan ws .procs))) (linesSpan text (line - 1) (line + formsBefore (tableForms (drop line ws)))) (span 0 0)
+    let k = procFormFrom 1 p (tableForms ws) in
+    cond (ltb p (length (tablePlan ws .procs))) (formsSpan text k (k + formsBefore (tableForms (drop k ws)))) (span 0 0)

@@ -20,7 +20,7 @@ use Rattle.plan.specs.Settled.{PlanTable, tablePlan}
 use Rattle.plan.specs.Starts.{Starts}
 use Rattle.procs.specs.Passes.{costOf, costFrom, knownSize, sizeFrom}
 use Rattle.procs.specs.Sized.{Sized}
-use Rattle.procs.proofs.Places.{map-drop, PlacedBlock, places-lines, table-placed}
+use Rattle.procs.proofs.Places.{map-drop, PlacedBlock, places-numbers, table-placed}
 
 module _ (s : ℕ → ℕ) where
   pub cost-block : (C : ℕ → Type 0) (b : Block) → Written C b → (fs : List Form) → costFrom s (blockForms b fs) ≡ sizeWith s b + costFrom s fs
@@ -53,7 +53,7 @@ module _ (ws starts : List ℕ) (t : PlanTable ws) (k : Starts ws starts) where
   pub start-cost : (s : ℕ → ℕ) (p : ℕ) → p < length (tablePlan ws .procs)
       → costFrom s (tableForms (drop (getD starts p 0) ws)) ≡ sizeWith s (bodyIn (tablePlan ws .procs) p)
   start-cost s p h =
-      ap (costFrom s) (map-drop formAt (getD starts p 0) ws ∙ ap (λ n. drop n (tableForms ws)) (k .lines p h ∙ sym (places-lines (tableForms ws) 0 p)))
+      ap (costFrom s) (map-drop formAt (getD starts p 0) ws ∙ ap (λ n. drop n (tableForms ws)) (k .numbers p h ∙ sym (places-numbers (tableForms ws) 0 p)))
       ∙ cost-placed s _ (tableForms ws) (tablePlan ws .threads) _ _ (t .settled .sound .body p) (table-placed ws t p h)
 
   -- the sizes from the first p starts on are the first p entries of a round

@@ -16,7 +16,7 @@ use Rattle.plan.specs.Table.{tableForms}
 use Rattle.plan.specs.Settled.{tablePlan}
 use Rattle.plan.specs.Starts.{Starts}
 use Rattle.text.specs.Lines.{refusal}
-use Rattle.plan.specs.Rules.{refusedAt, procLine, lowestFrom, procRefusal, tooLarge, readingOf}
+use Rattle.plan.specs.Rules.{refusedAt, procForm, lowestFrom, procRefusal, tooLarge, readingOf}
 use Rattle.procs.specs.Sized.{Sized}
 
 -- ---- rule 9
@@ -34,9 +34,9 @@ module _ (table sizes : List ℕ) (procs p : ℕ) (c : procs ≡ length (tablePl
   unfolding lowestFrom
   large-turn h = let z : procs - p ≡ suc (procs - (p + 1)) = omega arith in rw add-one (rw (z, add-one) at e)
 
-  refused : (o : Option ℕ) → o ≡ lowestFrom (large table) 0 procs → refusedAt 9 (procLine (tableForms table) o) ≡ tooLarge (tableForms table)
+  refused : (o : Option ℕ) → o ≡ lowestFrom (large table) 0 procs → refusedAt 9 (procForm (tableForms table) o) ≡ tooLarge (tableForms table)
   unfolding tooLarge procRefusal
-  refused o g = ap (λ x. refusedAt 9 (procLine (tableForms table) x)) (g ∙ ap (λ n. lowestFrom (large table) 0 n) c)
+  refused o g = ap (λ x. refusedAt 9 (procForm (tableForms table) x)) (g ∙ ap (λ n. lowestFrom (large table) 0 n) c)
 
   pub large-more : p < procs → getD sizes p 0 ≤ maxSize → lowestFrom (large table) (p + 1) (procs - (p + 1)) ≡ lowestFrom (large table) 0 procs
   large-more h k = rw (le-ltb maxSize (sizeOf (tablePlan table .procs) p) (omega (arith, s .entries p (rw c at h)))) at (large-turn h)
@@ -47,7 +47,7 @@ module _ (table sizes : List ℕ) (procs p : ℕ) (c : procs ≡ length (tablePl
   large-found starts n k h g =
       let l : maxSize < sizeOf (tablePlan table .procs) p = omega (arith, s .entries p (rw c at h)) in
       let f : some p ≡ lowestFrom (large table) 0 procs = rw (lt-ltb maxSize (sizeOf (tablePlan table .procs) p) l) at (large-turn h) in
-      ap (λ l. Refused (refusal 9 l)) (k .lines p (rw c at h)) ∙ ap (λ x. readingOf x n) (refused (some p) f)
+      ap (λ l. Refused (refusal 9 l)) (k .numbers p (rw c at h)) ∙ ap (λ x. readingOf x n) (refused (some p) f)
 
   pub large-none : (n : ℕ) → procs ≤ p → Accepted n ≡ readingOf (tooLarge (tableForms table)) n
   unfolding readingOf lowestFrom

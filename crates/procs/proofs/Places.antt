@@ -1,5 +1,5 @@
--- Where the procedures of a plan stand among its forms. A block has no `(proc` line, so the places after those lines are the first places of the
--- procedures' blocks (`places-starts`), one for each procedure (`places-count`), and the numbers of those lines too (`places-lines`). The threads are
+-- Where the procedures of a plan stand among its forms. A block has no `(proc`, so the places after those forms are the first places of the
+-- procedures' blocks (`places-starts`), one for each procedure (`places-count`), and the numbers of those forms too (`places-numbers`). The threads are
 -- those of the plan (`threads-of`).
 use Prim.Native.Nat.{ℕ, zero, suc, _+_, _-_, _<_, _≤_}
 use native.Mathlib.Numerals.{add-one}
@@ -16,7 +16,7 @@ use Rattle.text.specs.Forms.{numberIn, kindIn, isProc}
 use Rattle.semantics.specs.Plan.{Block, done, skip, call, hold, loop, either, end, LockPlan, bodyIn}
 use Rattle.plan.specs.Grammar.{blockForms, procForms, threadForms, forms}
 use Rattle.plan.specs.Table.{formAt, tableForms}
-use Rattle.plan.specs.Rules.{procLineFrom}
+use Rattle.plan.specs.Rules.{procFormFrom}
 use Rattle.plan.specs.Settled.{PlanTable, tablePlan}
 use Rattle.plan.specs.Starts.{StandsAt, Starts}
 use Rattle.procs.specs.Passes.{consIf, placesFrom, threadsFrom}
@@ -112,14 +112,14 @@ places-count ns k (b ∷ bs) =
     ap (λ (l : List ℕ). suc (length l)) (places-block b (suc k) (Close ∷ procForms bs (threadForms ns (Close ∷ []))))
     ∙ ap suc (places-count ns (suc (suc k + formCount b)) bs)
 
--- the place after a `(proc` is the number of its line
-pub places-lines : (fs : List Form) (k p : ℕ) → getD (placesFrom k fs) p 0 ≡ procLineFrom (suc k) p fs
-unfolding placesFrom procLineFrom
-places-lines [] k p = refl
-places-lines (f ∷ fs) k p = go (isProc f) p (places-lines fs (suc k))
+-- the place after a `(proc` is its number among the forms
+pub places-numbers : (fs : List Form) (k p : ℕ) → getD (placesFrom k fs) p 0 ≡ procFormFrom (suc k) p fs
+unfolding placesFrom procFormFrom
+places-numbers [] k p = refl
+places-numbers (f ∷ fs) k p = go (isProc f) p (places-numbers fs (suc k))
   where
-    go : (b : Bool) (p : ℕ) → ((q : ℕ) → getD (placesFrom (suc k) fs) q 0 ≡ procLineFrom (suc (suc k)) q fs)
-        → getD (consIf b (suc k) (placesFrom (suc k) fs)) p 0 ≡ cond (b && eqb p 0) (suc k) (procLineFrom (suc (suc k)) (cond b (p - 1) p) fs)
+    go : (b : Bool) (p : ℕ) → ((q : ℕ) → getD (placesFrom (suc k) fs) q 0 ≡ procFormFrom (suc (suc k)) q fs)
+        → getD (consIf b (suc k) (placesFrom (suc k) fs)) p 0 ≡ cond (b && eqb p 0) (suc k) (procFormFrom (suc (suc k)) (cond b (p - 1) p) fs)
     go true zero ih = refl
     go true (suc p) ih = let e : suc p - 1 ≡ p = omega arith in rw (eqb·suc-zero p, e) (ih p)
     go false p ih = ih p
@@ -193,5 +193,5 @@ module _ (ws : List ℕ) (t : PlanTable ws) where
       record {
         room = omega arith;
         stands = λ p k. rw (at p k) (stands-placed _ _ _ (table-placed p k));
-        lines = λ p k. at p k ∙ places-lines (tableForms ws) 0 p;
+        numbers = λ p k. at p k ∙ places-numbers (tableForms ws) 0 p;
       }

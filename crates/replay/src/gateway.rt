@@ -95,7 +95,7 @@ pub fn run(text: &[u8], schedule: &[u16], state: &mut [usize]) -> usize
     i
 }
 
-// Puts a thread that is there at its procedure's block. An absent one stays at the plan's line, where no step is.
+// Puts a thread that is there at its procedure's block. An absent one stays at the text's first line, where no step is.
 fn start_thread(text: &[u8], thread: &mut [usize], t: usize)
     requires { ⌜ threadRoom ≤ length (now thread) ⌝ }
 {

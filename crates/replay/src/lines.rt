@@ -1,24 +1,58 @@
-// The lines of an accepted plan text, told by their letters. A place is the byte at which a line starts; the text's length is the place behind the last line.
+// The lines of an accepted plan text, told by their letters. A place is the byte at which a line starts, before its spaces; the text's length is the place behind the last line.
+// Lines that are passed over (empty, all spaces, remarks) have a letter of their own, which is no form's.
 ghost use Prim.Native.Nat.{_≤_, _<_, _+_, _^_};
 ghost use lib.ListN.{length};
 
-// The letter of a line's form: its second byte, with `w` for two, `.` for the plan, `)` for a bracket that closes and `?` where no line is.
+// The place behind the spaces with which a line starts.
+fn indented(text: &[u8], at: usize) -> usize
+    requires { ⌜ at ≤ length (now text) ⌝ }
+    ensures { λ r. ⌜ r ≤ length (now (text .entry)) ⌝ }
+{
+    let mut i = at;
+    while i < text.len() {
+        if text[i] != b' ' {
+            return i;
+        }
+        i += 1;
+    }
+    i
+}
+
+// The letter of a form that starts with a bracket: its second byte, with `w` for two and `.` for the plan.
+fn opening(form: &[u8]) -> u8 {
+    if form.len() < 3 {
+        return b'?';
+    }
+    let second = form[1];
+    let third = form[2];
+    match second {
+        b'p' => if third == b'r' { b'p' } else { b'.' },
+        b't' => if third == b'h' { b't' } else { b'w' },
+        _ => second,
+    }
+}
+
+// The letter of what a line has behind its spaces: that of the form, `)` for a bracket that closes and `;` for what is passed over.
+fn letter_of(form: &[u8]) -> u8 {
+    if form.len() == 0 {
+        return b';';
+    }
+    let first = form[0];
+    match first {
+        b'\n' => b';',
+        b';' => b';',
+        b')' => b')',
+        _ => opening(form),
+    }
+}
+
+// The letter of a line, and `?` where no line is.
 pub fn letter(text: &[u8], at: usize) -> u8 {
     if text.len() <= at {
         return b'?';
     }
-    let line = &text[at..];
-    if line.len() < 3 {
-        return b')';
-    }
-    let first = line[1];
-    let second = line[2];
-    match first {
-        b'\n' => b')',
-        b'p' => if second == b'r' { b'p' } else { b'.' },
-        b't' => if second == b'h' { b't' } else { b'w' },
-        _ => first,
-    }
+    let start = indented(text, at);
+    letter_of(&text[start..])
 }
 
 // The place behind the next such byte, or the text's end.
@@ -44,13 +78,16 @@ pub fn next_line(text: &[u8], at: usize) -> usize
     after(text, at, b'\n')
 }
 
-// The same of any place.
+// The place of the next line that is not passed over, or the text's end.
 pub fn behind(text: &[u8], at: usize) -> usize {
-    if at < text.len() {
-        next_line(text, at)
-    } else {
-        at
+    let mut i = at;
+    while i < text.len() {
+        i = next_line(text, i);
+        if letter(text, i) != b';' {
+            return i;
+        }
     }
+    i
 }
 
 // One digit more behind a number of three at most; another byte changes nothing.
@@ -103,6 +140,7 @@ fn nested(depth: usize, form: u8) -> usize
 {
     match form {
         b')' => if depth == 0 { 0 } else { depth - 1 },
+        b';' => depth,
         b's' => depth,
         b'c' => depth,
         b't' => depth,

@@ -45,7 +45,7 @@ fn at_loop(text: &[u8], thread: &mut [usize], at: usize, choice: u16) -> bool
     }
 }
 
-// An either, whose `(one` is the line behind it: 1 chooses one, 2 chooses two.
+// An either, whose `(one` is the next form: 1 chooses one, 2 chooses two.
 fn at_either(text: &[u8], thread: &mut [usize], at: usize, choice: u16) -> bool
     requires { ⌜ threadRoom ≤ length (now thread) ⌝ }
 {

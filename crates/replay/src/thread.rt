@@ -11,7 +11,7 @@ const DEPTH: usize = 0;
 // its count of each lock,
 pub const COUNTS: usize = 1;
 
-// and a place for each depth. The last is where its remainder starts, those before it are of the holds, loops, eithers and calls that it is in, and the first is the plan's.
+// and a place for each depth. The last is where its remainder starts, those before it are of the holds, loops, eithers and calls that it is in, and the first is the text's first line.
 const PLACES: usize = COUNTS + LOCK_COUNT;
 
 // A thread is in at most as many of them as its size says.

@@ -19,7 +19,7 @@ module _ (l : List ℕ) (at x k : ℕ) (e : k ≡ x % 32) (room : at + pairLineR
   pub wanted-room : at + length (bytes "(pair " ++ digits k) ≤ length l
   wanted-room = omega (arith, digits-short 1 k (omega arith))
 
-  module _ (l₁ : List ℕ) (i m : ℕ) (f : m ≡ x / 32) (v : Wrote l l₁ at i (bytes "(pair " ++ digits k)) where
+  module _ (l₁ : List ℕ) (i y m : ℕ) (f : m ≡ y / 32) (v : Wrote l l₁ at i (bytes "(pair " ++ digits k)) where
     pub held-room : i + length (listed (members 64 m)) ≤ length l₁
     held-room = omega (arith, v .place, wrote-length l l₁ at i _ v, digits-short 1 k (omega arith), members-short m)
 
@@ -32,7 +32,7 @@ module _ (l : List ℕ) (at x t : ℕ) (e : t ≡ x % 8) (room : at + stepLineRo
   pub thread-room : at + length (bytes "(step " ++ digits t) ≤ length l
   thread-room = omega (arith, digits-short 0 t (omega arith))
 
-  module _ (l₁ : List ℕ) (i k : ℕ) (small : Fits w16 x) (f : k ≡ x / 8) (v : Wrote l l₁ at i (bytes "(step " ++ digits t)) where
+  module _ (l₁ : List ℕ) (i y k : ℕ) (small : Fits w16 y) (f : k ≡ y / 8) (v : Wrote l l₁ at i (bytes "(step " ++ digits t)) where
     pub choice-room : i + length (bytes " " ++ digits k) ≤ length l₁
     choice-room = omega (arith, v .place, wrote-length l l₁ at i _ v, digits-short 0 t (omega arith), digits-short 3 k (omega (arith, small .fits)))
 

@@ -36,7 +36,7 @@ fn put_digits(out: &mut [u8], at: usize, n: u64) -> usize
 }
 
 // A keyword and a number.
-fn put_numbered(out: &mut [u8], at: usize, keyword: &[u8], n: u64) -> usize
+pub fn put_numbered(out: &mut [u8], at: usize, keyword: &[u8], n: u64) -> usize
     requires { ⌜ at + length (now keyword ++ digits n) ≤ length (now out) ⌝ }
     ensures { λ r. ⌜ Wrote (now (out .entry)) (now (out .exit)) at r (now (keyword .entry) ++ digits n) ⌝ }
 {
@@ -83,8 +83,8 @@ fn put_pair(out: &mut [u8], at: usize, pair: u64) -> usize
     requires { ⌜ at + pairLineRoom ≤ length (now out) ⌝ }
     ensures { λ r. ⌜ Wrote (now (out .entry)) (now (out .exit)) at r (pairLine pair) ⌝ }
 {
-    let wanted = locks::wanted_in(pair);
     let held = locks::held_in(pair);
+    let wanted = locks::wanted_in(pair);
     let i = put_numbered(out, at, b"(pair ", wanted);
     let j = put_members(out, i, held);
     put_text(out, j, b")\n")
@@ -105,8 +105,8 @@ fn put_step(out: &mut [u8], at: usize, entry: u16) -> usize
     requires { ⌜ at + stepLineRoom ≤ length (now out) ⌝ }
     ensures { λ r. ⌜ Wrote (now (out .entry)) (now (out .exit)) at r (stepLine entry) ⌝ }
 {
-    let thread = locks::thread_in(entry as u64);
     let choice = locks::rest_in(entry as u64);
+    let thread = locks::thread_in(entry as u64);
     let i = put_numbered(out, at, b"(step ", thread);
     let j = put_numbered(out, i, b" ", choice);
     put_text(out, j, b")\n")

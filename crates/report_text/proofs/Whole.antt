@@ -7,10 +7,10 @@ use mathlib.Core.List.{List, [], _∷_, flatten}
 use mathlib.Core.Logic.{_↔_, ⊎-elim}
 use lib.ListN.{length, getD, List·getD-eq-default}
 use Rattle.limits.specs.Limits.{maxProcs}
-use Rattle.laws.proofs.Tests.{first-none, lt-or-le}
+use Rattle.laws.proofs.Tests.{lt-or-le}
 use Rattle.semantics.specs.Plan.{Block}
-use Rattle.plan.specs.Rules.{planRefusal, planOf, readerRefusal}
-use Rattle.plan.proofs.Sound.{accepted-settled}
+use Rattle.plan.specs.Rules.{planRefusal, planOf}
+use Rattle.plan.proofs.AcceptedTable.{accepted-settled}
 use Rattle.report_lines.specs.Lines.{reportOpen, freeLine, closing, procOpen, procLines, deadlockOpen, deadlockLines, refusedLine}
 use Rattle.report_text.specs.declared.Findings.{Findings}
 use Rattle.answers.specs.declared.Verdict.{Verdict}
@@ -74,9 +74,9 @@ procedures-length ps rest zero p = omega arith
 procedures-length ps rest (suc n) p = omega (arith, procedures-length ps rest n (suc p))
 
 few-procedures : (text : List ℕ) (v : Verdict) (schedule : List ℕ) → Judgement (planRefusal text) (planOf text) v schedule → procedures v (planOf text) ≤ maxProcs
-unfolding Judgement procedures planRefusal
-few-procedures text Free schedule d = accepted-settled text (first-none (readerRefusal text) _ (d .0) .0) .few-procs
-few-procedures text (Deadlock n S) schedule d = accepted-settled text (first-none (readerRefusal text) _ (d .0) .0) .few-procs
+unfolding Judgement procedures
+few-procedures text Free schedule d = accepted-settled text (d .0) .few-procs
+few-procedures text (Deadlock n S) schedule d = accepted-settled text (d .0) .few-procs
 few-procedures text (Refused x) schedule d = omega arith
 
 pub few-parts : (text : List ℕ) (v : Verdict) (schedule : List ℕ) → Judgement (planRefusal text) (planOf text) v schedule → length (partsOf text v schedule) ≤ mostParts

@@ -1,4 +1,4 @@
-// The standard streams of a program: a text read from standard input, and the report on a text printed to standard output, part by part.
+// The standard streams of a program: a text read from standard input, and printed to standard output the report on a text, part by part, or its tidy copy.
 ghost use Prim.Native.Nat.{_≤_};
 ghost use mathlib.Core.Bool.{true};
 ghost use mathlib.Core.Path.{_≡_};
@@ -72,6 +72,13 @@ pub fn print_report(text: &[u8]) -> bool {
     let mut entries = [0u16; MAX_ENTRIES];
     let mut out = [0u8; PART_ROOM];
     print_text(text, &mut table, &mut entries, &mut out)
+}
+
+// The tidy copy of a text, or the line of its refusal: whether all of it was written.
+pub fn print_tidy(text: &[u8]) -> bool {
+    let mut out = [0u8; MAX_BYTES];
+    let n = tidy_text::put_printed(text, &mut out);
+    io::write_all(1, &out[0..n])
 }
 
 // What standard input held: how many bytes of it were read, and whether it could be read to its end or as far as the buffer goes.

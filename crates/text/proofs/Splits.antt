@@ -1,142 +1,111 @@
--- A text cut at each byte 10: joining the parts gives the text again, and cutting a joined text gives the parts. A text without an unreadable line is the text of
--- its forms, and the text of forms is read as those forms.
+-- A text without an unreadable line is ended and spells its forms, and the text of forms is read as those forms.
 use Prim.Native.Nat.{ℕ, suc, _*_, _<_, _≤_}
 use native.Mathlib.Omega.{arith}
-use mathlib.Core.Path.{_≡_, refl, sym, ap, subst, _∙_}
-use mathlib.Core.Logic.{_↔_, ⊎-elim}
-use mathlib.Core.Bool.{Bool, true, false, cond}
-use mathlib.Core.List.{List, [], _∷_, _++_, List·Memᴰ, List·Memᴰ·head, List·Memᴰ·tail, List·Memᴰ·not-nil, List·Memᴰ·cases-cons}
+use mathlib.Core.Path.{_≡_, refl, ap, subst}
+use mathlib.Core.Logic.{_↔_}
+use mathlib.Core.Bool.{Bool, true, false}
+use mathlib.Core.List.{List, [], _∷_, _++_, List·Memᴰ, List·Memᴰ·head, List·Memᴰ·tail}
 use mathlib.Core.Option.{none}
-use lib.ListN.{length, take, drop, length-append}
-use lib.Dec.{eqb}
-use borrow.Author.Tests.{eqb-true, ne-eqb}
+use lib.ListN.{length, length-append}
+use Rattle.laws.specs.Choice.{pick}
 use Rattle.text.specs.declared.Form.{Form}
 use Rattle.text.specs.declared.Kind.{Kind}
 use Rattle.text.specs.declared.Kind.the-variants.{Known, Unknown}
 use Rattle.text.specs.Forms.{write, numberIn}
 use Rattle.text.specs.Kinds.{kindOf}
-use Rattle.text.specs.Lines.{lineLength, Split, pushByte, split, consForm, formsIn, formsOf, unknownOr, unreadable, unreadableLine, textOf, IsText}
+use Rattle.text.specs.Lines.{split, unindented, passedOver, consForm, formsIn, formsOf, unknownOr, unreadable, unreadableLine, textOf, Spells, nothing, over, form, IsText}
 use Rattle.text.proofs.Written.{kind-written, write-some, write-unbroken}
+use Rattle.text.proofs.Cuts.{split-unbroken, joined, split-joined}
+use Rattle.text.proofs.Passing.{write-unindented, spelled-kept, known-kept, passed-unknown, unindented-length}
 
--- the first line and the rest
-pub split-line : (l : List ℕ) → lineLength l < length l
-    → split l ≡ record { ended = take (lineLength l) l ∷ split (drop (suc (lineLength l)) l) .ended; tail = split (drop (suc (lineLength l)) l) .tail }
-unfolding lineLength split
-split-line [] h = absurd (omega arith)
-split-line (b ∷ bs) h = go (eqb b 10) (split-line bs) h
+-- lines of which none is unreadable spell their forms
+readable-spelled : (line : ℕ) (ls : List (List ℕ)) (t : List ℕ) → unreadable line ls t ≡ none → (t ≡ []) × Spells ls (formsIn ls)
+unfolding unreadable formsIn pick
+readable-spelled line [] [] e = (refl, nothing)
+readable-spelled line [] (b ∷ bs) e = let z : _≡_ {A = ℕ} 0 1 = cc in absurd (omega arith)
+readable-spelled line (l ∷ ls) t e = go (passedOver l) refl (kindOf (unindented l)) refl e (readable-spelled (suc line) ls t)
   where
-    n : ℕ
-    n = lineLength bs
+    go : (b : Bool) → passedOver l ≡ b → (k : Kind) → kindOf (unindented l) ≡ k
+        → pick b (unreadable (suc line) ls t) (unknownOr line k (unreadable (suc line) ls t)) ≡ none
+        → (unreadable (suc line) ls t ≡ none → (t ≡ []) × Spells ls (formsIn ls)) → (t ≡ []) × Spells (l ∷ ls) (consForm k (formsIn ls))
+    go true p Unknown q e ih = let r = ih e in (r .0, over l ls (formsIn ls) p (r .1))
+    go true p (Known f) q e ih = let z : _≡_ {A = ℕ} 0 1 = cc (p, known-kept l f q) in absurd (omega arith)
+    go false p Unknown q e ih = let z : _≡_ {A = ℕ} 0 1 = cc in absurd (omega arith)
+    go false p (Known f) q e ih = let r = ih e in let w = kind-written (unindented l) f .0 q in (r .0, form l f ls (formsIn ls) w (r .1))
 
-    go : (t : Bool)
-        → (n < length bs → split bs ≡ record { ended = take n bs ∷ split (drop (suc n) bs) .ended; tail = split (drop (suc n) bs) .tail })
-        → cond t 0 (suc n) < suc (length bs)
-        → cond t (record { ended = [] ∷ split bs .ended; tail = split bs .tail }) (pushByte b (split bs .ended) (split bs .tail))
-        ≡ record {
-          ended = take (cond t 0 (suc n)) (b ∷ bs) ∷ split (drop (suc (cond t 0 (suc n))) (b ∷ bs)) .ended;
-          tail = split (drop (suc (cond t 0 (suc n))) (b ∷ bs)) .tail;
-        }
-    go true ih h = refl
-    go false ih h = ap (λ (p : Split). pushByte b (p .ended) (p .tail)) (ih (omega arith))
+-- and lines that spell forms are read as those
+spelled-readable : (line : ℕ) (ls : List (List ℕ)) (fs : List Form) → Spells ls fs → (unreadable line ls [] ≡ none) × (formsIn ls ≡ fs)
+unfolding unreadable formsIn pick
+spelled-readable line _ _ nothing = (refl, refl)
+spelled-readable line _ _ (over l ls fs p s) =
+    let r = spelled-readable (suc line) ls fs s in
+    (rw p (r .0), rw (passed-unknown l p) (r .1))
+spelled-readable line _ _ (form l f ls fs w s) =
+    let r = spelled-readable (suc line) ls fs s in
+    let k = kind-written (unindented l) f .1 w in
+    (rw (spelled-kept l f (w .written), k) (r .0), rw k (ap (λ gs. f ∷ gs) (r .1)))
 
--- no line end
-pub split-tail : (l : List ℕ) → length l ≤ lineLength l → split l ≡ record { ended = []; tail = l }
-unfolding lineLength split
-split-tail [] h = refl
-split-tail (b ∷ bs) h = go (eqb b 10) (split-tail bs) h
-  where
-    go : (t : Bool) → (length bs ≤ lineLength bs → split bs ≡ record { ended = []; tail = bs }) → suc (length bs) ≤ cond t 0 (suc (lineLength bs))
-        → cond t (record { ended = [] ∷ split bs .ended; tail = split bs .tail }) (pushByte b (split bs .ended) (split bs .tail))
-        ≡ record { ended = []; tail = b ∷ bs }
-    go true ih h = absurd (omega arith)
-    go false ih h = ap (λ (p : Split). pushByte b (p .ended) (p .tail)) (ih (omega arith))
+pub spelled-forms : (ls : List (List ℕ)) (fs : List Form) → Spells ls fs → formsIn ls ≡ fs
+spelled-forms ls fs s = spelled-readable 1 ls fs s .1
 
--- a line without byte 10 in front of a text
-split-unbroken : (l rest : List ℕ) → (List·Memᴰ 10 l → ⊥)
-    → split (l ++ 10 ∷ rest) ≡ record { ended = l ∷ split rest .ended; tail = split rest .tail }
-unfolding split
-split-unbroken [] rest h = refl
-split-unbroken (b ∷ bs) rest h =
-    rw (ne-eqb b 10 (λ e. h (List·Memᴰ·head (sym e)))) (ap (λ (p : Split). pushByte b (p .ended) (p .tail)) (split-unbroken bs rest (λ m. h (List·Memᴰ·tail m))))
-
--- ended lines and what stands after them, as one text
-joined : List (List ℕ) → List ℕ → List ℕ
-joined [] t = t
-joined (l ∷ ls) t = l ++ 10 ∷ joined ls t
-
-split-joined : (l : List ℕ) → joined (split l .ended) (split l .tail) ≡ l
-unfolding split joined
-split-joined [] = refl
-split-joined (b ∷ bs) = go (eqb b 10) refl (split-joined bs)
-  where
-    push : (p : Split) → joined (pushByte b (p .ended) (p .tail) .ended) (pushByte b (p .ended) (p .tail) .tail) ≡ b ∷ joined (p .ended) (p .tail)
-    push p = pushed (p .ended) (p .tail)
-      where
-        pushed : (ls : List (List ℕ)) (t : List ℕ) → joined (pushByte b ls t .ended) (pushByte b ls t .tail) ≡ b ∷ joined ls t
-        pushed [] t = refl
-        pushed (l ∷ ls) t = refl
-
-    go : (t : Bool) → eqb b 10 ≡ t → joined (split bs .ended) (split bs .tail) ≡ bs
-        → joined (cond t (record { ended = [] ∷ split bs .ended; tail = split bs .tail }) (pushByte b (split bs .ended) (split bs .tail)) .ended)
-        (cond t (record { ended = [] ∷ split bs .ended; tail = split bs .tail }) (pushByte b (split bs .ended) (split bs .tail)) .tail)
-        ≡ b ∷ bs
-    go true e ih = cc (eqb-true b 10 e)
-    go false e ih = push (split bs) ∙ ap (λ x. b ∷ x) ih
-
--- lines of which none is unreadable are the text of their forms
-readable-joined : (line : ℕ) (ls : List (List ℕ)) (t : List ℕ) → unreadable line ls t ≡ none → IsText (joined ls t) (formsIn ls)
-unfolding unreadable formsIn joined textOf
-readable-joined line [] [] e = record { small = λ f m. absurd (List·Memᴰ·not-nil m); written = refl }
-readable-joined line [] (b ∷ bs) e = let z : _≡_ {A = ℕ} 0 1 = cc in absurd (omega arith)
-readable-joined line (l ∷ ls) t e = go (kindOf l) refl e (readable-joined (suc line) ls t)
-  where
-    go : (k : Kind) → kindOf l ≡ k → unknownOr line k (unreadable (suc line) ls t) ≡ none
-        → (unreadable (suc line) ls t ≡ none → IsText (joined ls t) (formsIn ls)) → IsText (l ++ 10 ∷ joined ls t) (consForm k (formsIn ls))
-    go Unknown p e ih = let z : _≡_ {A = ℕ} 0 1 = cc in absurd (omega arith)
-    go (Known f) p e ih =
-        let w = kind-written l f .0 p in
-        let r = ih e in
-        record {
-          small = λ g m. ⊎-elim (λ (q : g ≡ f). subst (λ h. numberIn h < 1000) (sym q) (w .small)) (r .small g) (List·Memᴰ·cases-cons m);
-          written = cc (w .written, r .written);
-        }
-
--- a text with no unreadable line is the text of its forms
-pub readable-written : (text : List ℕ) → unreadableLine text ≡ none → IsText text (formsOf text)
+-- Rule 3 and the forms of a text, both ways
+pub text-written : (text : List ℕ) (fs : List Form) → ((unreadableLine text ≡ none) × (formsOf text ≡ fs)) ↔ IsText text fs
 unfolding unreadableLine formsOf
-readable-written text e = subst (λ l. IsText l (formsIn (split text .ended))) (split-joined text) (readable-joined 1 (split text .ended) (split text .tail) e)
+text-written text fs = (there, back)
+  where
+    there : (unreadable 1 (split text .ended) (split text .tail) ≡ none) × (formsIn (split text .ended) ≡ fs) → IsText text fs
+    there h =
+        let r = readable-spelled 1 (split text .ended) (split text .tail) (h .0) in
+        record { all-ended = r .0; spelled = subst (Spells (split text .ended)) (h .1) (r .1) }
+
+    back : IsText text fs → (unreadable 1 (split text .ended) (split text .tail) ≡ none) × (formsIn (split text .ended) ≡ fs)
+    back w = rw (w .all-ended) (spelled-readable 1 (split text .ended) fs (w .spelled))
+
+pub readable-written : (text : List ℕ) → unreadableLine text ≡ none → IsText text (formsOf text)
+readable-written text e = text-written text (formsOf text) .0 (e, refl)
 
 -- the text of forms is read as those forms
 lines-readable : (line : ℕ) (fs : List Form) → ((f : Form) → List·Memᴰ f fs → numberIn f < 1000)
     → (formsIn (split (textOf fs) .ended) ≡ fs) × (unreadable line (split (textOf fs) .ended) (split (textOf fs) .tail) ≡ none)
-unfolding textOf formsIn unreadable split
+unfolding textOf formsIn unreadable split pick
 lines-readable line [] h = (refl, refl)
 lines-readable line (f ∷ fs) h =
     let s = split-unbroken (write f) (textOf fs) (write-unbroken f) in
     let k = kind-written (write f) f .1 (record { small = h f (List·Memᴰ·head refl); written = refl }) in
     let r = lines-readable (suc line) fs (λ g m. h g (List·Memᴰ·tail m)) in
-    (rw (s, k) (ap (λ gs. f ∷ gs) (r .0)), rw (s, k) (r .1))
+    (rw (s, write-unindented f, k) (ap (λ gs. f ∷ gs) (r .0)), rw (s, spelled-kept (write f) f (write-unindented f), write-unindented f, k) (r .1))
 
 pub written-readable : (fs : List Form) → ((f : Form) → List·Memᴰ f fs → numberIn f < 1000) → (formsOf (textOf fs) ≡ fs) × (unreadableLine (textOf fs) ≡ none)
 unfolding formsOf unreadableLine
 written-readable fs h = lines-readable 1 fs h
 
--- both ways
-pub text-written : (text : List ℕ) (fs : List Form) → ((unreadableLine text ≡ none) × (formsOf text ≡ fs)) ↔ IsText text fs
-text-written text fs = (λ r. subst (IsText text) (r .1) (readable-written text (r .0)), back)
-  where
-    back : IsText text fs → (unreadableLine text ≡ none) × (formsOf text ≡ fs)
-    back w = let r = written-readable fs (w .small) in rw (w .written) (r .1, r .0)
+-- the text of a readable text's forms is no longer than the text
+line-le : (a b x y : List ℕ) → length a ≤ length b → length x ≤ length y → length (a ++ 10 ∷ x) ≤ length (b ++ 10 ∷ y)
+line-le a b x y h k = omega (arith, length-append a (10 ∷ x), length-append b (10 ∷ y))
+
+line-more : (b x y : List ℕ) → length x ≤ length y → length x ≤ length (b ++ 10 ∷ y)
+line-more b x y k = omega (arith, length-append b (10 ∷ y))
+
+spelled-length : (ls : List (List ℕ)) (fs : List Form) (t : List ℕ) → Spells ls fs → length (textOf fs) ≤ length (joined ls t)
+unfolding joined textOf
+spelled-length _ _ t nothing = omega arith
+spelled-length _ _ t (over l ls fs p s) = line-more l (textOf fs) (joined ls t) (spelled-length ls fs t s)
+spelled-length _ _ t (form l f ls fs w s) =
+    line-le (write f) l (textOf fs) (joined ls t) (omega (arith, unindented-length l, ap length (w .written))) (spelled-length ls fs t s)
+
+pub written-shorter : (text : List ℕ) → unreadableLine text ≡ none → length (textOf (formsOf text)) ≤ length text
+written-shorter text e =
+    subst (λ l. length (textOf (formsOf text)) ≤ length l) (split-joined text) (spelled-length (split text .ended) (formsOf text) (split text .tail) (readable-written text e .spelled))
 
 -- a form takes at least two bytes, its own and the line's end
 few-joined : (ls : List (List ℕ)) (t : List ℕ) → length (formsIn ls) * 2 ≤ length (joined ls t)
 unfolding formsIn joined
 few-joined [] t = omega arith
-few-joined (l ∷ ls) t = go (kindOf l) refl (few-joined ls t)
+few-joined (l ∷ ls) t = go (kindOf (unindented l)) refl (few-joined ls t)
   where
-    go : (k : Kind) → kindOf l ≡ k → length (formsIn ls) * 2 ≤ length (joined ls t) → length (consForm k (formsIn ls)) * 2 ≤ length (l ++ 10 ∷ joined ls t)
+    go : (k : Kind) → kindOf (unindented l) ≡ k → length (formsIn ls) * 2 ≤ length (joined ls t) → length (consForm k (formsIn ls)) * 2 ≤ length (l ++ 10 ∷ joined ls t)
     go Unknown p h = rw length-append (omega arith)
-    go (Known f) p h = let w = kind-written l f .0 p in rw length-append (omega (arith, write-some f, ap length (w .written)))
+    go (Known f) p h = let w = kind-written (unindented l) f .0 p in rw length-append (omega (arith, write-some f, ap length (w .written), unindented-length l))
 
 pub few-forms : (text : List ℕ) → length (formsOf text) * 2 ≤ length text
 unfolding formsOf

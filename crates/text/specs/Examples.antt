@@ -1,4 +1,4 @@
--- Worked lines and worked texts: a table of each, with one computed fact about it.
+-- Worked lines, by what remains of them behind their spaces, worked texts, and the lines of their forms: a table of each, with one computed fact about it.
 use Prim.Native.Nat.{ℕ}
 use mathlib.Core.List.{List, [], _∷_, _++_, map}
 use mathlib.Core.Option.{Option, none, some}
@@ -10,51 +10,51 @@ use Rattle.text.specs.declared.Kind.{Kind}
 use Rattle.text.specs.declared.Kind.the-variants.{Known, Unknown}
 use Rattle.text.specs.Kinds.{digitOf, leadingOf, appendDigit, numberOf, afterKeyword, betweenKeyword, keywordKind}
 use Rattle.text.specs.Kinds.{numbered, holdKind, callKind, threadKind, planKind, twoKind, kindOf}
-use Rattle.text.specs.Lines.{split, unreadable, unreadableLine}
+use Rattle.text.specs.Lines.{split, unindented, passedOver, unreadable, unreadableLine, lineFor, lineOf}
 
 record Example : Type 0 where
-  line : List ℕ
+  rest : List ℕ
   kind : Kind
 
 examples : List Example
 examples =
-    record { line = bytes "(plan"; kind = Known Plan } ∷
-    record { line = bytes "(proc"; kind = Known Proc } ∷
-    record { line = bytes "(thread 999)"; kind = Known (Thread 999) } ∷
-    record { line = bytes "(thread 999"; kind = Unknown } ∷
-    record { line = bytes "(hold 12"; kind = Known (Hold 12) } ∷
-    record { line = bytes "(hold 0"; kind = Known (Hold 0) } ∷
-    record { line = bytes "(hold 012"; kind = Unknown } ∷
-    record { line = bytes "(hold 00"; kind = Unknown } ∷
-    record { line = bytes "(hold 1000"; kind = Unknown } ∷
-    record { line = bytes "(hold "; kind = Unknown } ∷
-    record { line = bytes "(hold 12)"; kind = Unknown } ∷
-    record { line = bytes "(hold  1"; kind = Unknown } ∷
-    record { line = bytes "(hold +1"; kind = Unknown } ∷
-    record { line = bytes "(call 7)"; kind = Known (Call 7) } ∷
-    record { line = bytes "(call 7"; kind = Unknown } ∷
-    record { line = bytes "(call )"; kind = Unknown } ∷
-    record { line = bytes "(Call 7)"; kind = Unknown } ∷
-    record { line = bytes "(skip)"; kind = Known Skip } ∷
-    record { line = bytes "(skip) "; kind = Unknown } ∷
-    record { line = bytes " (skip)"; kind = Unknown } ∷
-    record { line = bytes "(skip"; kind = Unknown } ∷
-    record { line = bytes "(skip)" ++ (13 ∷ []); kind = Unknown } ∷
-    record { line = bytes "(skip)" ++ (0 ∷ []); kind = Unknown } ∷
-    record { line = 9 ∷ bytes "(skip)"; kind = Unknown } ∷
-    record { line = bytes "(loop"; kind = Known Loop } ∷
-    record { line = bytes "(either"; kind = Known Either } ∷
-    record { line = bytes "(one"; kind = Known One } ∷
-    record { line = bytes "(two"; kind = Known Two } ∷
-    record { line = bytes "(two)"; kind = Unknown } ∷
-    record { line = bytes ")"; kind = Known Close } ∷
-    record { line = bytes "))"; kind = Unknown } ∷
-    record { line = 0 ∷ []; kind = Unknown } ∷
-    record { line = 0 ∷ 0 ∷ []; kind = Unknown } ∷
-    record { line = []; kind = Unknown } ∷
+    record { rest = bytes "(plan"; kind = Known Plan } ∷
+    record { rest = bytes "(proc"; kind = Known Proc } ∷
+    record { rest = bytes "(thread 999)"; kind = Known (Thread 999) } ∷
+    record { rest = bytes "(thread 999"; kind = Unknown } ∷
+    record { rest = bytes "(hold 12"; kind = Known (Hold 12) } ∷
+    record { rest = bytes "(hold 0"; kind = Known (Hold 0) } ∷
+    record { rest = bytes "(hold 012"; kind = Unknown } ∷
+    record { rest = bytes "(hold 00"; kind = Unknown } ∷
+    record { rest = bytes "(hold 1000"; kind = Unknown } ∷
+    record { rest = bytes "(hold "; kind = Unknown } ∷
+    record { rest = bytes "(hold 12)"; kind = Unknown } ∷
+    record { rest = bytes "(hold  1"; kind = Unknown } ∷
+    record { rest = bytes "(hold +1"; kind = Unknown } ∷
+    record { rest = bytes "(call 7)"; kind = Known (Call 7) } ∷
+    record { rest = bytes "(call 7"; kind = Unknown } ∷
+    record { rest = bytes "(call )"; kind = Unknown } ∷
+    record { rest = bytes "(Call 7)"; kind = Unknown } ∷
+    record { rest = bytes "(skip)"; kind = Known Skip } ∷
+    record { rest = bytes "(skip) "; kind = Unknown } ∷
+    record { rest = bytes " (skip)"; kind = Unknown } ∷
+    record { rest = bytes "(skip"; kind = Unknown } ∷
+    record { rest = bytes "(skip)" ++ (13 ∷ []); kind = Unknown } ∷
+    record { rest = bytes "(skip)" ++ (0 ∷ []); kind = Unknown } ∷
+    record { rest = 9 ∷ bytes "(skip)"; kind = Unknown } ∷
+    record { rest = bytes "(loop"; kind = Known Loop } ∷
+    record { rest = bytes "(either"; kind = Known Either } ∷
+    record { rest = bytes "(one"; kind = Known One } ∷
+    record { rest = bytes "(two"; kind = Known Two } ∷
+    record { rest = bytes "(two)"; kind = Unknown } ∷
+    record { rest = bytes ")"; kind = Known Close } ∷
+    record { rest = bytes "))"; kind = Unknown } ∷
+    record { rest = 0 ∷ []; kind = Unknown } ∷
+    record { rest = 0 ∷ 0 ∷ []; kind = Unknown } ∷
+    record { rest = []; kind = Unknown } ∷
     []
 
-examples-right : map (λ e. kindOf (e .line)) examples ≡ map (λ e. e .kind) examples
+examples-right : map (λ e. kindOf (e .rest)) examples ≡ map (λ e. e .kind) examples
 unfolding examples kindOf planKind twoKind holdKind callKind threadKind keywordKind numbered betweenKeyword afterKeyword numberOf appendDigit leadingOf digitOf pick equal
 examples-right = refl
 
@@ -73,10 +73,41 @@ readings =
     record { text = ended (bytes "(plan") ++ ended (bytes "(proc") ++ ended (bytes ")"); unreadable = none } ∷
     record { text = ended (bytes "(plan") ++ bytes "(proc"; unreadable = some 2 } ∷
     record { text = ended (bytes "(plan") ++ ended (bytes "(prod") ++ bytes ")"; unreadable = some 2 } ∷
-    record { text = ended (bytes "(plan") ++ ended []; unreadable = some 2 } ∷
-    record { text = ended []; unreadable = some 1 } ∷
+    record { text = ended (bytes "(plan") ++ ended []; unreadable = none } ∷
+    record { text = ended (bytes "  ; (prod") ++ ended (bytes "  (plan") ++ ended (bytes "   ") ++ ended (bytes ";"); unreadable = none } ∷
+    record { text = ended []; unreadable = none } ∷
+    record { text = ended (9 ∷ []); unreadable = some 1 } ∷
+    record { text = ended (9 ∷ bytes "; x"); unreadable = some 1 } ∷
+    record { text = ended [] ++ ended (13 ∷ []); unreadable = some 2 } ∷
+    record { text = ended (bytes "(plan; x"); unreadable = some 1 } ∷
+    record { text = ended (bytes "; x") ++ ended (bytes " (plan "); unreadable = some 2 } ∷
+    record { text = ended (bytes "(plan") ++ bytes "; x"; unreadable = some 2 } ∷
+    record { text = ended (bytes "(plan") ++ ended [] ++ bytes " "; unreadable = some 3 } ∷
     []
 
 readings-right : map (λ r. unreadableLine (r .text)) readings ≡ map (λ r. r .unreadable) readings
-unfolding readings unreadableLine unreadable split kindOf planKind keywordKind pick equal
+unfolding readings unreadableLine unreadable split unindented passedOver kindOf planKind keywordKind pick equal
 readings-right = refl
+
+-- form k of a text, and its line
+record Numbered : Type 0 where
+  text : List ℕ
+  k : ℕ
+  line : ℕ
+
+abbrev shortPlan : List ℕ
+shortPlan = ended (bytes "; x") ++ ended (bytes "(plan") ++ ended [] ++ ended (bytes "  ;") ++ ended (bytes "   (proc") ++ ended (bytes ")") ++ ended (bytes "  ")
+
+numberedForms : List Numbered
+numberedForms =
+    record { text = shortPlan; k = 1; line = 2 } ∷
+    record { text = shortPlan; k = 2; line = 5 } ∷
+    record { text = shortPlan; k = 3; line = 6 } ∷
+    record { text = shortPlan; k = 4; line = 8 } ∷
+    record { text = []; k = 1; line = 1 } ∷
+    record { text = ended []; k = 1; line = 2 } ∷
+    []
+
+numbered-right : map (λ n. lineOf (n .text) (n .k)) numberedForms ≡ map (λ n. n .line) numberedForms
+unfolding numberedForms lineOf lineFor split unindented passedOver pick
+numbered-right = refl

@@ -15,7 +15,7 @@ decimal n =
     (cond (ltb n 100) ((48 + n / 10) ∷ (48 + n % 10) ∷ [])
     ((48 + n / 100) ∷ (48 + n / 10 % 10) ∷ (48 + n % 10) ∷ []))
 
--- "One form a line, .. no other blanks than those shown": the bytes of a form's line, without the byte 10 that ends it
+-- "One form a line, .. no other blanks than those shown": the bytes of a form, without spaces before it and the byte 10 that ends its line
 unfoldable pub write : Form → List ℕ
 write Plan = bytes "(plan"
 write Proc = bytes "(proc"
@@ -96,7 +96,7 @@ isBracket f = kindIn (Hold 0 ∷ Loop ∷ Either ∷ One ∷ Two ∷ []) f
 abbrev pub beginsOther : Form → Bool
 beginsOther f = kindIn (Plan ∷ Proc ∷ Thread 0 ∷ []) f
 
--- a line is a form exactly when it is the bytes in which that form is written (theorem `kind-written`)
-pub record IsForm (line : List ℕ) (f : Form) : Type 0 where
+-- what remains of a line is a form exactly when it is the bytes in which that form is written (theorem `kind-written`)
+pub record IsForm (rest : List ℕ) (f : Form) : Type 0 where
   pub small : numberIn f < 1000
-  pub written : line ≡ write f
+  pub written : rest ≡ write f

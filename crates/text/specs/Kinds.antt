@@ -1,4 +1,4 @@
--- The kind of a line as a decision over its first letters and its digits. That it finds exactly the lines that are written forms is the theorem `kind-written`.
+-- The kind of what remains of a line, as a decision over its first letters and its digits. That it finds exactly the written forms is the theorem `kind-written`.
 -- 01, "The plan text": "A line's kind follows from its bytes alone; its place is judged afterwards."
 use mathlib.Core.Bool.{cond}
 use Prim.Native.Nat.{ℕ, _+_, _-_, _*_}

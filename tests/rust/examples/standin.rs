@@ -1,6 +1,8 @@
 //! The C functions of the library made of the reference, to try the C program
 //! and the comparison without the library.
 
+use std::slice::{from_raw_parts, from_raw_parts_mut};
+
 use lockplan_tests::standin;
 
 /// # Safety
@@ -12,8 +14,7 @@ pub unsafe extern "C" fn lockplan_verdict(
     out: *mut u8,
     out_len: usize,
 ) -> u64 {
-    let text = std::slice::from_raw_parts(text, text_len);
-    standin::verdict(text, std::slice::from_raw_parts_mut(out, out_len))
+    standin::verdict(from_raw_parts(text, text_len), from_raw_parts_mut(out, out_len))
 }
 
 /// # Safety
@@ -26,6 +27,17 @@ pub unsafe extern "C" fn lockplan_pairs(
     out: *mut u8,
     out_len: usize,
 ) -> u64 {
-    let text = std::slice::from_raw_parts(text, text_len);
-    standin::pairs(text, proc, std::slice::from_raw_parts_mut(out, out_len))
+    standin::pairs(from_raw_parts(text, text_len), proc, from_raw_parts_mut(out, out_len))
+}
+
+/// # Safety
+/// `text` and `out` point to as many bytes as their lengths say.
+#[no_mangle]
+pub unsafe extern "C" fn lockplan_tidy(
+    text: *const u8,
+    text_len: usize,
+    out: *mut u8,
+    out_len: usize,
+) -> u64 {
+    standin::tidy(from_raw_parts(text, text_len), from_raw_parts_mut(out, out_len))
 }

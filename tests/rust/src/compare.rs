@@ -1,14 +1,18 @@
 //! The comparison of the library with the reference on one text.
 
-use crate::answer::{Answer, DEADLOCK, FREE, PAIRS, REFUSED};
+use crate::answer::{Answer, COPIED, DEADLOCK, FREE, PAIRS, REFUSED};
 use crate::gateway::replay;
 use crate::guard::Pages;
 use crate::random::Random;
 use crate::reference::{read, Plan, Refusal, MAX_PAIRS, SCHEDULE_ENTRIES};
+use crate::tidy::{tidy, COPY_BYTES};
+use crate::twins::Twins;
 use crate::verdict::{conflict, pairs_of_threads};
 
 /// Text and output.
 pub type VerdictCall = fn(&[u8], &mut [u8]) -> u64;
+/// Text and output.
+pub type TidyCall = fn(&[u8], &mut [u8]) -> u64;
 /// Text, procedure and output.
 pub type PairsCall = fn(&[u8], u64, &mut [u8]) -> u64;
 
@@ -17,7 +21,19 @@ pub type PairsCall = fn(&[u8], u64, &mut [u8]) -> u64;
 pub struct Calls {
     pub verdict: VerdictCall,
     pub pairs: PairsCall,
+    pub tidy: TidyCall,
 }
+
+/// The least buffer of a call: its bytes, and those of one entry of it.
+#[derive(Clone, Copy)]
+struct Least {
+    bytes: usize,
+    entry: usize,
+}
+
+const PAIR_LIST: Least = Least { bytes: 8 * MAX_PAIRS, entry: 8 };
+const SCHEDULE: Least = Least { bytes: 2 * SCHEDULE_ENTRIES, entry: 2 };
+const COPY: Least = Least { bytes: COPY_BYTES, entry: 1 };
 
 /// What a text gave, for the summary.
 #[derive(Clone, Copy, Debug, PartialEq, Eq, PartialOrd, Ord)]
@@ -32,8 +48,19 @@ pub enum Outcome {
 pub struct Counts {
     pub pair_lists: u64,
     pub verdicts: u64,
+    pub copies: u64,
     pub words: u64,
     pub entries: u64,
+    pub copied: u64,
+}
+
+/// A text and what the reference says of it.
+struct Said {
+    text: Vec<u8>,
+    plan: Result<Plan, Refusal>,
+    outcome: Outcome,
+    /// The tidy copy, empty where the text is refused.
+    copy: Vec<u8>,
 }
 
 /// The memory lent to the calls.
@@ -42,38 +69,43 @@ pub struct Bench {
     out: Pages,
     /// What `out` held before the call.
     before: Vec<u8>,
-    /// The last text and what the reference says of it.
-    last: Option<(Vec<u8>, Result<Plan, Refusal>, Outcome)>,
+    /// What the reference says of the last text.
+    last: Option<Said>,
     /// Whether buffers also begin and end at inaccessible memory.
     edges: bool,
     pub counts: Counts,
+    pub twins: Twins,
 }
 
 impl Bench {
     pub fn new(edges: bool) -> Bench {
         let (text, mut out) = (Pages::new(1 << 20), Pages::new(65_536));
         let before = vec![0; out.bytes().len()];
-        Bench { text, out, before, last: None, edges, counts: Counts::default() }
+        Bench { text, out, before, last: None, edges, counts: Counts::default(), twins: Twins::default() }
     }
 
     /// Compares the calls on a text; the lent lengths and places come from `random`.
     pub fn check(&mut self, calls: Calls, text: &[u8], random: &mut Random) -> Result<Outcome, String> {
-        let (known, plan, outcome) = match self.last.take() {
-            Some(last) if last.0 == text => last,
-            _ => said(text),
+        let said = match self.last.take() {
+            Some(last) if last.text == text => last,
+            _ => say(text),
         };
-        for proc in requested(&plan, random) {
-            let lent = self.lend(text, 8 * MAX_PAIRS, random);
-            self.pairs(calls.pairs, &plan, proc, lent)?;
+        for proc in requested(&said.plan, random) {
+            let lent = self.lend(text, PAIR_LIST, random);
+            self.pairs(calls.pairs, &said.plan, proc, lent)?;
         }
-        let lent = self.lend(text, 2 * SCHEDULE_ENTRIES, random);
-        self.verdict(calls.verdict, &plan, outcome == Outcome::Deadlock, lent)?;
-        self.last = Some((known, plan, outcome));
+        let lent = self.lend(text, SCHEDULE, random);
+        self.verdict(calls.verdict, &said.plan, said.outcome == Outcome::Deadlock, lent)?;
+        let lent = self.lend(text, COPY, random);
+        self.tidy(calls.tidy, &said, lent)?;
+        self.twins.check(calls, text, &said.plan, random)?;
+        let outcome = said.outcome;
+        self.last = Some(said);
         Ok(outcome)
     }
 
     /// Places a text and an output part of a random length, mostly long enough.
-    fn lend(&mut self, text: &[u8], least: usize, random: &mut Random) -> Lent {
+    fn lend(&mut self, text: &[u8], least: Least, random: &mut Random) -> Lent {
         let room = self.text.bytes();
         let start = match random.below(3) {
             0 => 0,
@@ -82,7 +114,7 @@ impl Bench {
         };
         room[start..start + text.len()].copy_from_slice(text);
         let room = self.out.bytes();
-        let entry = if least == 8 * MAX_PAIRS { 8 } else { 2 };
+        let Least { bytes: least, entry } = least;
         let len = match random.below(16) {
             0 => 0,
             1 => least - 1,
@@ -110,11 +142,17 @@ impl Bench {
     }
 
     /// What the call must answer by the lent length and the text, if it is refused.
-    fn refusal(plan: &Result<Plan, Refusal>, lent: &Lent, least: usize) -> Option<Refusal> {
-        if lent.len < least {
+    fn refusal(plan: &Result<Plan, Refusal>, lent: &Lent, least: Least) -> Option<Refusal> {
+        if lent.len < least.bytes {
             return Some(Refusal { rule: 1, line: 0 });
         }
         plan.as_ref().err().copied()
+    }
+
+    /// A call on the memory that is lent to it.
+    fn call(&mut self, lent: &Lent, call: impl FnOnce(&[u8], &mut [u8]) -> u64) -> u64 {
+        let text = &self.text.bytes()[lent.start..lent.start + lent.text.len()];
+        call(text, &mut self.out.bytes()[lent.out..lent.out + lent.len])
     }
 
     fn pairs(
@@ -125,13 +163,10 @@ impl Bench {
         lent: Lent,
     ) -> Result<(), String> {
         self.counts.pair_lists += 1;
-        let number = {
-            let text = &self.text.bytes()[lent.start..lent.start + lent.text.len()];
-            call(text, proc, &mut self.out.bytes()[lent.out..lent.out + lent.len])
-        };
+        let number = self.call(&lent, |text, out| call(text, proc, out));
         let what = format!("pairs of procedure {proc}, {} bytes lent at offset {}", lent.len, lent.out);
         let mut expected = std::mem::take(&mut self.before);
-        let refusal = Bench::refusal(plan, &lent, 8 * MAX_PAIRS);
+        let refusal = Bench::refusal(plan, &lent, PAIR_LIST);
         let listed = match plan {
             Ok(plan) if proc < plan.pairs.len() as u64 => Some(&plan.pairs[proc as usize]),
             _ => None,
@@ -148,11 +183,7 @@ impl Bench {
                 Answer { kind: PAIRS, a: 0, b: pairs.len() as u64 }
             }
         };
-        let result = if number == answer.number() {
-            self.same_memory(&expected, &lent)
-        } else {
-            Err(format!("answer {:?}, not {:?}", Answer::new(number), answer))
-        };
+        let result = same_answer(number, answer).and_then(|()| self.same_memory(&expected, &lent));
         self.before = expected;
         result.map_err(|message| format!("{what}: {message}"))
     }
@@ -165,13 +196,10 @@ impl Bench {
         lent: Lent,
     ) -> Result<(), String> {
         self.counts.verdicts += 1;
-        let number = {
-            let text = &self.text.bytes()[lent.start..lent.start + lent.text.len()];
-            call(text, &mut self.out.bytes()[lent.out..lent.out + lent.len])
-        };
+        let number = self.call(&lent, call);
         let what = format!("verdict, {} bytes lent at offset {}", lent.len, lent.out);
         let mut expected = std::mem::take(&mut self.before);
-        let refusal = Bench::refusal(plan, &lent, 2 * SCHEDULE_ENTRIES);
+        let refusal = Bench::refusal(plan, &lent, SCHEDULE);
         let answer = Answer::new(number);
         let result = match (refusal, plan) {
             (Some(refusal), _) => same_answer(number, Answer::refused(refusal)),
@@ -179,6 +207,24 @@ impl Bench {
             (None, _) => same_answer(number, Answer { kind: FREE, a: 0, b: 0 }),
         };
         let result = result.and_then(|()| self.same_memory(&expected, &lent));
+        self.before = expected;
+        result.map_err(|message| format!("{what}: {message}"))
+    }
+
+    fn tidy(&mut self, call: TidyCall, said: &Said, lent: Lent) -> Result<(), String> {
+        self.counts.copies += 1;
+        let number = self.call(&lent, call);
+        let what = format!("tidy copy, {} bytes lent at offset {}", lent.len, lent.out);
+        let mut expected = std::mem::take(&mut self.before);
+        let answer = match Bench::refusal(&said.plan, &lent, COPY) {
+            Some(refusal) => Answer::refused(refusal),
+            None => {
+                expected[lent.out..lent.out + said.copy.len()].copy_from_slice(&said.copy);
+                self.counts.copied += said.copy.len() as u64;
+                Answer { kind: COPIED, a: 0, b: said.copy.len() as u64 }
+            }
+        };
+        let result = same_answer(number, answer).and_then(|()| self.same_memory(&expected, &lent));
         self.before = expected;
         result.map_err(|message| format!("{what}: {message}"))
     }
@@ -234,18 +280,19 @@ impl Bench {
 
 /// The outcome by the reference.
 pub fn outcome(text: &[u8]) -> Outcome {
-    said(text).2
+    say(text).outcome
 }
 
 /// What the reference says of a text.
-fn said(text: &[u8]) -> (Vec<u8>, Result<Plan, Refusal>, Outcome) {
+fn say(text: &[u8]) -> Said {
     let plan = read(text);
     let outcome = match &plan {
         Err(refusal) => Outcome::Refused(refusal.rule),
         Ok(plan) if conflict(&pairs_of_threads(plan)).is_some() => Outcome::Deadlock,
         Ok(_) => Outcome::Free,
     };
-    (text.to_vec(), plan, outcome)
+    let copy = plan.as_ref().map(tidy).unwrap_or_default();
+    Said { text: text.to_vec(), plan, outcome, copy }
 }
 
 fn same_answer(number: u64, expected: Answer) -> Result<(), String> {

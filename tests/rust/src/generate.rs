@@ -1,8 +1,9 @@
 //! Plan texts by a seed: right ones, small and near every limit, and damaged ones.
 
 use crate::families::{self, hold, nest, skips, Draft, Tree};
+use crate::indent::{self, indent, over, padded};
 use crate::random::Random;
-use crate::reference::read;
+use crate::reference::{read, MAX_BYTES};
 
 /// A generated text with the name of its kind.
 pub struct Case {
@@ -440,7 +441,7 @@ fn pairs_near_limit(random: &mut Random) -> Draft {
 }
 
 /// A right structure of an exact number of bytes.
-fn bytes(target: usize, random: &mut Random) -> Vec<u8> {
+pub fn bytes(target: usize, random: &mut Random) -> Vec<u8> {
     let mut text = b"(plan\n(proc\n".to_vec();
     let tail = b")\n(thread 0)\n)\n";
     loop {
@@ -599,7 +600,7 @@ fn lines(text: &[u8]) -> Vec<Vec<u8>> {
 }
 
 /// Lines that are nearly forms.
-const ODD_LINES: [&[u8]; 44] = [
+const ODD_LINES: [&[u8]; 58] = [
     b"",
     b" ",
     b"(",
@@ -644,6 +645,20 @@ const ODD_LINES: [&[u8]; 44] = [
     b"(one",
     b"(two",
     b"(hold \xb2",
+    b";",
+    b" ;",
+    b";(skip)",
+    b"  ; )",
+    b"\t;",
+    b"\t",
+    b" \t",
+    b"\r",
+    b"\0",
+    b"\t(skip)",
+    b" \r(skip)",
+    b"(skip);",
+    b"(skip) ;x",
+    b"( skip)",
 ];
 
 /// Damages a text once.
@@ -755,6 +770,24 @@ fn damage(text: Vec<u8>, random: &mut Random) -> Vec<u8> {
     all.concat()
 }
 
+/// A bare text with one change that mostly gives another accepted plan.
+pub fn neighbour(text: &[u8], random: &mut Random) -> Vec<u8> {
+    let mut all = lines(text);
+    let at = random.below(all.len());
+    let numbered = |line: &Vec<u8>| line.iter().any(u8::is_ascii_digit);
+    match random.below(4) {
+        0 | 1 => {
+            if let Some(line) = all[at..].iter_mut().find(|line| numbered(line)) {
+                let place = line.iter().position(u8::is_ascii_digit).expect("a digit");
+                line[place] = b'0' + random.below(4) as u8;
+            }
+        }
+        2 => all.insert(at, b"(skip)\n".to_vec()),
+        _ => all.swap(at, random.below(at + 1)),
+    }
+    all.concat()
+}
+
 /// A sequence of lines of right form in any order.
 fn shuffled_forms(random: &mut Random) -> Vec<u8> {
     let mut text = Vec::new();
@@ -839,6 +872,25 @@ pub fn beginnings(lines: usize) -> Vec<Vec<u8>> {
     all
 }
 
+/// The short texts again, with a line that is passed over at each place, or with
+/// spaces before each line, and with its last line not ended.
+pub fn beginnings_indented(lines: usize) -> Vec<Vec<u8>> {
+    let mut all = Vec::new();
+    for text in beginnings(lines) {
+        let own: Vec<&[u8]> = text.split_inclusive(|byte| *byte == 10).collect();
+        for at in 0..=own.len() {
+            for over in [b"\n".as_slice(), b"  \n", b";\n", b" ; )\n"] {
+                all.push([&own[..at], &[over], &own[at..]].concat().concat());
+            }
+        }
+        for over in [b";".as_slice(), b" "] {
+            all.push([&text, over].concat());
+        }
+        all.push(own.iter().flat_map(|line| [b" ", *line].concat()).collect());
+    }
+    all
+}
+
 /// Texts that hardly come from plans.
 fn noise(random: &mut Random) -> Vec<u8> {
     match random.below(8) {
@@ -878,8 +930,92 @@ fn noise(random: &mut Random) -> Vec<u8> {
     }
 }
 
+/// A bare text that breaks a rule from 3 to 10, most of them none before it.
+pub fn breaking(rule: u8, random: &mut Random) -> Vec<u8> {
+    let mut draft = plan(random, &TINY);
+    let proc = random.below(draft.procs.len());
+    match rule {
+        3 | 4 => {
+            let mut all = lines(&draft.text());
+            let at = random.below(all.len());
+            match (rule, random.below(3)) {
+                (3, _) => {
+                    let end = all[at].len() - 1;
+                    all[at].insert(end, *random.pick(b" ;\t)x"));
+                }
+                (_, 0) => all.truncate(at),
+                (_, 1) => drop(all.remove(at)),
+                (_, _) => all.insert(at, random.pick(&[b"(one\n", b"(two\n"]).to_vec()),
+            }
+            return all.concat();
+        }
+        5 => match random.below(4) {
+            0 => draft = many_procs(65),
+            1 => draft = many_statements(1_025, random),
+            2 => draft.threads.resize(random.between(7, 9), 0),
+            _ => draft = brackets(17, random),
+        },
+        6 => draft.procs[proc].push(hold(random.between(32, 999), vec![])),
+        7 => draft.procs[proc].push(Tree::Call(random.between(proc, 999))),
+        8 => draft.threads.push(random.between(draft.procs.len(), 999)),
+        9 if random.chance(50) => draft = doubling(random.between(9, 20)),
+        9 => draft = sized(1_025, random),
+        _ => draft.procs[proc].extend(couples(random.between(97, 120), random)),
+    }
+    draft.threads.truncate(if rule == 5 { 9 } else { 6 });
+    draft.text()
+}
+
+/// The same with lines that are passed over before the line that is named.
+fn breaking_indented(random: &mut Random) -> Vec<u8> {
+    let text = breaking(random.between(3, 10) as u8, random);
+    let mut first = over(20, random);
+    first.extend(indent(&text, random).text);
+    first
+}
+
+/// A text that what is passed over makes about as long as a text may be.
+fn padded_text(random: &mut Random) -> Vec<u8> {
+    let text = match random.below(4) {
+        0 => breaking(random.between(3, 10) as u8, random),
+        1 => cycles(random).text(),
+        _ => plan(random, &SMALL).text(),
+    };
+    let text = if random.chance(50) { indent(&text, random).text } else { text };
+    let length = *random.pick(&[MAX_BYTES - 1, MAX_BYTES, MAX_BYTES, MAX_BYTES + 1]);
+    if text.is_empty() {
+        return vec![10; length];
+    }
+    padded(&text, length, random)
+}
+
 /// One text of a seed.
 pub fn generate(random: &mut Random) -> Case {
+    match random.weighted(&[55, 25, 7, 5, 4, 3, 1]) {
+        0 => plain(random),
+        1 => Case { kind: "indented", text: indent(&plain(random).text, random).text },
+        2 => {
+            let draft = if random.chance(50) { plan(random, &SMALL) } else { cycles(random) };
+            let mut text = indent(&draft.text(), random).text;
+            for _ in 0..random.weighted(&[0, 4, 1]) {
+                if text.ends_with(b"\n") {
+                    text = indent::damage(&text, random);
+                }
+            }
+            Case { kind: "indented, broken", text }
+        }
+        3 => Case { kind: "indented, by rule", text: breaking_indented(random) },
+        4 => Case { kind: "padded", text: padded_text(random) },
+        5 => {
+            let text = indent(&plan(random, &SMALL).text(), random).text;
+            Case { kind: "indented, damaged", text: damage(text, random) }
+        }
+        _ => Case { kind: "formless", text: indent::formless(random) },
+    }
+}
+
+/// One text that is not indented, or only by a damage.
+fn plain(random: &mut Random) -> Case {
     let case = |kind, draft: Draft| Case { kind, text: draft.text() };
     match random.weighted(&[12, 12, 8, 8, 10, 8, 8, 5, 13, 5, 2, 8]) {
         0 => case("tiny", plan(random, &TINY)),

@@ -7,6 +7,8 @@ pub mod families;
 pub mod gateway;
 pub mod generate;
 pub mod guard;
+pub mod indent;
+pub mod lengths;
 #[cfg(feature = "library")]
 pub mod library;
 pub mod pairs;
@@ -16,4 +18,6 @@ pub mod reference;
 pub mod report;
 pub mod shelf;
 pub mod standin;
+pub mod tidy;
+pub mod twins;
 pub mod verdict;

@@ -5,6 +5,7 @@ use crate::compare::Calls;
 extern "C" {
     fn lockplan_verdict(text: *const u8, text_len: usize, out: *mut u8, out_len: usize) -> u64;
     fn lockplan_pairs(text: *const u8, text_len: usize, proc: u64, out: *mut u8, out_len: usize) -> u64;
+    fn lockplan_tidy(text: *const u8, text_len: usize, out: *mut u8, out_len: usize) -> u64;
 }
 
 pub fn verdict(text: &[u8], out: &mut [u8]) -> u64 {
@@ -17,4 +18,9 @@ pub fn pairs(text: &[u8], proc: u64, out: &mut [u8]) -> u64 {
     unsafe { lockplan_pairs(text.as_ptr(), text.len(), proc, out.as_mut_ptr(), out.len()) }
 }
 
-pub const CALLS: Calls = Calls { verdict, pairs };
+pub fn tidy(text: &[u8], out: &mut [u8]) -> u64 {
+    // SAFETY: as above.
+    unsafe { lockplan_tidy(text.as_ptr(), text.len(), out.as_mut_ptr(), out.len()) }
+}
+
+pub const CALLS: Calls = Calls { verdict, pairs, tidy };

@@ -49,7 +49,18 @@ fn number(digits: &[u8]) -> Option<u32> {
     Some(digits.iter().fold(0, |n, d| 10 * n + u32::from(d - b'0')))
 }
 
-/// The form of a line, its end not included.
+/// What remains of a line behind its leading spaces. A space is byte 32 alone.
+pub fn bare(line: &[u8]) -> &[u8] {
+    let spaces = line.iter().take_while(|byte| **byte == b' ').count();
+    &line[spaces..]
+}
+
+/// Whether a line of which this remains is passed over: nothing, or a remark.
+pub fn passed_over(rest: &[u8]) -> bool {
+    matches!(rest.first(), None | Some(b';'))
+}
+
+/// The form that these bytes are, a line without leading spaces and end.
 pub fn form(line: &[u8]) -> Option<Form> {
     let plain: [(&[u8], Form); 8] = [
         (b"(plan", Form::Plan),
@@ -94,7 +105,7 @@ pub struct Proc {
     pub body: BlockId,
     /// Line of `(proc`.
     pub line: usize,
-    /// Bytes from the `(proc` line to the end of its closing line.
+    /// Bytes from the start of the `(proc` line to the end of its closing line.
     pub start: usize,
     pub end: usize,
 }
@@ -128,10 +139,10 @@ pub fn read(text: &[u8]) -> Result<Plan, Refusal> {
     if text.len() > MAX_BYTES {
         return refuse(2, 0);
     }
-    let (forms, starts) = forms(text)?;
-    let mut plan = structure(&forms, &starts)?;
-    limits(&forms)?;
-    names(&forms, plan.procs.len())?;
+    let lines = lines(text)?;
+    let mut plan = structure(&lines)?;
+    limits(&lines.forms)?;
+    names(&lines.forms, plan.procs.len())?;
     plan.sizes = sizes(&plan);
     if let Some(proc) = plan.sizes.iter().position(|size| *size > MAX_SIZE) {
         return refuse(9, plan.procs[proc].line);
@@ -143,19 +154,45 @@ pub fn read(text: &[u8]) -> Result<Plan, Refusal> {
     Ok(plan)
 }
 
-/// Rule 3. The forms, and the offset of each line and of the end.
-pub fn forms(text: &[u8]) -> Result<(Vec<Form>, Vec<usize>), Refusal> {
-    let mut forms = Vec::new();
-    let mut starts = vec![0];
+/// A form, and the line of the file on which it stands.
+#[derive(Clone, Copy, Debug, PartialEq, Eq)]
+pub struct Line {
+    pub form: Form,
+    /// From 1; lines that are passed over count.
+    pub number: usize,
+    /// The bytes of the whole line, leading spaces and end included.
+    pub start: usize,
+    pub end: usize,
+}
+
+/// The forms of a text in order, and the number of all its lines.
+#[derive(Clone, Debug, Default)]
+pub struct Lines {
+    pub forms: Vec<Line>,
+    pub count: usize,
+}
+
+/// Rule 3: each line is ended, and passed over or a form behind its spaces.
+pub fn lines(text: &[u8]) -> Result<Lines, Refusal> {
+    let mut all = Lines::default();
+    let mut start = 0;
     for line in text.split_inclusive(|byte| *byte == 10) {
-        let found = line.strip_suffix(b"\n").and_then(form);
-        let Some(found) = found else {
-            return refuse(3, forms.len() + 1);
+        let end = start + line.len();
+        all.count += 1;
+        let number = all.count;
+        let Some(ended) = line.strip_suffix(b"\n") else {
+            return refuse(3, number);
         };
-        forms.push(found);
-        starts.push(starts[starts.len() - 1] + line.len());
+        let rest = bare(ended);
+        if !passed_over(rest) {
+            let Some(form) = form(rest) else {
+                return refuse(3, number);
+            };
+            all.forms.push(Line { form, number, start, end });
+        }
+        start = end;
     }
-    Ok((forms, starts))
+    Ok(all)
 }
 
 /// What is open at a place of the text.
@@ -170,7 +207,7 @@ enum Open {
 }
 
 /// Rule 4, and the tree; sizes and pairs are left empty.
-pub fn structure(forms: &[Form], starts: &[usize]) -> Result<Plan, Refusal> {
+pub fn structure(lines: &Lines) -> Result<Plan, Refusal> {
     let mut plan = Plan {
         blocks: Vec::new(),
         procs: Vec::new(),
@@ -179,14 +216,14 @@ pub fn structure(forms: &[Form], starts: &[usize]) -> Result<Plan, Refusal> {
         pairs: Vec::new(),
     };
     let mut open = vec![Open::Text { plans: 0 }];
-    for (index, form) in forms.iter().enumerate() {
-        if !place(&mut plan, &mut open, *form, index, starts) {
-            return refuse(4, index + 1);
+    for line in &lines.forms {
+        if !place(&mut plan, &mut open, *line) {
+            return refuse(4, line.number);
         }
     }
     match open.as_slice() {
         [Open::Text { plans: 1 }] => Ok(plan),
-        _ => refuse(4, forms.len() + 1),
+        _ => refuse(4, lines.count + 1),
     }
 }
 
@@ -196,7 +233,8 @@ fn new_block(plan: &mut Plan) -> BlockId {
 }
 
 /// Puts a line in its place; false where there is none.
-fn place(plan: &mut Plan, open: &mut Vec<Open>, form: Form, index: usize, starts: &[usize]) -> bool {
+fn place(plan: &mut Plan, open: &mut Vec<Open>, line: Line) -> bool {
+    let form = line.form;
     let top = open.last_mut().expect("the text stays open");
     match top {
         Open::Text { plans } => {
@@ -209,8 +247,7 @@ fn place(plan: &mut Plan, open: &mut Vec<Open>, form: Form, index: usize, starts
         Open::Plan => match form {
             Form::Proc if plan.threads.is_empty() => {
                 let body = new_block(plan);
-                let (line, start) = (index + 1, starts[index]);
-                plan.procs.push(Proc { body, line, start, end: start });
+                plan.procs.push(Proc { body, line: line.number, start: line.start, end: line.end });
                 open.push(Open::Block(body));
             }
             Form::Thread(proc) if !plan.procs.is_empty() => plan.threads.push(proc as usize),
@@ -253,7 +290,7 @@ fn place(plan: &mut Plan, open: &mut Vec<Open>, form: Form, index: usize, starts
                 Form::Close if !plan.blocks[block].is_empty() => {
                     open.pop();
                     if let Some(Open::Plan) = open.last() {
-                        plan.procs.last_mut().expect("a procedure was open").end = starts[index + 1];
+                        plan.procs.last_mut().expect("a procedure was open").end = line.end;
                     }
                     return true;
                 }
@@ -266,10 +303,10 @@ fn place(plan: &mut Plan, open: &mut Vec<Open>, form: Form, index: usize, starts
 }
 
 /// Rule 5: the first line at which a count passes its limit.
-fn limits(forms: &[Form]) -> Result<(), Refusal> {
+fn limits(lines: &[Line]) -> Result<(), Refusal> {
     let (mut procs, mut statements, mut threads, mut brackets) = (0, 0, 0, 0_usize);
-    for (index, form) in forms.iter().enumerate() {
-        match form {
+    for line in lines {
+        match line.form {
             Form::Plan => {}
             Form::Proc => procs += 1,
             Form::Thread(_) => threads += 1,
@@ -287,30 +324,30 @@ fn limits(forms: &[Form]) -> Result<(), Refusal> {
             || threads > MAX_THREADS
             || brackets > MAX_BRACKETS
         {
-            return refuse(5, index + 1);
+            return refuse(5, line.number);
         }
     }
     Ok(())
 }
 
 /// Rules 6, 7 and 8.
-fn names(forms: &[Form], procs: usize) -> Result<(), Refusal> {
-    let first = |bad: &dyn Fn(&Form, usize) -> bool| {
+fn names(lines: &[Line], procs: usize) -> Result<(), Refusal> {
+    let first = |bad: &dyn Fn(Form, usize) -> bool| {
         let mut begun = 0;
-        forms.iter().position(|form| {
-            begun += usize::from(*form == Form::Proc);
-            bad(form, begun)
+        lines.iter().find(|line| {
+            begun += usize::from(line.form == Form::Proc);
+            bad(line.form, begun)
         })
     };
-    if let Some(at) = first(&|form, _| matches!(form, Form::Hold(lock) if *lock > MAX_LOCK)) {
-        return refuse(6, at + 1);
+    if let Some(line) = first(&|form, _| matches!(form, Form::Hold(lock) if lock > MAX_LOCK)) {
+        return refuse(6, line.number);
     }
     // The caller is procedure `begun - 1`.
-    if let Some(at) = first(&|form, begun| matches!(form, Form::Call(proc) if *proc as usize + 1 >= begun)) {
-        return refuse(7, at + 1);
+    if let Some(line) = first(&|form, begun| matches!(form, Form::Call(proc) if proc as usize + 1 >= begun)) {
+        return refuse(7, line.number);
     }
-    if let Some(at) = first(&|form, _| matches!(form, Form::Thread(proc) if *proc as usize >= procs)) {
-        return refuse(8, at + 1);
+    if let Some(line) = first(&|form, _| matches!(form, Form::Thread(proc) if proc as usize >= procs)) {
+        return refuse(8, line.number);
     }
     Ok(())
 }

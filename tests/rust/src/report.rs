@@ -83,7 +83,8 @@ pub fn check(text: &[u8], printed: &[u8]) -> Result<(), String> {
     same(printed, &accepted(&plan, &Verdict::Deadlock { schedule, stuck }))
 }
 
-fn same(printed: &[u8], expected: &[u8]) -> Result<(), String> {
+/// Whether the printed bytes are those that are expected.
+pub fn same(printed: &[u8], expected: &[u8]) -> Result<(), String> {
     if printed == expected {
         return Ok(());
     }

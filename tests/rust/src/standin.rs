@@ -1,10 +1,14 @@
-//! The two calls made of the reference, right or with a fault: what the
+//! The three calls made of the reference, right or with a fault: what the
 //! comparison has to accept and to find.
 
-use crate::answer::{Answer, DEADLOCK, FREE, PAIRS};
-use crate::compare::{PairsCall, VerdictCall};
-use crate::reference::{read, Refusal, MAX_PAIRS, SCHEDULE_ENTRIES};
-use crate::verdict::{judge, Verdict};
+use crate::answer::{Answer, COPIED, DEADLOCK, FREE, PAIRS};
+use crate::compare::{Calls, PairsCall, TidyCall, VerdictCall};
+use crate::reference::{bare, lines, passed_over, read, Refusal, MAX_BYTES, MAX_PAIRS, SCHEDULE_ENTRIES};
+use crate::tidy::{self, COPY_BYTES};
+use crate::verdict::{conflict, judge, pairs_of_threads, schedule, Verdict};
+
+/// The right ones.
+pub const CALLS: Calls = Calls { verdict, pairs, tidy };
 
 pub fn pairs(text: &[u8], proc: u64, out: &mut [u8]) -> u64 {
     if out.len() / 8 < MAX_PAIRS {
@@ -42,6 +46,114 @@ pub fn verdict(text: &[u8], out: &mut [u8]) -> u64 {
     }
 }
 
+pub fn tidy(text: &[u8], out: &mut [u8]) -> u64 {
+    if out.len() < COPY_BYTES {
+        return Answer::refused(Refusal { rule: 1, line: 0 }).number();
+    }
+    match read(text) {
+        Ok(plan) => put_copy(&tidy::tidy(&plan), out),
+        Err(refusal) => Answer::refused(refusal).number(),
+    }
+}
+
+/// Writes a copy, as much of it as there is room for.
+fn put_copy(copy: &[u8], out: &mut [u8]) -> u64 {
+    let length = copy.len().min(out.len());
+    out[..length].copy_from_slice(&copy[..length]);
+    Answer { kind: COPIED, a: 0, b: length as u64 }.number()
+}
+
+/// What is written of a line: the form behind its spaces, and its end.
+pub fn tidy_line(line: &[u8]) -> Option<&[u8]> {
+    let rest = bare(line);
+    (!passed_over(rest.strip_suffix(b"\n").unwrap_or(rest))).then_some(rest)
+}
+
+/// A copy made from the lines of a text.
+pub fn copy_by(text: &[u8], line: fn(&[u8]) -> Option<&[u8]>) -> Vec<u8> {
+    text.split_inclusive(|byte| *byte == 10).filter_map(line).flatten().copied().collect()
+}
+
+/// The tidy call with a copy made from the lines.
+fn tidy_by(text: &[u8], out: &mut [u8], line: fn(&[u8]) -> Option<&[u8]>) -> u64 {
+    let number = tidy(text, &mut out.to_vec());
+    if refused(number) {
+        number
+    } else {
+        put_copy(&copy_by(text, line), out)
+    }
+}
+
+/// A text whose lines, with their ends, are changed before it is read.
+fn lines_by(text: &[u8], change: fn(&[u8]) -> Vec<u8>) -> Vec<u8> {
+    text.split_inclusive(|byte| *byte == 10).flat_map(change).collect()
+}
+
+/// A text with its last line ended where it ends so.
+fn ended_where(text: &[u8], last: fn(&[u8]) -> bool) -> Vec<u8> {
+    let line = text.rsplit(|byte| *byte == 10).next().expect("a line at least");
+    let end: &[u8] = if !line.is_empty() && last(bare(line)) { b"\n" } else { b"" };
+    [text, end].concat()
+}
+
+fn tabs_as_spaces(line: &[u8]) -> Vec<u8> {
+    let blanks = line.iter().take_while(|byte| b" \t".contains(byte)).count();
+    [&vec![b' '; blanks], &line[blanks..]].concat()
+}
+
+fn without_returns(line: &[u8]) -> Vec<u8> {
+    line.strip_suffix(b"\r\n").map_or(line.to_vec(), |line| [line, b"\n"].concat())
+}
+
+fn without_blanks_behind(line: &[u8]) -> Vec<u8> {
+    let Some(ended) = line.strip_suffix(b"\n") else {
+        return line.to_vec();
+    };
+    let kept = ended.iter().rposition(|byte| *byte != b' ').map_or(0, |last| last + 1);
+    [&ended[..kept], b"\n"].concat()
+}
+
+fn without_remark(line: &[u8]) -> Vec<u8> {
+    match line.iter().position(|byte| *byte == b';') {
+        Some(at) if line.ends_with(b"\n") => {
+            let form = line[..at].iter().rposition(|byte| *byte != b' ').map_or(0, |last| last + 1);
+            [&line[..form], b"\n"].concat()
+        }
+        _ => line.to_vec(),
+    }
+}
+
+/// A refusal of rules 4 to 10 that names the number of a form for its line.
+fn forms_for_lines(text: &[u8], number: u64) -> u64 {
+    let answer = Answer::new(number);
+    match lines(text) {
+        Ok(lines) if refused(number) && (4..11).contains(&answer.a) => {
+            let before = lines.forms.iter().filter(|line| (line.number as u64) < answer.b).count();
+            Answer { b: before as u64 + 1, ..answer }.number()
+        }
+        _ => number,
+    }
+}
+
+/// A text that ends too early, refused behind its last form.
+fn behind_the_last_form(text: &[u8], number: u64) -> u64 {
+    let answer = Answer::new(number);
+    match lines(text) {
+        Ok(lines) if refused(number) && answer.a == 4 && answer.b > lines.count as u64 => {
+            let last = lines.forms.last().map_or(0, |line| line.number);
+            Answer { b: last as u64 + 1, ..answer }.number()
+        }
+        _ => number,
+    }
+}
+
+/// A text whose first line is empty, if it is passed over: refused 3 there.
+fn first_line_read(text: &[u8]) -> Option<u64> {
+    let line = text.split(|byte| *byte == 10).next().expect("a line at least");
+    let over = text.len() > line.len() && text.len() <= MAX_BYTES && passed_over(bare(line));
+    over.then_some(Answer::refused(Refusal { rule: 3, line: 1 }).number())
+}
+
 fn refused(number: u64) -> bool {
     Answer::new(number).kind == crate::answer::REFUSED
 }
@@ -51,7 +163,7 @@ fn found(number: u64) -> bool {
 }
 
 /// A pair list with a fault each.
-pub const FAULTY_PAIRS: [(&str, PairsCall); 15] = [
+pub const FAULTY_PAIRS: [(&str, PairsCall); 18] = [
     ("one more than there are", |text, proc, out| {
         let number = pairs(text, proc, out);
         if refused(number) {
@@ -150,10 +262,16 @@ pub const FAULTY_PAIRS: [(&str, PairsCall); 15] = [
             number
         }
     }),
+    ("forms counted for lines", |text, proc, out| forms_for_lines(text, pairs(text, proc, out))),
+    ("too early behind the last form", |text, proc, out| behind_the_last_form(text, pairs(text, proc, out))),
+    ("nothing passed over before the plan", |text, proc, out| match first_line_read(text) {
+        Some(number) if out.len() / 8 >= MAX_PAIRS => number,
+        _ => pairs(text, proc, out),
+    }),
 ];
 
 /// A verdict with a fault each.
-pub const FAULTY_VERDICTS: [(&str, VerdictCall); 14] = [
+pub const FAULTY_VERDICTS: [(&str, VerdictCall); 19] = [
     ("always free", |text, out| {
         let number = verdict(text, &mut out.to_vec());
         if found(number) {
@@ -269,5 +387,168 @@ pub const FAULTY_VERDICTS: [(&str, VerdictCall); 14] = [
         } else {
             verdict(text, out)
         }
+    }),
+    ("forms counted for lines", |text, out| forms_for_lines(text, verdict(text, out))),
+    ("too early behind the last form", |text, out| behind_the_last_form(text, verdict(text, out))),
+    ("tabs taken for spaces", |text, out| verdict(&lines_by(text, tabs_as_spaces), out)),
+    ("rule 2 over the forms alone", |text, out| match lines(text) {
+        Ok(_) if text.len() > MAX_BYTES => verdict(&copy_by(text, tidy_line), out),
+        _ => verdict(text, out),
+    }),
+    ("another schedule where the text is indented", |text, out| {
+        let number = verdict(text, &mut out.to_vec());
+        if !found(number) || !text.starts_with(b" ") && !text.starts_with(b";") {
+            return verdict(text, out);
+        }
+        let plan = read(text).expect("a deadlock is of a plan");
+        let mut pairs = pairs_of_threads(&plan);
+        pairs.iter_mut().for_each(|own| own.reverse());
+        let entries = schedule(&plan, &conflict(&pairs).expect("the order does not matter"));
+        let state = crate::gateway::replay(&plan, &entries).expect("a run");
+        for (entry, place) in entries.iter().zip(out.chunks_exact_mut(2)) {
+            place.copy_from_slice(&entry.to_le_bytes());
+        }
+        let a = u64::from(state.largest_stuck(&plan));
+        Answer { kind: DEADLOCK, a, b: entries.len() as u64 }.number()
+    }),
+];
+
+/// A tidy copy with a fault each.
+pub const FAULTY_TIDIES: [(&str, TidyCall); 31] = [
+    ("one byte more than written", |text, out| {
+        let number = tidy(text, out);
+        if refused(number) {
+            number
+        } else {
+            number + 65_536
+        }
+    }),
+    ("the last line not ended", |text, out| {
+        let mut copy = out.to_vec();
+        let number = tidy(text, &mut copy);
+        if refused(number) {
+            return number;
+        }
+        put_copy(&copy[..(number >> 16) as usize - 1], out)
+    }),
+    ("an untouched buffer", |text, out| tidy(text, &mut out.to_vec())),
+    ("the text as it stands", |text, out| tidy_by(text, out, |line| Some(line))),
+    ("indentation kept", |text, out| tidy_by(text, out, |line| tidy_line(line).map(|_| line))),
+    ("empty lines kept", |text, out| {
+        tidy_by(text, out, |line| if line == b"\n" { Some(line) } else { tidy_line(line) })
+    }),
+    ("remarks kept", |text, out| {
+        tidy_by(text, out, |line| if line.starts_with(b";") { Some(line) } else { tidy_line(line) })
+    }),
+    ("numbers cut to two digits", |text, out| {
+        let number = tidy(text, &mut out.to_vec());
+        if refused(number) {
+            return number;
+        }
+        let line = |line: &[u8]| match line {
+            [b'(', b'h', .., a, _, 10] if a.is_ascii_digit() => [&line[..line.len() - 2], b"\n"].concat(),
+            _ => line.to_vec(),
+        };
+        put_copy(&lines_by(&copy_by(text, tidy_line), line), out)
+    }),
+    ("an either's second block for the first", |text, out| {
+        let number = tidy(text, out);
+        if let Some(at) = out[..].windows(5).position(|line| line == b"(one\n") {
+            if !refused(number) {
+                out[at + 1..at + 4].copy_from_slice(b"two");
+            }
+        }
+        number
+    }),
+    ("a zero behind the copy", |text, out| {
+        let number = tidy(text, out);
+        if !refused(number) {
+            out[(number >> 16) as usize] = 0;
+        }
+        number
+    }),
+    ("the rest cleared", |text, out| {
+        let number = tidy(text, out);
+        if !refused(number) {
+            out[(number >> 16) as usize..].fill(0);
+        }
+        number
+    }),
+    ("the last byte written", |text, out| {
+        let number = tidy(text, out);
+        if let (false, Some(last)) = (refused(number), out.last_mut()) {
+            *last ^= 0x55;
+        }
+        number
+    }),
+    ("a byte behind the buffer written", |text, out| {
+        // SAFETY: none; the comparison keeps the byte accessible unless it faults.
+        unsafe { *out.as_mut_ptr().add(out.len()) ^= 0x55 };
+        tidy(text, out)
+    }),
+    ("a byte before the buffer written", |text, out| {
+        // SAFETY: as above.
+        unsafe { *out.as_mut_ptr().sub(1) ^= 0x55 };
+        tidy(text, out)
+    }),
+    ("written and then refused", |text, out| {
+        let number = tidy(text, out);
+        if let (true, Some(first)) = (refused(number), out.first_mut()) {
+            *first ^= 0x55;
+        }
+        number
+    }),
+    ("rule 1 behind the others", |text, out| {
+        let number = tidy(text, &mut [0; COPY_BYTES]);
+        if refused(number) {
+            number
+        } else {
+            tidy(text, out)
+        }
+    }),
+    ("rule 1 only where the copy does not fit", |text, out| {
+        let mut copy = vec![0; COPY_BYTES];
+        let number = tidy(text, &mut copy);
+        if refused(number) || (number >> 16) as usize > out.len() {
+            return tidy(text, out);
+        }
+        put_copy(&copy[..(number >> 16) as usize], out)
+    }),
+    ("a byte less is enough", |text, out| {
+        let mut longer = [&*out, &[0]].concat();
+        let number = tidy(text, &mut longer);
+        out.copy_from_slice(&longer[..out.len()]);
+        number
+    }),
+    ("a byte more is needed", |text, out| {
+        if out.len() == COPY_BYTES {
+            return tidy(text, &mut []);
+        }
+        tidy(text, out)
+    }),
+    ("a line too far", |text, out| {
+        let number = tidy(text, out);
+        if refused(number) && number >> 16 > 0 {
+            number + 65_536
+        } else {
+            number
+        }
+    }),
+    ("forms counted for lines", |text, out| forms_for_lines(text, tidy(text, out))),
+    ("too early behind the last form", |text, out| behind_the_last_form(text, tidy(text, out))),
+    ("rule 2 over the forms alone", |text, out| match lines(text) {
+        Ok(_) if text.len() > MAX_BYTES => tidy(&copy_by(text, tidy_line), out),
+        _ => tidy(text, out),
+    }),
+    ("tabs taken for spaces", |text, out| tidy(&lines_by(text, tabs_as_spaces), out)),
+    ("carriage returns passed over", |text, out| tidy(&lines_by(text, without_returns), out)),
+    ("blanks behind a form passed over", |text, out| tidy(&lines_by(text, without_blanks_behind), out)),
+    ("a remark behind a form passed over", |text, out| tidy(&lines_by(text, without_remark), out)),
+    ("a last remark not ended", |text, out| tidy(&ended_where(text, |rest| rest.starts_with(b";")), out)),
+    ("a last blank line not ended", |text, out| tidy(&ended_where(text, <[u8]>::is_empty), out)),
+    ("a last form not ended", |text, out| tidy(&ended_where(text, |rest| rest.starts_with(b")")), out)),
+    ("nothing passed over before the plan", |text, out| match first_line_read(text) {
+        Some(number) if out.len() >= COPY_BYTES => number,
+        _ => tidy(text, out),
     }),
 ];

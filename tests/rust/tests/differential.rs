@@ -20,16 +20,18 @@ mod differential {
     use std::time::Instant;
 
     use lockplan_tests::compare::{outcome, shorten, Bench};
-    use lockplan_tests::generate::{beginnings, generate, Case};
+    use lockplan_tests::generate::{beginnings, beginnings_indented, generate, Case};
     use lockplan_tests::library::CALLS;
     use lockplan_tests::random::Random;
-    use lockplan_tests::{families, guard, shelf};
+    use lockplan_tests::{families, guard, lengths, shelf};
 
     /// Buffers are lent to a fixed text this often.
     const LENT: u64 = 4;
 
-    /// Lines of the short texts that are all compared.
+    /// Lines of the short texts that are all compared, and of those that are
+    /// compared with something passed over at every place.
     const SHORT: usize = 7;
+    const SHORT_INDENTED: usize = 4;
 
     /// Differences after which the run ends.
     const ENOUGH: usize = 5;
@@ -88,12 +90,13 @@ mod differential {
             let text = std::fs::read(path).expect("a readable file");
             fixed.push(Case { kind: "file", text });
         } else {
-            let entries = shelf::shelf().into_iter().chain(shelf::others());
+            let entries = shelf::all().into_iter().chain(shelf::all_indented());
             fixed.extend(entries.map(|entry| Case { kind: "fixed", text: entry.text }));
             let all = families::all();
             fixed.extend(all.iter().map(|(_, draft, _)| Case { kind: "family", text: draft.text() }));
-            let short = beginnings(SHORT);
-            fixed.extend(short.into_iter().map(|text| Case { kind: "short", text }));
+            fixed.extend(lengths::all().into_iter().map(|long| Case { kind: "long", text: long.text }));
+            let short = beginnings(SHORT).into_iter().chain(beginnings_indented(SHORT_INDENTED));
+            fixed.extend(short.map(|text| Case { kind: "short", text }));
         }
         let numbers = match (&options.file, options.only) {
             (_, Some(only)) => only..only + 1,
@@ -142,6 +145,10 @@ mod differential {
         println!("  kinds: {kinds:?}");
         println!("  results: {outcomes:?}");
         println!("  {:?}", bench.counts);
+        println!(
+            "  couples of accepted texts: {} of one plan, {} of two",
+            bench.twins.equal, bench.twins.different
+        );
         println!("differential: {differences} differences");
         differences
     }

@@ -1,10 +1,12 @@
-//! The program's reports against the reference.
+//! The reports of the program `report` and the copies of the program `tidy`
+//! against the reference.
 //!
-//!   LOCKPLAN_PROGRAM=<program> cargo test --test program
+//!   LOCKPLAN_PROGRAM=<report> LOCKPLAN_TIDY=<tidy> cargo test --test program
 //!
-//! The program reads a plan from standard input. LOCKPLAN_TEXTS and LOCKPLAN_SEED
-//! choose the generated texts. Ends with 1 after a difference, and with 2 where
-//! nothing was tested because no program is named.
+//! The programs read a plan from standard input. One that is not named is not
+//! tested. LOCKPLAN_TEXTS and LOCKPLAN_SEED choose the generated texts. Ends with 1
+//! after a difference, and with 2 where nothing was tested because no program is
+//! named.
 
 use std::io::Write;
 use std::process::{Command, Stdio};
@@ -12,10 +14,12 @@ use std::process::{Command, Stdio};
 use lockplan_tests::families;
 use lockplan_tests::generate::generate;
 use lockplan_tests::random::Random;
-use lockplan_tests::report::check;
-use lockplan_tests::shelf::{others, shelf};
+use lockplan_tests::report::{check, same};
+use lockplan_tests::shelf::{all, all_indented};
+use lockplan_tests::tidy::printed;
 
-fn reports(program: &str, text: &[u8]) -> Result<Vec<u8>, String> {
+/// What a program prints of a text.
+fn prints(program: &str, text: &[u8]) -> Result<Vec<u8>, String> {
     let mut child = Command::new(program)
         .stdin(Stdio::piped())
         .stdout(Stdio::piped())
@@ -33,39 +37,78 @@ fn reports(program: &str, text: &[u8]) -> Result<Vec<u8>, String> {
     Ok(output.stdout)
 }
 
-fn main() {
-    let Ok(program) = std::env::var("LOCKPLAN_PROGRAM") else {
-        eprintln!("program: nothing was tested: LOCKPLAN_PROGRAM names no program");
-        std::process::exit(2);
-    };
-    let number = |name: &str, default: u64| {
-        std::env::var(name).map_or(default, |value| value.parse().expect("a number"))
-    };
-    let (texts, seed) = (number("LOCKPLAN_TEXTS", 500), number("LOCKPLAN_SEED", 1));
-    let mut cases: Vec<(String, Vec<u8>)> = Vec::new();
-    cases.extend(shelf().into_iter().chain(others()).map(|entry| (entry.name.to_string(), entry.text)));
+/// Whether a program prints a text's report.
+fn reports(program: &str, text: &[u8]) -> Result<(), String> {
+    prints(program, text).and_then(|printed| check(text, &printed))
+}
+
+/// Whether a program prints a text's tidy copy or its refusal, byte for byte.
+fn tidies(program: &str, text: &[u8]) -> Result<(), String> {
+    prints(program, text).and_then(|found| same(&found, &printed(text)))
+}
+
+/// A program that is tested: its name, its path and its test.
+type Tested = (&'static str, String, fn(&str, &[u8]) -> Result<(), String>);
+
+/// The programs that are named.
+fn programs() -> Vec<Tested> {
+    let mut all: Vec<Tested> = Vec::new();
+    if let Ok(path) = std::env::var("LOCKPLAN_PROGRAM") {
+        all.push(("report", path, reports));
+    }
+    if let Ok(path) = std::env::var("LOCKPLAN_TIDY") {
+        all.push(("tidy", path, tidies));
+    }
+    all
+}
+
+/// Fixed texts, families and generated ones, by name.
+fn cases(texts: u64, seed: u64) -> Vec<(String, Vec<u8>)> {
+    let fixed = all().into_iter().chain(all_indented());
+    let mut cases: Vec<(String, Vec<u8>)> = fixed.map(|entry| (entry.name.to_string(), entry.text)).collect();
     cases.extend(families::all().into_iter().map(|(name, draft, _)| (name, draft.text())));
     for index in 0..texts {
         let case = generate(&mut Random::of_text(seed, index));
         cases.push((format!("seed {seed}, text {index} ({})", case.kind), case.text));
     }
+    cases
+}
+
+fn keep(text: &[u8], name: &str) {
+    let path = std::path::Path::new(env!("CARGO_TARGET_TMPDIR")).join(name);
+    match std::fs::write(&path, text) {
+        Ok(()) => println!("  written to {}", path.display()),
+        Err(error) => println!("  not written: {error}"),
+    }
+}
+
+/// The number of differences, 5 at most.
+fn test((program, path, right): &Tested, cases: &[(String, Vec<u8>)]) -> usize {
     let mut differences = 0;
-    for (name, text) in &cases {
-        let result = reports(&program, text).and_then(|printed| check(text, &printed));
-        if let Err(message) = result {
+    for (name, text) in cases {
+        if let Err(message) = right(path, text) {
             differences += 1;
-            println!("program: {name}: {message}");
-            let path =
-                std::path::Path::new(env!("CARGO_TARGET_TMPDIR")).join(format!("program-{differences}.plan"));
-            match std::fs::write(&path, text) {
-                Ok(()) => println!("  written to {}", path.display()),
-                Err(error) => println!("  not written: {error}"),
-            }
+            println!("{program}: {name}: {message}");
+            keep(text, &format!("{program}-{differences}.plan"));
             if differences == 5 {
                 break;
             }
         }
     }
-    println!("program: {} texts, {differences} differences", cases.len());
+    println!("{program}: {} texts, {differences} differences", cases.len());
+    differences
+}
+
+fn main() {
+    let programs = programs();
+    if programs.is_empty() {
+        eprintln!("program: nothing was tested: LOCKPLAN_PROGRAM and LOCKPLAN_TIDY name no program");
+        std::process::exit(2);
+    }
+    let number = |name: &str, default: u64| {
+        std::env::var(name).map_or(default, |value| value.parse().expect("a number"))
+    };
+    let cases = cases(number("LOCKPLAN_TEXTS", 500), number("LOCKPLAN_SEED", 1));
+    let differences: usize = programs.iter().map(|program| test(program, &cases)).sum();
     std::process::exit(i32::from(differences > 0));
 }

@@ -4,19 +4,23 @@
 use std::collections::HashSet;
 
 use lockplan_tests::compare::{Bench, Calls, Outcome};
-use lockplan_tests::families::{self, Draft, Tree};
+use lockplan_tests::families::{self, Draft};
 use lockplan_tests::gateway::{replay, Automaton, State};
 use lockplan_tests::generate::{self, generate};
+use lockplan_tests::indent::{self, indent, over, padded, Padding};
 use lockplan_tests::pairs::{by_execution, Pair};
 use lockplan_tests::random::Random;
-use lockplan_tests::reference::{form, forms, proc_text, read, structure, Form, Plan, Refusal, Stmt};
+use lockplan_tests::reference::{
+    bare, form, lines, passed_over, proc_text, read, structure, Form, Lines, Plan, Refusal, MAX_BYTES,
+};
 use lockplan_tests::report::{check, report};
-use lockplan_tests::shelf::{others, shelf, Gives};
+use lockplan_tests::shelf::{all, all_indented, shelf, Gives};
+use lockplan_tests::tidy::{printed, tidy, tree};
 use lockplan_tests::verdict::{
     conflict, conflict_by_choice, conflicting, explore, judge, pairs_of_threads, schedule, schedule_told,
     Verdict,
 };
-use lockplan_tests::{guard, standin};
+use lockplan_tests::{guard, lengths, standin};
 
 fn texts(default: u64) -> u64 {
     let factor = std::env::var("LOCKPLAN_FACTOR").ok().and_then(|value| value.parse().ok());
@@ -44,7 +48,7 @@ fn small_plan(random: &mut Random) -> Draft {
 
 #[test]
 fn shelf_gives_what_is_stated() {
-    for entry in shelf().into_iter().chain(others()) {
+    for entry in all().into_iter().chain(all_indented()) {
         let name = entry.name;
         match (read(&entry.text), &entry.gives) {
             (Err(refusal), Gives::Refused(rule, line)) => {
@@ -80,12 +84,38 @@ fn shelf_gives_what_is_stated() {
     }
 }
 
+/// Every fixed text indented is the plan that it was, or refused by the rule that
+/// refused it.
+#[test]
+fn shelf_indented_gives_the_same() {
+    let (mut same, mut moved) = (0, 0);
+    for entry in all() {
+        for seed in 0..8 {
+            let indented = entry.indented(seed);
+            match (read(&entry.text), read(&indented.text)) {
+                (Ok(one), Ok(two)) => {
+                    assert_eq!((tree(&one), &one.pairs), (tree(&two), &two.pairs), "{}", entry.name);
+                    assert_eq!((judge(&one), tidy(&one)), (judge(&two), tidy(&two)), "{}", entry.name);
+                    same += 1;
+                }
+                (Err(one), Err(two)) => {
+                    assert_eq!(one.rule, two.rule, "{}", entry.name);
+                    assert_eq!(indented.gives, Gives::Refused(two.rule, two.line), "{}", entry.name);
+                    moved += usize::from(one.line != two.line);
+                }
+                (one, two) => panic!("{}: {:?}, {:?}", entry.name, one.err(), two.err()),
+            }
+        }
+    }
+    println!("{same} of the same plan, {moved} refused at a line that has moved");
+    assert!(same > 300 && moved > 300);
+}
+
 #[test]
 fn shelf_sizes_and_counts() {
     let plan = read(&generate::doubling(8).text()).unwrap();
     assert_eq!(plan.sizes[8], 766);
-    let (forms, starts) = forms(&generate::doubling(63).text()).unwrap();
-    let tree = structure(&forms, &starts).unwrap();
+    let tree = structure(&lines(&generate::doubling(63).text()).unwrap()).unwrap();
     let sizes = lockplan_tests::reference::sizes(&tree);
     assert_eq!(sizes[9], 1_534);
     assert_eq!(sizes[62], 3 * (1 << 62) - 2);
@@ -125,17 +155,199 @@ fn text_of_a_procedure() {
     assert_eq!(proc_text(text, 1), b"(proc\n(hold 3\n(call 0)\n)\n)\n");
     assert_eq!(proc_text(text, 2), b"");
     assert_eq!(proc_text(&text[..text.len() - 1], 0), b"");
-    let mut accepted = 0;
+    let text = b"(plan\n;a\n  (proc\n\n (skip)\n ;b\n    )\n;c\n\n  (proc\n(skip)\n)\n  ;d\n(thread 1)\n)\n";
+    assert_eq!(proc_text(text, 0), b"  (proc\n\n (skip)\n ;b\n    )\n");
+    assert_eq!(proc_text(text, 1), b"  (proc\n(skip)\n)\n");
+    let (mut accepted, mut indented) = (0, 0);
     for index in 0..texts(3_000) {
         let text = generate(&mut Random::of_text(5, index)).text;
-        if let Ok(plan) = read(&text) {
-            accepted += 1;
-            let whole: Vec<u8> =
-                (0..plan.procs.len()).flat_map(|proc| proc_text(&text, proc).to_vec()).collect();
-            assert!(text[6..].starts_with(&whole));
+        let Ok(plan) = read(&text) else {
+            continue;
+        };
+        accepted += 1;
+        let copy = tidy(&plan);
+        indented += usize::from(copy != text);
+        let mut rest = text.as_slice();
+        for proc in 0..plan.procs.len() {
+            let part = proc_text(&text, proc);
+            // Whole lines, behind those of the procedure before.
+            let at = rest.windows(part.len()).position(|window| window.as_ptr() == part.as_ptr()).unwrap();
+            assert!(proc > 0 || rest[..at].ends_with(b"\n"));
+            assert!(without_over(&rest[..at]).is_empty() || proc == 0);
+            rest = &rest[at + part.len()..];
+            let lines: Vec<&[u8]> = part.split_inclusive(|byte| *byte == 10).map(bare).collect();
+            assert_eq!((lines[0], lines[lines.len() - 1]), (b"(proc\n".as_slice(), b")\n".as_slice()));
+            assert_eq!(without_over(part), proc_text(&copy, proc));
         }
     }
-    println!("procedures of {accepted} texts");
+    println!("procedures of {accepted} texts, {indented} of them indented");
+}
+
+/// A text without what is passed over, made from its lines.
+fn without_over(text: &[u8]) -> Vec<u8> {
+    standin::copy_by(text, standin::tidy_line)
+}
+
+/// The tidy copy from the tree is that from the lines, and a plan of its own.
+#[test]
+fn tidy_copies() {
+    let (mut accepted, mut indented) = (0, 0);
+    for index in 0..texts(20_000) {
+        let text = generate(&mut Random::of_text(6, index)).text;
+        let Ok(plan) = read(&text) else {
+            continue;
+        };
+        let copy = tidy(&plan);
+        assert_eq!(copy, without_over(&text));
+        assert_eq!(printed(&text), copy);
+        assert!(copy.len() <= text.len());
+        let again = read(&copy).expect("an accepted copy");
+        assert_eq!(tidy(&again), copy);
+        assert_eq!(tree(&again), tree(&plan));
+        assert_eq!((&again.sizes, &again.pairs), (&plan.sizes, &plan.pairs));
+        assert_eq!(judge(&again), judge(&plan));
+        accepted += 1;
+        indented += usize::from(copy != text);
+    }
+    println!("{accepted} copies, {indented} of indented texts");
+    assert!(3 * indented > accepted);
+}
+
+#[test]
+fn a_refused_text_has_no_copy() {
+    assert_eq!(printed(b";x\n"), b"(refused 4 2)\n");
+    assert_eq!(printed(&[10; 32_769]), b"(refused 2 0)\n");
+    assert_eq!(printed(b" (plan\n\t\n"), b"(refused 3 2)\n");
+}
+
+/// What is passed over alters nothing but the lines that are named.
+#[test]
+fn indenting_alters_nothing() {
+    let (mut accepted, mut moved) = (0, 0);
+    for index in 0..texts(30_000) {
+        let random = &mut Random::of_text(7, index);
+        let text = generate(random).text;
+        let made = indent(&text, random);
+        match (read(&text), read(&made.text)) {
+            (Ok(one), Ok(two)) => {
+                assert_eq!(tree(&one), tree(&two));
+                accepted += 1;
+            }
+            (Err(one), Err(two)) => {
+                assert_eq!(two, Refusal { line: made.moved(one.line), ..one });
+                moved += usize::from(one.line != two.line);
+            }
+            (one, two) => panic!("{:?}, {:?}", one.err(), two.err()),
+        }
+    }
+    println!("{accepted} accepted, {moved} refused at a line that has moved");
+    assert!(accepted > 5_000 && moved > 2_000);
+}
+
+/// Rule 3 and the lines of the forms a second time, byte by byte.
+fn by_bytes(text: &[u8]) -> Result<Vec<(Form, usize)>, usize> {
+    #[derive(Clone, Copy)]
+    enum At {
+        Begin,
+        Remark,
+        Form(usize),
+    }
+    let (mut forms, mut number, mut at) = (Vec::new(), 1, At::Begin);
+    for (index, byte) in text.iter().enumerate() {
+        at = match (at, byte) {
+            (At::Begin | At::Remark, 10) => {
+                number += 1;
+                At::Begin
+            }
+            (At::Begin, b' ') => At::Begin,
+            (At::Begin, b';') | (At::Remark, _) => At::Remark,
+            (At::Begin, _) => At::Form(index),
+            (At::Form(start), 10) => {
+                forms.push((form(&text[start..index]).ok_or(number)?, number));
+                number += 1;
+                At::Begin
+            }
+            (At::Form(_), _) => at,
+        };
+    }
+    match text.last() {
+        None | Some(10) => Ok(forms),
+        Some(_) => Err(number),
+    }
+}
+
+#[test]
+fn lines_are_those_of_the_bytes() {
+    let (mut right, mut wrong) = (0, 0);
+    for index in 0..texts(60_000) {
+        let text = generate(&mut Random::of_text(8, index)).text;
+        let lines = lines(&text);
+        let found =
+            lines.as_ref().map(|lines| lines.forms.iter().map(|line| (line.form, line.number)).collect());
+        assert_eq!(found.map_err(|refusal| refusal.line), by_bytes(&text));
+        let Ok(lines) = lines else {
+            wrong += 1;
+            continue;
+        };
+        right += 1;
+        assert_eq!(lines.count, text.iter().filter(|byte| **byte == 10).count());
+        let whole: Vec<&[u8]> = text.split_inclusive(|byte| *byte == 10).collect();
+        for line in &lines.forms {
+            assert_eq!(text[line.start..line.end].as_ptr_range(), whole[line.number - 1].as_ptr_range());
+        }
+    }
+    println!("{right} of lines that are read, {wrong} not");
+    assert!(right > 5_000 && wrong > 5_000);
+}
+
+#[test]
+fn paddings_have_their_length() {
+    let text = shelf().remove(0).text;
+    for padding in Padding::ALL {
+        for length in (text.len()..text.len() + 200).chain(MAX_BYTES - 5..MAX_BYTES + 5) {
+            for line in 0..5 {
+                let filled = padding.fill(&text, length, line);
+                assert_eq!(filled.len(), length);
+                assert_eq!(without_over(&filled), text, "{padding:?}");
+                assert_eq!(read(&filled).is_ok(), length <= MAX_BYTES);
+            }
+        }
+    }
+    for seed in 0..1_000 {
+        let random = &mut Random::new(seed);
+        assert_eq!(padded(&text, MAX_BYTES, random).len(), MAX_BYTES);
+        let line = over(30, random);
+        assert!(line.ends_with(b"\n") && passed_over(bare(&line[..line.len() - 1])));
+        assert_eq!(line.iter().filter(|byte| **byte == 10).count(), 1);
+    }
+}
+
+/// The texts whose times are taken are as long as allowed and give what they say.
+#[test]
+fn long_texts() {
+    for long in lengths::all() {
+        assert_eq!(long.text.len(), MAX_BYTES, "{}", long.name);
+        let refusal = read(&long.text).err();
+        assert_eq!(refusal.map(|refusal| refusal.rule), long.rule, "{}", long.name);
+        let count = long.text.iter().filter(|byte| **byte == 10).count();
+        if let Some(Refusal { rule: 3 | 4 | 8, line }) = refusal {
+            assert!(line + 1 >= count, "{}: line {line} of {count}", long.name);
+        }
+    }
+}
+
+/// What is broken about an indented text is mostly rule 3.
+#[test]
+fn damages_of_indented_texts() {
+    let mut rules = std::collections::BTreeMap::new();
+    for index in 0..texts(5_000) {
+        let random = &mut Random::of_text(9, index);
+        let text = indent(&small_plan(random).text(), random).text;
+        let text = if text.len() < 20_000 { indent::damage(&text, random) } else { continue };
+        *rules.entry(read(&text).map_or_else(|refusal| refusal.rule, |_| 0)).or_insert(0) += 1;
+    }
+    println!("{rules:?}");
+    assert!(rules[&3] > 3_000 && rules[&4] > 100);
 }
 
 /// All lines of a form, listed.
@@ -174,7 +386,7 @@ fn forms_are_the_listed_lines() {
 }
 
 /// Rule 4 a second time, by a grammar: a stack of what must still come.
-fn by_grammar(forms: &[Form]) -> Option<usize> {
+fn by_grammar(lines: &Lines) -> Option<usize> {
     #[derive(Clone, Copy, PartialEq)]
     enum Symbol {
         Line(&'static str),
@@ -200,15 +412,15 @@ fn by_grammar(forms: &[Form]) -> Option<usize> {
     };
     let block = [MoreStmts, Stmt];
     let mut stack = vec![Line("close"), MoreThreads, Line("thread"), Procs, Line("plan")];
-    for (index, form) in forms.iter().enumerate() {
-        let line = name(*form);
+    for at in &lines.forms {
+        let line = name(at.form);
         loop {
             let Some(symbol) = stack.pop() else {
-                return Some(index + 1);
+                return Some(at.number);
             };
             match symbol {
                 Line(expected) if expected == line => break,
-                Line(_) => return Some(index + 1),
+                Line(_) => return Some(at.number),
                 Procs => stack.extend([MoreProcs, Line("close"), block[0], block[1], Line("proc")]),
                 MoreProcs if line == "proc" => stack.push(Procs),
                 MoreThreads if line == "thread" => stack.extend([MoreThreads, Line("thread")]),
@@ -225,12 +437,12 @@ fn by_grammar(forms: &[Form]) -> Option<usize> {
                         stack.extend([Line("close"), Line("close"), block[0], block[1], Line("two")]);
                         stack.extend([Line("close"), block[0], block[1], Line("one"), Line("either")]);
                     }
-                    _ => return Some(index + 1),
+                    _ => return Some(at.number),
                 },
             }
         }
     }
-    (!stack.is_empty()).then_some(forms.len() + 1)
+    (!stack.is_empty()).then_some(lines.count + 1)
 }
 
 #[test]
@@ -238,11 +450,11 @@ fn structure_is_the_grammar() {
     let (mut right, mut wrong) = (0, 0);
     for index in 0..texts(60_000) {
         let case = generate(&mut Random::of_text(21, index));
-        let Ok((forms, starts)) = forms(&case.text) else {
+        let Ok(lines) = lines(&case.text) else {
             continue;
         };
-        let line = structure(&forms, &starts).err().map(|refusal| refusal.line);
-        assert_eq!(line, by_grammar(&forms), "{}", case.kind);
+        let line = structure(&lines).err().map(|refusal| refusal.line);
+        assert_eq!(line, by_grammar(&lines), "{}", case.kind);
         if line.is_none() {
             right += 1
         } else {
@@ -255,31 +467,18 @@ fn structure_is_the_grammar() {
 
 #[test]
 fn structure_of_all_short_texts() {
-    let texts = generate::beginnings(9);
+    let texts = [generate::beginnings(9), generate::beginnings_indented(6)].concat();
     let mut accepted = 0;
     for text in &texts {
-        let (forms, starts) = forms(text).unwrap();
-        let line = structure(&forms, &starts).err().map(|refusal| refusal.line);
-        assert_eq!(line, by_grammar(&forms), "{}", String::from_utf8_lossy(text));
+        let Ok(lines) = lines(text) else {
+            assert!(!text.ends_with(b"\n"));
+            continue;
+        };
+        let line = structure(&lines).err().map(|refusal| refusal.line);
+        assert_eq!(line, by_grammar(&lines), "{}", String::from_utf8_lossy(text));
         accepted += usize::from(read(text).is_ok());
     }
     println!("{} short texts, {accepted} accepted", texts.len());
-}
-
-/// The tree of a plan as a draft.
-fn draft_of(plan: &Plan) -> Draft {
-    fn block(plan: &Plan, id: usize) -> Vec<Tree> {
-        let tree = |stmt: &Stmt| match *stmt {
-            Stmt::Skip => Tree::Skip,
-            Stmt::Call(proc) => Tree::Call(proc),
-            Stmt::Hold(lock, body) => Tree::Hold(lock as usize, block(plan, body)),
-            Stmt::Loop(body) => Tree::Loop(block(plan, body)),
-            Stmt::Either(one, two) => Tree::Either(block(plan, one), block(plan, two)),
-        };
-        plan.blocks[id].iter().map(tree).collect()
-    }
-    let procs = plan.procs.iter().map(|proc| block(plan, proc.body)).collect();
-    Draft { procs, threads: plan.threads.clone() }
 }
 
 #[test]
@@ -291,7 +490,7 @@ fn reading_is_the_inverse_of_printing() {
         let text = draft.text();
         match read(&text) {
             Ok(plan) => {
-                assert_eq!(draft_of(&plan), draft);
+                assert_eq!(tree(&plan), draft);
                 let mut sizes = Vec::new();
                 for (proc, block) in draft.procs.iter().enumerate() {
                     sizes.push(generate::size(block, &sizes));
@@ -513,6 +712,7 @@ fn every_deadlock_has_a_schedule() {
 fn generator_meets_everything() {
     let mut outcomes = std::collections::BTreeMap::new();
     let mut kinds = std::collections::BTreeMap::new();
+    let mut over = Over::default();
     for index in 0..20_000 {
         let case = generate(&mut Random::of_text(1, index));
         let outcome = match read(&case.text) {
@@ -522,17 +722,62 @@ fn generator_meets_everything() {
         };
         *outcomes.entry(outcome).or_insert(0) += 1;
         *kinds.entry(case.kind).or_insert(0) += 1;
+        over.count(&case.text);
     }
-    println!("{outcomes:?}\n{kinds:?}");
+    println!("{outcomes:?}\n{kinds:?}\n{over:?}");
+    over.enough();
     for rule in 2..=10 {
         assert!(outcomes[&Outcome::Refused(rule)] >= 30, "rule {rule}");
     }
     assert!(outcomes[&Outcome::Free] > 3_000 && outcomes[&Outcome::Deadlock] > 3_000);
 }
 
+/// What there is of texts with something that is passed over.
+#[derive(Debug, Default)]
+struct Over {
+    texts: usize,
+    accepted: usize,
+    /// By rule, with a line that is passed over before the one that is named.
+    before: [usize; 11],
+    /// A remark or blank line that is not ended.
+    not_ended: usize,
+    /// Too long, and nothing else is broken.
+    too_long: usize,
+    /// As long as allowed.
+    longest: usize,
+}
+
+impl Over {
+    fn count(&mut self, text: &[u8]) {
+        let lines: Vec<&[u8]> = text.split_inclusive(|byte| *byte == 10).collect();
+        let over = |line: &&[u8]| passed_over(bare(line.strip_suffix(b"\n").unwrap_or(line)));
+        self.texts += usize::from(lines.iter().any(|line| line.starts_with(b" ") || over(line)));
+        let without = without_over(text);
+        match read(text) {
+            Ok(_) => {
+                self.accepted += usize::from(without != text);
+                self.longest += usize::from(text.len() == MAX_BYTES);
+            }
+            Err(Refusal { rule: 2, .. }) => self.too_long += usize::from(read(&without).is_ok()),
+            Err(Refusal { rule, line }) => {
+                let before = &lines[..line.saturating_sub(1).min(lines.len())];
+                self.before[rule as usize] += usize::from(before.iter().any(over));
+                self.not_ended += usize::from(!text.ends_with(b"\n") && lines.last().is_some_and(over));
+            }
+        }
+    }
+
+    /// Of 20,000 texts.
+    fn enough(&self) {
+        assert!(self.texts > 6_700 && self.accepted > 3_000);
+        assert!(self.before[3..].iter().all(|count| *count >= 30));
+        assert!(self.not_ended >= 100 && self.too_long >= 30 && self.longest >= 100);
+    }
+}
+
 fn run(calls: Calls, count: u64, edges: bool) -> Result<Bench, (u64, String)> {
     let mut bench = Bench::new(edges);
-    let fixed: Vec<Vec<u8>> = shelf().into_iter().chain(others()).map(|entry| entry.text).collect();
+    let fixed: Vec<Vec<u8>> = all().into_iter().map(|entry| entry.text).collect();
     for index in 0..count {
         let random = &mut Random::of_text(111, index);
         let text = match fixed.get(index as usize) {
@@ -547,26 +792,32 @@ fn run(calls: Calls, count: u64, edges: bool) -> Result<Bench, (u64, String)> {
 /// The comparison accepts the stand-in made of the reference.
 #[test]
 fn comparison_accepts_the_stand_in() {
-    let calls = Calls { verdict: standin::verdict, pairs: standin::pairs };
-    let bench =
-        run(calls, texts(4_000), true).unwrap_or_else(|(index, message)| panic!("{index}: {message}"));
+    let bench = run(standin::CALLS, texts(4_000), true)
+        .unwrap_or_else(|(index, message)| panic!("{index}: {message}"));
     println!("{:?}", bench.counts);
+    println!("{} couples of one plan, {} of two", bench.twins.equal, bench.twins.different);
 }
 
 /// The comparison finds each fault of the stand-in, and soon.
 #[test]
 fn comparison_finds_every_fault() {
     for (name, pairs) in standin::FAULTY_PAIRS {
-        let calls = Calls { verdict: standin::verdict, pairs };
+        let calls = Calls { pairs, ..standin::CALLS };
         let (index, message) =
             run(calls, 4_000, false).err().unwrap_or_else(|| panic!("{name} is not found"));
         println!("pairs, {name}: text {index}, {message}");
     }
     for (name, verdict) in standin::FAULTY_VERDICTS {
-        let calls = Calls { verdict, pairs: standin::pairs };
+        let calls = Calls { verdict, ..standin::CALLS };
         let (index, message) =
             run(calls, 4_000, false).err().unwrap_or_else(|| panic!("{name} is not found"));
         println!("verdict, {name}: text {index}, {message}");
+    }
+    for (name, tidy) in standin::FAULTY_TIDIES {
+        let calls = Calls { tidy, ..standin::CALLS };
+        let (index, message) =
+            run(calls, 4_000, false).err().unwrap_or_else(|| panic!("{name} is not found"));
+        println!("tidy, {name}: text {index}, {message}");
     }
 }
 
@@ -576,7 +827,7 @@ fn comparison_finds_every_fault() {
 fn memory_fault() {
     guard::report_faults();
     let (_, pairs) = standin::FAULTY_PAIRS.iter().find(|(name, _)| name.contains("behind")).unwrap();
-    let calls = Calls { verdict: standin::verdict, pairs: *pairs };
+    let calls = Calls { pairs: *pairs, ..standin::CALLS };
     let mut bench = Bench::new(true);
     let text = shelf().remove(0).text;
     for index in 0..1_000 {

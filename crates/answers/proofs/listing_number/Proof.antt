@@ -1,6 +1,6 @@
--- Part b is below 2 to the power 40, so no sum overflows; each arm adds up what `listingNumber` says of its case.
-use native.Mathlib.Omega.{arith}
-use Rattle.answers.proofs.Sums.{high-count, listing-line, pairs-number, refused-number}
+-- Part b of each case is below 2 to the power 40, and the number of the case is the answer's.
+use Rattle.answers.specs.Answers.{listingNumber}
+use Rattle.answers.proofs.Sums.{high-count, listing-line, listing-case}
 use borrow.Author.Needs.{needs}
 use Rattle.answers.proofs.listing_number.Statement.{statement}
 use Rattle.answers.proofs.listing_number.Tie as tie
@@ -8,44 +8,30 @@ use Rattle.answers.proofs.listing_number.Tie as tie
 enum-known-listing : tie.Need-enum-known-listing
 enum-known-listing c = search needs
 
-mul-result : tie.Need-mul-result
-mul-result c = omega (arith, high-count _ _ (c .before .before .before .pre) (c .before .listing .given .1))
+number-of-requires : tie.Need-number-of-requires
+number-of-requires c κs = search (high-count, needs)
 
 enum-known-listing-2 : tie.Need-enum-known-listing-2
 enum-known-listing-2 c = search needs
 
-cast-result : tie.Need-cast-result
-cast-result c = search needs
-
-mul-result-2 : tie.Need-mul-result-2
-mul-result-2 c = search needs
-
-add-result : tie.Need-add-result
-add-result c = search needs
-
-mul-result-3 : tie.Need-mul-result-3
-mul-result-3 c = let h = listing-line _ _ (c .before .before .before .before .pre) (c .before .before .listing2 .given .1) in omega arith
-
-add-result-2 : tie.Need-add-result-2
-add-result-2 c = let h = listing-line _ _ (c .before .before .before .before .pre) (c .before .before .listing2 .given .1) in omega arith
+number-of-requires-2 : tie.Need-number-of-requires-2
+number-of-requires-2 c κs = search (listing-line, needs)
 
 returns : tie.Need-returns
-returns c = search (pairs-number, needs)
+unfolding listingNumber
+returns c = search (listing-case, needs)
 
 returns-2 : tie.Need-returns-2
-returns-2 c = search (refused-number, needs)
+unfolding listingNumber
+returns-2 c = search (listing-case, needs)
 
 pub listing-number-spec : {M : Type 1} → statement M
 listing-number-spec =
     tie.close
     (tie.spec
     enum-known-listing
-    mul-result
+    number-of-requires
     enum-known-listing-2
-    cast-result
-    mul-result-2
-    add-result
-    mul-result-3
-    add-result-2
+    number-of-requires-2
     returns
     returns-2)

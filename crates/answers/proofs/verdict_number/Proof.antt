@@ -1,7 +1,6 @@
--- Part b is below 2 to the power 40, so no sum overflows; each arm adds up what `verdictNumber` says of its case.
-use native.Mathlib.Omega.{arith}
+-- Part b of each case is below 2 to the power 40, and the number of the case is the answer's.
 use Rattle.answers.specs.Answers.{verdictNumber}
-use Rattle.answers.proofs.Sums.{verdict-case, high-entries, verdict-line}
+use Rattle.answers.proofs.Sums.{high-entries, verdict-line, verdict-case}
 use borrow.Author.Needs.{needs}
 use Rattle.answers.proofs.verdict_number.Statement.{statement}
 use Rattle.answers.proofs.verdict_number.Tie as tie
@@ -9,41 +8,20 @@ use Rattle.answers.proofs.verdict_number.Tie as tie
 enum-told : tie.Need-enum-told
 enum-told c = search needs
 
+number-of-requires : tie.Need-number-of-requires
+number-of-requires c κs = search needs
+
 enum-known-verdict : tie.Need-enum-known-verdict
 enum-known-verdict c = search needs
 
-cast-result : tie.Need-cast-result
-cast-result c = search needs
-
-mul-result : tie.Need-mul-result
-mul-result c = search needs
-
-add-result : tie.Need-add-result
-add-result c = search needs
-
-mul-result-2 : tie.Need-mul-result-2
-mul-result-2 c = let h = high-entries _ _ _ (c .before .before .before .pre) (c .before .verdict .given .1) in omega arith
-
-add-result-2 : tie.Need-add-result-2
-add-result-2 c = let h = high-entries _ _ _ (c .before .before .before .pre) (c .before .verdict .given .1) in omega arith
+number-of-requires-2 : tie.Need-number-of-requires-2
+number-of-requires-2 c κs = search (high-entries, needs)
 
 enum-known-verdict-2 : tie.Need-enum-known-verdict-2
 enum-known-verdict-2 c = search needs
 
-cast-result-2 : tie.Need-cast-result-2
-cast-result-2 c = search needs
-
-mul-result-3 : tie.Need-mul-result-3
-mul-result-3 c = search needs
-
-add-result-3 : tie.Need-add-result-3
-add-result-3 c = search needs
-
-mul-result-4 : tie.Need-mul-result-4
-mul-result-4 c = let h = verdict-line _ _ (c .before .before .before .before .pre) (c .before .before .verdict2 .given .1) in omega arith
-
-add-result-4 : tie.Need-add-result-4
-add-result-4 c = let h = verdict-line _ _ (c .before .before .before .before .pre) (c .before .before .verdict2 .given .1) in omega arith
+number-of-requires-3 : tie.Need-number-of-requires-3
+number-of-requires-3 c κs = search (verdict-line, needs)
 
 returns : tie.Need-returns
 unfolding verdictNumber
@@ -62,18 +40,11 @@ verdict-number-spec =
     tie.close
     (tie.spec
     enum-told
+    number-of-requires
     enum-known-verdict
-    cast-result
-    mul-result
-    add-result
-    mul-result-2
-    add-result-2
+    number-of-requires-2
     enum-known-verdict-2
-    cast-result-2
-    mul-result-3
-    add-result-3
-    mul-result-4
-    add-result-4
+    number-of-requires-3
     returns
     returns-2
     returns-3)

@@ -1,14 +1,11 @@
--- Rule 9 refuses first; where it does not, rule 10 decides.
-use Rattle.plan.proofs.Passes.{first-refuses, first-passes}
+-- Rules 4 to 8 come first; of a table that keeps them, 9 and 10 decide, and its layout is found on the way.
+use Rattle.checked.proofs.Checked.{grammar-refused, grammar-table, grammar-kept}
 use borrow.Author.Needs.{needs}
 use Rattle.checked.proofs.check_table.Statement.{statement}
 use Rattle.checked.proofs.check_table.Tie as tie
 
-layout-of-requires : tie.Need-layout-of-requires
-layout-of-requires c κs = search needs
-
-check-sizes-requires : tie.Need-check-sizes-requires
-check-sizes-requires c κs = search needs
+check-grammar-requires : tie.Need-check-grammar-requires
+check-grammar-requires c κs = search needs
 
 enum-told : tie.Need-enum-told
 enum-told c = search needs
@@ -16,27 +13,26 @@ enum-told c = search needs
 enum-told-2 : tie.Need-enum-told-2
 enum-told-2 c = search needs
 
+refused-text-requires : tie.Need-refused-text-requires
+refused-text-requires c κs = search needs
+
 returns : tie.Need-returns
-returns c = search (first-refuses, needs)
+returns c = search (grammar-refused, needs)
 
-slice-aggregate-check-pairs : tie.Need-slice-aggregate-check-pairs
-slice-aggregate-check-pairs c = search needs
-
-check-pairs-requires : tie.Need-check-pairs-requires
-check-pairs-requires c κs = search needs
+check-plan-requires : tie.Need-check-plan-requires
+check-plan-requires c κs = search (grammar-table, needs)
 
 returns-2 : tie.Need-returns-2
-returns-2 c = search (first-passes, needs)
+returns-2 c = search (grammar-kept, needs)
 
 pub check-table-spec : {M : Type 1} → statement M
 check-table-spec =
     tie.close
     (tie.spec
-    layout-of-requires
-    check-sizes-requires
+    check-grammar-requires
     enum-told
     enum-told-2
+    refused-text-requires
     returns
-    slice-aggregate-check-pairs
-    check-pairs-requires
+    check-plan-requires
     returns-2)

@@ -1,5 +1,5 @@
--- The reader's rules come first; of the table that it leaves, 9 and 10 decide, and its layout is found on the way.
-use Rattle.checked.proofs.Checked.{text-refused, text-room, text-table, text-checked}
+-- Rules 2 and 3 come first; of the forms that they leave, the rules over forms decide, and the form that they name is named by its line.
+use Rattle.checked.proofs.Checked.{text-refused, text-room, text-few, text-checked}
 use borrow.Author.Needs.{needs}
 use Rattle.checked.proofs.read_text.Statement.{statement}
 use Rattle.checked.proofs.read_text.Tie as tie
@@ -12,6 +12,9 @@ enum-known-read c = search needs
 
 enum-told : tie.Need-enum-told
 enum-told c = search needs
+
+refused-text-requires : tie.Need-refused-text-requires
+refused-text-requires c κs = search needs
 
 same-length : tie.Need-same-length
 same-length c = search needs
@@ -29,7 +32,10 @@ part-check-table-end : tie.Need-part-check-table-end
 part-check-table-end c = search (text-room, needs)
 
 check-table-requires : tie.Need-check-table-requires
-check-table-requires c κs = search (text-table, needs)
+check-table-requires c κs = search (text-few, needs)
+
+in-file-requires : tie.Need-in-file-requires
+in-file-requires c κs = search needs
 
 same-length-2 : tie.Need-same-length-2
 same-length-2 c = search needs
@@ -44,11 +50,13 @@ read-text-spec =
     read-forms-requires
     enum-known-read
     enum-told
+    refused-text-requires
     same-length
     returns
     sub-check-table
     part-check-table-start
     part-check-table-end
     check-table-requires
+    in-file-requires
     same-length-2
     returns-2)

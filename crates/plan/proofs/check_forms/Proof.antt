@@ -1,5 +1,5 @@
 -- Each rule passes before the next is tried, and the first that refuses gives the answer.
-use Rattle.plan.specs.Rules.{formsRefusal}
+use Rattle.plan.specs.Rules.{grammarRefusal}
 use Rattle.plan.proofs.Passes.{first-refuses, first-passes}
 use borrow.Author.Needs.{needs}
 use Rattle.plan.proofs.check_forms.Statement.{statement}
@@ -18,7 +18,7 @@ same-length : tie.Need-same-length
 same-length c = search needs
 
 returns : tie.Need-returns
-unfolding formsRefusal
+unfolding grammarRefusal
 returns c = search (first-refuses, first-passes, needs) depth 10
 
 check-rule-requires : tie.Need-check-rule-requires
@@ -34,7 +34,7 @@ same-length-2 : tie.Need-same-length-2
 same-length-2 c = search needs
 
 returns-2 : tie.Need-returns-2
-unfolding formsRefusal
+unfolding grammarRefusal
 returns-2 c = search (first-refuses, first-passes, needs) depth 10
 
 check-rule-requires-2 : tie.Need-check-rule-requires-2
@@ -50,7 +50,7 @@ same-length-3 : tie.Need-same-length-3
 same-length-3 c = search needs
 
 returns-3 : tie.Need-returns-3
-unfolding formsRefusal
+unfolding grammarRefusal
 returns-3 c = search (first-refuses, first-passes, needs) depth 10
 
 check-rule-requires-3 : tie.Need-check-rule-requires-3
@@ -66,7 +66,7 @@ same-length-4 : tie.Need-same-length-4
 same-length-4 c = search needs
 
 returns-4 : tie.Need-returns-4
-unfolding formsRefusal
+unfolding grammarRefusal
 returns-4 c = search (first-refuses, first-passes, needs) depth 10
 
 check-rule-requires-4 : tie.Need-check-rule-requires-4
@@ -76,7 +76,7 @@ same-length-5 : tie.Need-same-length-5
 same-length-5 c = search needs
 
 returns-5 : tie.Need-returns-5
-unfolding formsRefusal
+unfolding grammarRefusal
 returns-5 c = search (first-refuses, first-passes, needs) depth 10
 
 pub check-forms-spec : {M : Type 1} → statement M

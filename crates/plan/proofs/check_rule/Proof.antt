@@ -5,20 +5,20 @@ use mathlib.Core.Path.{_≡_}
 use mathlib.Core.List.{map}
 use lib.ListN.{length, drop}
 use Rattle.plan.specs.Table.{formAt, tableForms}
-use Rattle.plan.specs.Limits.{Small, breaking, breakingLine}
+use Rattle.plan.specs.Limits.{Small, breaking, breakingForm}
 use Rattle.plan.proofs.Passes.{small-none, small-more, small-below, rule-again, rule-broken, rule-kept}
 use Rattle.plan.proofs.check_rule.Statement.{statement}
 use Rattle.plan.proofs.check_rule.Tie as tie
 
 abbrev Inv-loop : tie.InvT-loop
 Inv-loop table rule c₀ i₀ c i =
-    (i ≤ length table) × (length table < 65536) × Small c i × (breaking rule c (i + 1) (map formAt (drop i table)) ≡ breakingLine rule (tableForms table))
+    (i ≤ length table) × (length table < 65536) × Small c i × (breaking rule c (i + 1) (map formAt (drop i table)) ≡ breakingForm rule (tableForms table))
 
 abbrev μ-loop : tie.MeasureT-loop
 μ-loop table rule c₀ i₀ c i = length table - i
 
 loop-holds : tie.Need-loop-holds Inv-loop μ-loop
-unfolding breakingLine
+unfolding breakingForm
 loop-holds c = search (small-none, needs)
 
 mul-form-at : tie.Need-mul-form-at Inv-loop μ-loop

@@ -1,19 +1,22 @@
--- The table holds the forms of the lines read so far (`Filling`), and each line read leaves less of the text.
+-- The table holds the forms of the lines read so far (`Filling`); each line read, with what is passed over behind it, leaves less of the text.
 use borrow.Author.Needs.{needs}
 use Prim.Native.Nat.{_-_, _≤_}
 use mathlib.Core.Path.{_≡_}
 use lib.ListN.{length}
 use Rattle.limits.specs.Limits.{maxBytes, maxForms}
-use Rattle.text.proofs.Reading.{next-less}
-use Rattle.plan.proofs.Filling.{Filling, filling-none, filling-more, filling-refused, filling-done}
+use Rattle.text.proofs.Reading.{next-within}
+use Rattle.plan.proofs.Filling.{Filling, filling-none, filling-more, filling-less, next-counted, filling-refused, filling-done}
 use Rattle.plan.proofs.fill.Statement.{statement}
 use Rattle.plan.proofs.fill.Tie as tie
 
 abbrev Inv-loop : tie.InvT-loop
-Inv-loop text table₀ at₀ n₀ table at n = (length text ≤ maxBytes) × (maxForms ≤ length table₀) × (length table ≡ length table₀) × Filling text table at n
+Inv-loop text table₀ here₀ n₀ table here n = (length text ≤ maxBytes) × (maxForms ≤ length table₀) × (length table ≡ length table₀) × Filling text table here n
 
 abbrev μ-loop : tie.MeasureT-loop
-μ-loop text table₀ at₀ n₀ table at n = length text - at
+μ-loop text table₀ here₀ n₀ table here n = length text - here .at
+
+pass-over-requires : tie.Need-pass-over-requires Inv-loop μ-loop
+pass-over-requires c κs = search needs
 
 loop-holds : tie.Need-loop-holds Inv-loop μ-loop
 loop-holds c = search (filling-none, needs)
@@ -27,8 +30,14 @@ enum-known-line c = search needs
 add-n : tie.Need-add-n Inv-loop μ-loop
 add-n c = search needs
 
+add-t13 : tie.Need-add-t13 Inv-loop μ-loop
+add-t13 c = search needs
+
+pass-over-requires-2 : tie.Need-pass-over-requires-2 Inv-loop μ-loop
+pass-over-requires-2 c κs = (search (next-within, needs), search (next-counted, needs))
+
 loop-less : tie.Need-loop-less Inv-loop μ-loop
-loop-less c = search (next-less, needs)
+loop-less c = search (filling-less, needs)
 
 loop-again : tie.Need-loop-again Inv-loop μ-loop
 loop-again c = search (filling-more, needs)
@@ -54,10 +63,13 @@ fill-spec =
     (tie.spec
     Inv-loop
     μ-loop
+    pass-over-requires
     loop-holds
     put-line-requires
     enum-known-line
     add-n
+    add-t13
+    pass-over-requires-2
     loop-less
     loop-again
     enum-known-line-2

@@ -4,9 +4,6 @@ use Rattle.plan.proofs.Filling.{line-put, read-again}
 use Rattle.plan.proofs.put_line.Statement.{statement}
 use Rattle.plan.proofs.put_line.Tie as tie
 
-add-read-line : tie.Need-add-read-line
-add-read-line c = search needs
-
 read-line-requires : tie.Need-read-line-requires
 read-line-requires c κs = search needs
 
@@ -38,7 +35,6 @@ pub put-line-spec : {M : Type 1} → statement M
 put-line-spec =
     tie.close
     (tie.spec
-    add-read-line
     read-line-requires
     enum-known-line
     enum-told

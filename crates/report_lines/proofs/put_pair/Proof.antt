@@ -1,4 +1,4 @@
--- The wanted lock with the pair before it, the held locks, then the end. The wanted lock has at most 2 digits, the held ones have at most 192 bytes together.
+-- The wanted lock with the bytes before it, the held locks, then the end. The wanted lock has at most 2 digits, the held ones have at most 192 bytes together.
 use borrow.Author.Needs.{needs}
 use Rattle.report_lines.proofs.WholeLines.{wanted-room, held-room, pair-end-room, pair-whole}
 use Rattle.report_lines.proofs.put_pair.Statement.{statement}
@@ -35,8 +35,8 @@ pub put-pair-spec : {M : Type 1} → statement M
 put-pair-spec =
     tie.close
     (tie.spec
-    wanted-in-requires
     held-in-requires
+    wanted-in-requires
     slice-aggregate-put-numbered
     put-numbered-requires
     put-members-requires

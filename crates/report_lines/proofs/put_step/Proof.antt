@@ -1,4 +1,4 @@
--- The thread and the choice with the pairs before them, then the end. A thread has one digit, a choice at most 4.
+-- The thread and the choice with the bytes before them, then the end. A thread has one digit, a choice at most 4.
 use borrow.Author.Needs.{needs}
 use Rattle.report_lines.proofs.WholeLines.{thread-room, choice-room, step-end-room, step-whole}
 use Rattle.report_lines.proofs.put_step.Statement.{statement}
@@ -38,8 +38,8 @@ pub put-step-spec : {M : Type 1} → statement M
 put-step-spec =
     tie.close
     (tie.spec
-    thread-in-requires
     rest-in-requires
+    thread-in-requires
     slice-aggregate-put-numbered
     put-numbered-requires
     slice-aggregate-put-numbered-2

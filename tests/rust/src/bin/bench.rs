@@ -1,16 +1,22 @@
 //! Processor times of the library's verdict and of the reference's condition
 //! over pairs, beside those of SPIN where the table of `tests/spin/run` is given.
+//! With `--lengths` those of the library's calls on texts of 32,768 bytes that are
+//! mostly passed over, each beside a bare text of that length.
 //!
 //!   cargo run --release --features library --bin bench -- [--rounds N]
 //!                       [--family NAME] [--spin TABLE] [--write FOLDER]
+//!   cargo run --release --features library --bin bench -- --lengths [--rounds N]
 
+use std::collections::HashMap;
+use std::hint::black_box;
 use std::time::Duration;
 
-use lockplan_tests::answer::Answer;
+use lockplan_tests::answer::{Answer, REFUSED};
 use lockplan_tests::compare::kind;
-use lockplan_tests::reference::{read, SCHEDULE_ENTRIES};
+use lockplan_tests::reference::{read, MAX_PAIRS, SCHEDULE_ENTRIES};
+use lockplan_tests::tidy::COPY_BYTES;
 use lockplan_tests::verdict::{conflict_within, pairs_of_threads};
-use lockplan_tests::{families, library};
+use lockplan_tests::{families, lengths, library, standin};
 
 /// Pairs that the reference tries before it gives up.
 const TRIES: u64 = 50_000_000;
@@ -62,40 +68,90 @@ fn spin_time(table: &str, name: &str) -> String {
     }
 }
 
-fn main() {
-    let (mut rounds, mut family, mut spin) = (15, None, String::new());
-    let mut arguments = std::env::args().skip(1);
-    while let Some(name) = arguments.next() {
-        let value = arguments.next().unwrap_or_else(|| panic!("{name} needs a value"));
-        match name.as_str() {
-            "--rounds" => rounds = value.parse().expect("a number"),
-            "--family" => family = Some(value),
-            "--spin" => spin = std::fs::read_to_string(value).expect("a readable table"),
-            "--write" => {
-                families::write_all(value.as_ref()).expect("a writable folder");
-                return;
-            }
-            _ => panic!("unknown: {name}"),
+/// The calls that are timed on long texts.
+const CALLS: [&str; 3] = ["verdict", "pairs", "tidy"];
+
+/// Their times on a text.
+fn times(text: &[u8], rounds: usize) -> [Duration; 3] {
+    let mut out = vec![0; COPY_BYTES.max(2 * SCHEDULE_ENTRIES).max(8 * MAX_PAIRS)];
+    let verdict = median(rounds, || {
+        black_box(library::verdict(black_box(text), &mut out));
+    });
+    let pairs = median(rounds, || {
+        black_box(library::pairs(black_box(text), 0, &mut out));
+    });
+    let tidy = median(rounds, || {
+        black_box(library::tidy(black_box(text), &mut out));
+    });
+    [verdict, pairs, tidy]
+}
+
+/// The texts of 32,768 bytes: each call's time, how many times that of the bare
+/// text beside it this is, and the time of the verdict on the text without what is
+/// passed over.
+fn print_lengths(rounds: usize) {
+    println!(
+        "{:28} {:>6} {:>6} {:>14} {:>11} {:>5} {:>11} {:>5} {:>11} {:>5} {:>11}  beside",
+        "text",
+        "lines",
+        "forms",
+        "answer",
+        "verdict us",
+        "times",
+        "pairs us",
+        "times",
+        "tidy us",
+        "times",
+        "without us"
+    );
+    let mut bare: HashMap<String, [Duration; 3]> = HashMap::new();
+    let mut highest = (0.0, String::new());
+    for long in lengths::all() {
+        let without = standin::copy_by(&long.text, standin::tidy_line);
+        let lines = |text: &[u8]| text.iter().filter(|byte| **byte == 10).count();
+        let answer = Answer::new(library::verdict(&long.text, &mut vec![0; 2 * SCHEDULE_ENTRIES]));
+        let said = match answer.kind {
+            REFUSED => format!("{} {} {}", kind(answer), answer.a, answer.b),
+            _ => kind(answer).into(),
+        };
+        let own = times(&long.text, rounds);
+        if long.beside == long.name {
+            bare.insert(long.name.clone(), own);
         }
+        print!("{:28} {:6} {:6} {said:>14}", long.name, lines(&long.text), lines(&without));
+        for ((time, beside), call) in own.into_iter().zip(bare[long.beside]).zip(CALLS) {
+            let ratio = time.as_secs_f64() / beside.as_secs_f64();
+            if ratio > highest.0 {
+                highest = (ratio, format!("{call} on {} beside {}", long.name, long.beside));
+            }
+            print!(" {:>11} {ratio:5.2}", microseconds(time));
+        }
+        let [alone, ..] = times(&without, rounds);
+        println!(" {:>11}  {}", microseconds(alone), long.beside);
     }
+    println!("at most {:.2} times the time of a bare text: {}", highest.0, highest.1);
+}
+
+/// The families whose names begin so; the number of wrong verdicts.
+fn print_families(rounds: usize, family: &str, spin: &str) -> usize {
     println!(
         "{:24} {:9} {:>7} {:>7} {:>14} {:>14} {:>10} {:>12}",
         "family", "verdict", "entries", "pairs", "library us", "reference us", "tried", "spin s"
     );
     let mut wrong = 0;
     for (name, draft, deadlock) in families::all() {
-        if family.as_ref().is_some_and(|family| !name.starts_with(family.as_str())) {
+        if !name.starts_with(family) {
             continue;
         }
         let text = draft.text();
         let mut out = vec![0; 2 * SCHEDULE_ENTRIES];
         let answer = Answer::new(library::verdict(&text, &mut out));
         let ours = median(rounds, || {
-            std::hint::black_box(library::verdict(std::hint::black_box(&text), &mut out));
+            black_box(library::verdict(black_box(&text), &mut out));
         });
         let mut tried = Some(0);
         let theirs = median(rounds, || {
-            let plan = read(std::hint::black_box(&text)).expect("an accepted plan");
+            let plan = read(black_box(&text)).expect("an accepted plan");
             let pairs = pairs_of_threads(&plan);
             tried = conflict_within(&pairs, TRIES).map(|(_, left)| TRIES - left);
         });
@@ -110,9 +166,33 @@ fn main() {
             microseconds(ours),
             microseconds(theirs),
             tried.map_or("given up".into(), |tried| tried.to_string()),
-            spin_time(&spin, &name),
+            spin_time(spin, &name),
             if kind(answer) == expected { "" } else { "  WRONG" },
         );
     }
+    wrong
+}
+
+fn main() {
+    let (mut rounds, mut family, mut spin, mut long_texts) = (15, String::new(), String::new(), false);
+    let mut arguments = std::env::args().skip(1);
+    while let Some(name) = arguments.next() {
+        let mut value = || arguments.next().unwrap_or_else(|| panic!("{name} needs a value"));
+        match name.as_str() {
+            "--lengths" => long_texts = true,
+            "--rounds" => rounds = value().parse().expect("a number"),
+            "--family" => family = value(),
+            "--spin" => spin = std::fs::read_to_string(value()).expect("a readable table"),
+            "--write" => {
+                families::write_all(value().as_ref()).expect("a writable folder");
+                return;
+            }
+            _ => panic!("unknown: {name}"),
+        }
+    }
+    if long_texts {
+        return print_lengths(rounds);
+    }
+    let wrong = print_families(rounds, &family, &spin);
     std::process::exit(i32::from(wrong > 0));
 }

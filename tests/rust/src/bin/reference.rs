@@ -1,9 +1,16 @@
-//! Prints the report of a plan from standard input, by the reference.
+//! Prints the report of a plan from standard input, by the reference; with
+//! `--tidy` its tidy copy, or the line of its refusal.
 
 use std::io::{Read, Write};
+
+use lockplan_tests::{report, tidy};
 
 fn main() -> std::io::Result<()> {
     let mut text = Vec::new();
     std::io::stdin().lock().read_to_end(&mut text)?;
-    std::io::stdout().write_all(&lockplan_tests::report::report(&text))
+    let printed = match std::env::args().nth(1).as_deref() {
+        Some("--tidy") => tidy::printed(&text),
+        _ => report::report(&text),
+    };
+    std::io::stdout().write_all(&printed)
 }

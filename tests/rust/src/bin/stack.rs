@@ -19,13 +19,15 @@ use lockplan_tests::generate::{generate, statements};
 use lockplan_tests::guard::{report_faults, Pages};
 use lockplan_tests::random::Random;
 use lockplan_tests::reference::{read, MAX_BRACKETS, MAX_PAIRS, MAX_PROCS, MAX_SIZE, SCHEDULE_ENTRIES};
-use lockplan_tests::shelf::{others, shelf};
+use lockplan_tests::shelf::all;
+use lockplan_tests::tidy::COPY_BYTES;
 
 // The functions of `library`. Only their addresses are taken: the arguments are
 // put into registers below.
 extern "C" {
     fn lockplan_verdict();
     fn lockplan_pairs();
+    fn lockplan_tidy();
 }
 
 /// A call of the library.
@@ -34,15 +36,36 @@ enum Call {
     Verdict,
     /// The pair list of a procedure.
     Pairs(usize),
+    Tidy,
+}
+
+impl Call {
+    /// As an argument of this program.
+    fn word(self) -> String {
+        match self {
+            Call::Verdict => "verdict".into(),
+            Call::Pairs(proc) => proc.to_string(),
+            Call::Tidy => "tidy".into(),
+        }
+    }
+
+    fn of_word(word: &str) -> Call {
+        match word {
+            "verdict" => Call::Verdict,
+            "tidy" => Call::Tidy,
+            _ => Call::Pairs(word.parse().expect("a procedure")),
+        }
+    }
 }
 
 /// Makes a call on the stack that ends at `top`, a multiple of 16.
 fn call_on(top: *mut u8, call: Call, text: &[u8]) -> Answer {
-    let mut out = vec![0_u8; (2 * SCHEDULE_ENTRIES).max(8 * MAX_PAIRS)];
+    let mut out = vec![0_u8; COPY_BYTES.max(2 * SCHEDULE_ENTRIES).max(8 * MAX_PAIRS)];
     let (at, bytes) = (out.as_mut_ptr() as usize, out.len());
     let (function, words) = match call {
         Call::Verdict => (lockplan_verdict as *const (), [at, bytes, 0]),
         Call::Pairs(proc) => (lockplan_pairs as *const (), [proc, at, bytes]),
+        Call::Tidy => (lockplan_tidy as *const (), [at, bytes, 0]),
     };
     let answer: u64;
     // SAFETY: the text and the buffer are lent for the call with their lengths,
@@ -104,12 +127,8 @@ fn try_on(size: usize, call: Call) {
 
 /// Whether a call returns on so many bytes.
 fn returns(size: usize, call: Call, text: &[u8]) -> bool {
-    let call = match call {
-        Call::Verdict => "verdict".into(),
-        Call::Pairs(proc) => proc.to_string(),
-    };
     let mut child = Command::new(std::env::current_exe().expect("this program"))
-        .args(["--try", &size.to_string(), &call])
+        .args(["--try", &size.to_string(), &call.word()])
         .stdin(Stdio::piped())
         .stderr(Stdio::null())
         .spawn()
@@ -279,7 +298,7 @@ type Texts = Vec<(String, Vec<u8>)>;
 
 /// Other plans that are measured, by name.
 fn others_of(texts: u64, seed: u64) -> Vec<(String, Texts)> {
-    let fixed = shelf().into_iter().chain(others()).map(|entry| (entry.name.to_string(), entry.text));
+    let fixed = all().into_iter().map(|entry| (entry.name.to_string(), entry.text));
     let families = families::all().into_iter().map(|(name, draft, _)| (name, draft.text()));
     let random = |index| (format!("text {index}"), generate(&mut Random::of_text(seed, index)).text);
     vec![
@@ -287,6 +306,34 @@ fn others_of(texts: u64, seed: u64) -> Vec<(String, Texts)> {
         ("families".into(), families.collect()),
         (format!("seed {seed}"), (0..texts).map(random).collect()),
     ]
+}
+
+/// The plans of a row that need most, by call.
+struct Row([Most; 3]);
+
+impl Row {
+    fn new() -> Row {
+        Row([Call::Verdict, Call::Pairs(0), Call::Tidy].map(Most::new))
+    }
+
+    /// The verdict's answer.
+    fn take(&mut self, painted: &mut Painted, proc: usize, text: &[u8], plan: &str) -> Answer {
+        let [verdict, pairs, tidy] = &mut self.0;
+        pairs.take(painted, Call::Pairs(proc), text, plan);
+        tidy.take(painted, Call::Tidy, text, plan);
+        verdict.take(painted, Call::Verdict, text, plan)
+    }
+
+    fn print(&self, name: &str) {
+        let [verdict, pairs, tidy] = &self.0;
+        let mut plans = verdict.plan.clone();
+        for (call, most) in [("pairs", pairs), ("tidy", tidy)] {
+            if most.plan != verdict.plan {
+                plans += &format!("; {call}: {}", most.plan);
+            }
+        }
+        println!("{name:14} {:8} {:8} {:8}  {plans}", verdict.least(), pairs.least(), tidy.least());
+    }
 }
 
 fn main() {
@@ -299,22 +346,18 @@ fn main() {
             "--seed" => seed = value().parse().expect("a number"),
             "--try" => {
                 let size = value().parse().expect("a number");
-                return try_on(size, value().parse().map_or(Call::Verdict, Call::Pairs));
+                return try_on(size, Call::of_word(&value()));
             }
             _ => panic!("unknown: {name}"),
         }
     }
     let mut painted = Painted::new();
     println!(
-        "{:14} {:>8} {:>8}  plan of the verdict's figure; of the pair list's",
-        "plans", "verdict", "pairs"
+        "{:14} {:>8} {:>8} {:>8}  plan of the verdict's figure; of the others where they have another",
+        "plans", "verdict", "pairs", "tidy"
     );
-    let row = |name: &str, verdict: &Most, pairs: &Most| {
-        let also = if pairs.plan == verdict.plan { String::new() } else { format!("; {}", pairs.plan) };
-        println!("{name:14} {:8} {:8}  {}{also}", verdict.least(), pairs.least(), verdict.plan);
-    };
     for (name, towers) in towers() {
-        let (mut verdict, mut pairs) = (Most::new(Call::Verdict), Most::new(Call::Pairs(0)));
+        let mut row = Row::new();
         for tower in towers {
             let (draft, brackets) = (tower.draft(), tower.brackets());
             let all: usize = draft.procs.iter().map(|body| statements(body)).sum();
@@ -322,18 +365,16 @@ fn main() {
                 "{} calls, {brackets} brackets, {} skips, {all} statements",
                 tower.calls, tower.skips
             );
-            let answer = verdict.take(&mut painted, Call::Verdict, &draft.text(), &plan);
+            let answer = row.take(&mut painted, tower.calls, &draft.text(), &plan);
             assert_eq!(answer.kind, DEADLOCK, "{plan}");
-            pairs.take(&mut painted, Call::Pairs(tower.calls), &draft.text(), &plan);
         }
-        row(&name, &verdict, &pairs);
+        row.print(&name);
     }
     for (name, plans) in others_of(texts, seed) {
-        let (mut verdict, mut pairs) = (Most::new(Call::Verdict), Most::new(Call::Pairs(0)));
+        let mut row = Row::new();
         for (plan, text) in &plans {
-            verdict.take(&mut painted, Call::Verdict, text, plan);
-            pairs.take(&mut painted, Call::Pairs(0), text, plan);
+            row.take(&mut painted, 0, text, plan);
         }
-        row(&name, &verdict, &pairs);
+        row.print(&name);
     }
 }

@@ -1,69 +1,22 @@
--- The part of a text that `proc_part` finds is the procedure's lines (`proc-lines`). A text is its forms' lines, none of which has a byte 10 within, so lines can be
--- counted in forms; and within a procedure stands no form that begins another thing.
+-- The forms of a procedure among those of its plan (`proc-forms`): within a procedure stands no form that begins another thing, and its closing form is the last before
+-- one that does.
 use Prim.Native.Nat.{ℕ, zero, suc, _+_, _-_, _<_, _≤_}
 use native.Mathlib.Numerals.{add-one}
 use native.Mathlib.Omega.{arith}
 use mathlib.Core.Path.{_≡_, refl, sym, ap, _∙_}
-use mathlib.Core.List.{List, [], _∷_, _++_, append-assoc, List·Memᴰ, List·Memᴰ·head, List·Memᴰ·tail}
-use lib.ListN.{length, take, drop, length-append, take-append-drop}
-use lib.Seq.{take-at, drop-at, take-add, drop-drop}
+use mathlib.Core.Bool.{Bool, true, false, cond}
+use mathlib.Core.List.{List, [], _∷_}
+use lib.ListN.{length, take, drop, length-drop}
+use lib.Seq.{drop-drop}
 use lib.Dec.{eqb·suc-zero}
 use borrow.Author.Tests.{ne-eqb}
 use Rattle.text.specs.declared.Form.{Form}
 use Rattle.text.specs.declared.Form.the-variants.{Plan, Proc, Close, Skip, Call, Hold, Loop, Either, One, Two}
-use Rattle.text.specs.Forms.{write, kindIn}
-use Rattle.text.specs.Lines.{textOf}
-use Rattle.text.proofs.Written.{write-unbroken}
+use Rattle.text.specs.Forms.{kindIn, beginsOther}
 use Rattle.semantics.specs.Plan.{Block, done, skip, call, hold, loop, either, end, LockPlan, bodyIn}
 use Rattle.plan.specs.Grammar.{blockForms, procForms, threadForms, forms}
-use Rattle.plan.specs.Rules.{procLineFrom}
-use Rattle.parts.specs.Parts.{leftAfter, skipLines, bytesIn, linesSpan, formsBefore, formsToClosing}
-
--- ---- lines counted in forms
-
-skip-none : (l : List ℕ) → skipLines 0 l ≡ 0
-unfolding skipLines
-skip-none [] = refl
-skip-none (b ∷ bs) = refl
-
-skip-line : (l rest : List ℕ) (k : ℕ) → (List·Memᴰ 10 l → ⊥) → skipLines (suc k) (l ++ 10 ∷ rest) ≡ suc (length l) + skipLines k rest
-unfolding skipLines leftAfter
-skip-line [] rest k h = let e : suc k - 1 ≡ k = omega arith in rw (eqb·suc-zero k, e) (omega arith)
-skip-line (b ∷ l) rest k h =
-    let n : b ≡ 10 → ⊥ = λ e. h (List·Memᴰ·head (sym e)) in
-    rw (eqb·suc-zero k, ne-eqb b 10 n) (omega (arith, skip-line l rest k (λ m. h (List·Memᴰ·tail m))))
-
-length-line : (f : Form) (l : List ℕ) → length (write f ++ 10 ∷ l) ≡ suc (length (write f)) + length l
-length-line f l = rw length-append (omega arith)
-
-skip-forms : (fs : List Form) (k : ℕ) → skipLines k (textOf fs) ≡ length (textOf (take k fs))
-unfolding textOf skipLines
-skip-forms [] zero = refl
-skip-forms [] (suc k) = refl
-skip-forms (f ∷ fs) zero = skip-none (write f ++ 10 ∷ textOf fs)
-skip-forms (f ∷ fs) (suc k) =
-    skip-line (write f) (textOf fs) k (write-unbroken f) ∙ ap (λ n. suc (length (write f)) + n) (skip-forms fs k) ∙ sym (length-line f (textOf (take k fs)))
-
-text-append : (xs ys : List Form) → textOf (xs ++ ys) ≡ textOf xs ++ textOf ys
-unfolding textOf
-text-append [] ys = refl
-text-append (x ∷ xs) ys = ap (λ l. write x ++ 10 ∷ l) (text-append xs ys) ∙ sym (append-assoc (write x) (10 ∷ textOf xs) (textOf ys))
-
-lines-forms : (fs : List Form) (a n : ℕ) → bytesIn (textOf fs) (linesSpan (textOf fs) a (a + n)) ≡ textOf (take n (drop a fs))
-unfolding linesSpan
-lines-forms fs a n =
-    let x = textOf (take a fs) in
-    let y = textOf (take n (drop a fs)) in
-    let whole : textOf fs ≡ x ++ textOf (drop a fs) = ap textOf (sym (take-append-drop a fs)) ∙ text-append (take a fs) (drop a fs) in
-    let later : textOf (drop a fs) ≡ y ++ textOf (drop n (drop a fs)) =
-    ap textOf (sym (take-append-drop n (drop a fs))) ∙ text-append (take n (drop a fs)) (drop n (drop a fs)) in
-    let upTo : length (textOf (take (a + n) fs)) ≡ length x + length y =
-    ap (λ l. length (textOf l)) (take-add a n fs) ∙ ap length (text-append (take a fs) (take n (drop a fs))) ∙ length-append x y in
-    let size : length x + length y - length x ≡ length y = omega arith in
-    rw (skip-forms fs a, skip-forms fs (a + n), upTo, size)
-    (ap (take (length y)) (ap (drop (length x)) whole ∙ drop-at x (textOf (drop a fs)) (length x) refl ∙ later) ∙ take-at y (textOf (drop n (drop a fs))) (length y) refl)
-
--- ---- the forms of a procedure
+use Rattle.plan.specs.Rules.{procFormFrom}
+use Rattle.parts.specs.Parts.{formsBefore, formsToClosing}
 
 -- up to the first form that begins another thing
 before-block : (b : Block) (fs : List Form) → take (formsBefore (blockForms b fs)) (blockForms b fs) ≡ blockForms b (take (formsBefore fs) fs)
@@ -78,32 +31,32 @@ before-block (either a b r) fs =
     ∙ ap (λ x. blockForms a (Close ∷ Two ∷ x)) (before-block b (Close ∷ Close ∷ blockForms r fs) ∙ ap (λ x. blockForms b (Close ∷ Close ∷ x)) (before-block r fs)))
 before-block (end l r) fs = before-block r fs
 
--- m forms on: where the lines of procedures are counted, and what stands there
+-- forms on: where the procedures are counted, and what stands there
 record Passes (p : ℕ) (xs fs : List Form) : Type 0 where
   forms-on : ℕ
-  counted : (n : ℕ) → procLineFrom n p xs ≡ procLineFrom (n + forms-on) p fs
+  counted : (n : ℕ) → procFormFrom n p xs ≡ procFormFrom (n + forms-on) p fs
   there : drop forms-on xs ≡ fs
 
 passes-none : (p : ℕ) (fs : List Form) → Passes p fs fs
-passes-none p fs = record { forms-on = 0; counted = λ n. ap (λ k. procLineFrom k p fs) (omega arith); there = refl }
+passes-none p fs = record { forms-on = 0; counted = λ n. ap (λ k. procFormFrom k p fs) (omega arith); there = refl }
 
 -- one form that begins no procedure, then others
-passes-more : (p : ℕ) (f : Form) (xs fs : List Form) → ((n : ℕ) → procLineFrom n p (f ∷ xs) ≡ procLineFrom (suc n) p xs) → Passes p xs fs → Passes p (f ∷ xs) fs
+passes-more : (p : ℕ) (f : Form) (xs fs : List Form) → ((n : ℕ) → procFormFrom n p (f ∷ xs) ≡ procFormFrom (suc n) p xs) → Passes p xs fs → Passes p (f ∷ xs) fs
 passes-more p f xs fs h m = record {
   forms-on = suc (m .forms-on);
-  counted = λ n. h n ∙ m .counted (suc n) ∙ ap (λ k. procLineFrom k p fs) (omega arith);
+  counted = λ n. h n ∙ m .counted (suc n) ∙ ap (λ k. procFormFrom k p fs) (omega arith);
   there = m .there;
 }
 
 passes-then : (p : ℕ) (xs ys fs : List Form) → Passes p xs ys → Passes p ys fs → Passes p xs fs
 passes-then p xs ys fs a b = record {
   forms-on = a .forms-on + b .forms-on;
-  counted = λ n. a .counted n ∙ b .counted (n + a .forms-on) ∙ ap (λ k. procLineFrom k p fs) (omega arith);
+  counted = λ n. a .counted n ∙ b .counted (n + a .forms-on) ∙ ap (λ k. procFormFrom k p fs) (omega arith);
   there = sym (drop-drop (b .forms-on) (a .forms-on) xs) ∙ ap (drop (b .forms-on)) (a .there) ∙ b .there;
 }
 
 passes-block : (p : ℕ) (b : Block) (fs : List Form) → Passes p (blockForms b fs) fs
-unfolding blockForms procLineFrom kindIn
+unfolding blockForms procFormFrom kindIn
 passes-block p done fs = passes-none p fs
 passes-block p (skip r) fs = passes-more p Skip (blockForms r fs) fs (λ n. refl) (passes-block p r fs)
 passes-block p (call q r) fs = passes-more p (Call q) (blockForms r fs) fs (λ n. refl) (passes-block p r fs)
@@ -129,7 +82,7 @@ passes-block p (end l r) fs = passes-block p r fs
 -- where procedure p stands among the forms, with no form of it behind
 record ProcAt (n : ℕ) (p : ℕ) (ps : List Block) (xs : List Form) : Type 0 where
   place : ℕ
-  line : procLineFrom n p xs ≡ n + place
+  number : procFormFrom n p xs ≡ n + place
   later : List Form
   there : drop place xs ≡ Proc ∷ blockForms (bodyIn ps p) (Close ∷ later)
   ends : formsBefore later ≡ 0
@@ -139,17 +92,17 @@ unfolding procForms formsBefore kindIn
 begins-procs [] gs h = h
 begins-procs (b ∷ ps) gs h = refl
 
-later-line : (p n : ℕ) (xs : List Form) → procLineFrom n (suc p) (Proc ∷ xs) ≡ procLineFrom (suc n) p xs
-unfolding procLineFrom kindIn
-later-line p n xs = let q : suc p - 1 ≡ p = omega arith in rw (eqb·suc-zero p, q)
+later-proc : (p n : ℕ) (xs : List Form) → procFormFrom n (suc p) (Proc ∷ xs) ≡ procFormFrom (suc n) p xs
+unfolding procFormFrom kindIn
+later-proc p n xs = let q : suc p - 1 ≡ p = omega arith in rw (eqb·suc-zero p, q)
 
 regroup : (n a b : ℕ) → suc n + a + b ≡ n + suc (a + b)
 regroup n a b = omega arith
 
 proc-at : (ps : List Block) (gs : List Form) (p n : ℕ) → p < length ps → formsBefore gs ≡ 0 → ProcAt n p ps (procForms ps gs)
-unfolding procForms procLineFrom bodyIn kindIn
+unfolding procForms procFormFrom bodyIn kindIn
 proc-at [] gs p n h e = absurd (omega arith)
-proc-at (b ∷ ps) gs zero n h e = record { place = 0; line = omega arith; later = procForms ps gs; there = refl; ends = begins-procs ps gs e }
+proc-at (b ∷ ps) gs zero n h e = record { place = 0; number = omega arith; later = procForms ps gs; there = refl; ends = begins-procs ps gs e }
 proc-at (b ∷ ps) gs (suc p) n h e =
     let fs = procForms ps gs in
     let x = passes-more p Close fs fs (λ k. refl) (passes-none p fs) in
@@ -157,7 +110,7 @@ proc-at (b ∷ ps) gs (suc p) n h e =
     let r = proc-at ps gs p (suc n + m .forms-on) (omega arith) e in
     record {
       place = suc (m .forms-on + r .place);
-      line = later-line p n (blockForms b (Close ∷ fs)) ∙ m .counted (suc n) ∙ r .line ∙ regroup n (m .forms-on) (r .place);
+      number = later-proc p n (blockForms b (Close ∷ fs)) ∙ m .counted (suc n) ∙ r .number ∙ regroup n (m .forms-on) (r .place);
       later = r .later;
       there = sym (drop-drop (r .place) (m .forms-on) (blockForms b (Close ∷ fs))) ∙ ap (drop (r .place)) (m .there) ∙ r .there;
       ends = r .ends;
@@ -168,12 +121,12 @@ unfolding threadForms formsBefore kindIn
 begins-threads [] fs h = absurd (omega arith)
 begins-threads (n ∷ ns) fs h = refl
 
--- a closing line is the last
+-- a closing form is the last
 closing : (later : List Form) → formsBefore later ≡ 0 → take (formsBefore (Close ∷ later)) (Close ∷ later) ≡ Close ∷ []
 unfolding formsBefore kindIn
 closing later z = rw z
 
--- a procedure's closing line, with no bracket open
+-- a procedure's closing form, with no bracket open
 closed : (later : List Form) → formsBefore later ≡ 0 → formsBefore (Close ∷ later) ≡ formsToClosing 0 (Close ∷ later)
 unfolding formsBefore kindIn formsToClosing
 closed later z = rw z
@@ -183,7 +136,7 @@ closes : (depth : ℕ) (fs : List Form) → formsBefore fs ≡ formsToClosing de
 unfolding formsBefore kindIn formsToClosing
 closes depth fs h = let e : depth + 1 - 1 ≡ depth = omega arith in rw (ne-eqb (depth + 1) 0 (λ z. omega arith), e) (ap suc h)
 
--- the closing line is the last before the next form that begins another thing
+-- the closing form is the last before the next form that begins another thing
 closing-block : (b : Block) (depth : ℕ) (fs : List Form) → formsBefore fs ≡ formsToClosing depth fs → formsBefore (blockForms b fs) ≡ formsToClosing depth (blockForms b fs)
 unfolding blockForms formsBefore kindIn formsToClosing
 closing-block done depth fs h = h
@@ -199,29 +152,48 @@ closing-block (either a b r) depth fs h =
     ap (λ n. suc (suc n)) (closing-block a (depth + 1 + 1) (Close ∷ Two ∷ blockForms b (Close ∷ Close ∷ gs)) after-a)
 closing-block (end l r) depth fs h = closing-block r depth fs h
 
--- the lines from a procedure's first line, whose number is `line`, to its last
-pub record ProcLines (plan : LockPlan) (p line : ℕ) : Type 0 where
-  pub first : 1 ≤ line
-  pub closing : formsBefore (drop line (forms plan)) ≡ formsToClosing 0 (drop line (forms plan))
-  pub written : bytesIn (textOf (forms plan)) (linesSpan (textOf (forms plan)) (line - 1) (line + formsToClosing 0 (drop line (forms plan))))
-      ≡ textOf (procForms (bodyIn (plan .procs) p ∷ []) [])
+-- how many forms a procedure has up to its closing form, that too
+before-most : (fs : List Form) → formsBefore fs ≤ length fs
+unfolding formsBefore
+before-most [] = omega arith
+before-most (f ∷ fs) = go (beginsOther f) (before-most fs)
+  where
+    go : (b : Bool) → formsBefore fs ≤ length fs → cond b 0 (suc (formsBefore fs)) ≤ suc (length fs)
+    go true h = omega arith
+    go false h = omega arith
 
-pub proc-lines : (plan : LockPlan) (p : ℕ) → p < length (plan .procs) → 0 < length (plan .threads) → (line : ℕ) → line ≡ procLineFrom 1 p (forms plan) → ProcLines plan p line
-unfolding forms procLineFrom procForms kindIn
-proc-lines plan p h t line e =
+before-some : (b : Block) (fs : List Form) → 1 ≤ formsBefore (blockForms b (Close ∷ fs))
+unfolding blockForms formsBefore kindIn
+before-some done fs = omega arith
+before-some (skip r) fs = omega arith
+before-some (call n r) fs = omega arith
+before-some (hold l b r) fs = omega arith
+before-some (loop b r) fs = omega arith
+before-some (either a b r) fs = omega arith
+before-some (end l r) fs = before-some r fs
+
+-- the forms of procedure p, from its `(proc`, which is form k, to its closing form
+pub record ProcForms (plan : LockPlan) (p k : ℕ) : Type 0 where
+  pub first : 1 ≤ k
+  pub closing : formsBefore (drop k (forms plan)) ≡ formsToClosing 0 (drop k (forms plan))
+  pub within : k + formsToClosing 0 (drop k (forms plan)) ≤ length (forms plan)
+  pub between : take (suc (formsToClosing 0 (drop k (forms plan)))) (drop (k - 1) (forms plan)) ≡ procForms (bodyIn (plan .procs) p ∷ []) []
+
+pub proc-forms : (plan : LockPlan) (p : ℕ) → p < length (plan .procs) → 0 < length (plan .threads) → (k : ℕ) → k ≡ procFormFrom 1 p (forms plan) → ProcForms plan p k
+unfolding forms procFormFrom procForms kindIn
+proc-forms plan p h t k e =
     let gs = threadForms (plan .threads) (Close ∷ []) in
     let fs = procForms (plan .procs) gs in
     let r = proc-at (plan .procs) gs p 2 h (begins-threads (plan .threads) (Close ∷ []) t) in
     let b = bodyIn (plan .procs) p in
-    let at : line ≡ suc (suc (r .place)) = e ∙ r .line ∙ omega arith in
-    let inside : drop line (Plan ∷ fs) ≡ blockForms b (Close ∷ r .later) =
+    let at : k ≡ suc (suc (r .place)) = e ∙ r .number ∙ omega arith in
+    let inside : drop k (Plan ∷ fs) ≡ blockForms b (Close ∷ r .later) =
     rw at (ap (λ n. drop n fs) (sym (add-one (r .place))) ∙ sym (drop-drop 1 (r .place) fs) ∙ ap (drop 1) (r .there)) in
     let n = formsBefore (blockForms b (Close ∷ r .later)) in
     let same : n ≡ formsToClosing 0 (blockForms b (Close ∷ r .later)) = closing-block b 0 (Close ∷ r .later) (closed (r .later) (r .ends)) in
-    let back : line - 1 ≡ suc (r .place) = omega arith in
-    let to : line + n ≡ suc (r .place) + suc n = omega arith in record {
+    let back : k - 1 ≡ suc (r .place) = omega arith in record {
       first = omega arith;
       closing = rw inside same;
-      written = rw (inside, ← same, back, to) (lines-forms (Plan ∷ fs) (suc (r .place)) (suc n)
-          ∙ ap (λ l. textOf (take (suc n) l)) (r .there) ∙ ap (λ l. textOf (Proc ∷ l)) (before-block b (Close ∷ r .later) ∙ ap (blockForms b) (closing (r .later) (r .ends))));
+      within = rw (inside, ← same) (omega (arith, before-most (blockForms b (Close ∷ r .later)), before-some b (r .later), ap length (sym inside) ∙ length-drop k (Plan ∷ fs)));
+      between = rw (inside, ← same, back) (ap (take (suc n)) (r .there) ∙ ap (λ l. Proc ∷ l) (before-block b (Close ∷ r .later) ∙ ap (blockForms b) (closing (r .later) (r .ends))));
     }

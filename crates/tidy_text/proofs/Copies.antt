@@ -1,0 +1,119 @@
+-- The tidy copy into a lent output: rule 1, then the plan's rules, then the writer over the table that they leave, which holds the forms of the plan. In the shape of the needs
+-- of the functions that give the copy.
+use Prim.Native.Nat.{ℕ, _-_, _^_, _<_, _≤_}
+use native.Mathlib.Omega.{arith}
+use mathlib.Core.Path.{_≡_, refl, sym, ap, _∙_}
+use mathlib.Core.List.{List}
+use mathlib.Core.Option.{Option, none, some, orElse}
+use lib.Dec.{ltb}
+use lib.ListN.{length, take}
+use borrow.Author.Tests.{lt-ltb, le-ltb}
+use Rattle.limits.specs.Limits.{maxBytes}
+use Rattle.laws.specs.Wrote.{Wrote, filled}
+use Rattle.laws.proofs.Tests.{first-none}
+use Rattle.laws.proofs.Wrote.{wrote-filled}
+use Rattle.text.specs.declared.Refusal.{Refusal}
+use Rattle.text.specs.Lines.{refusal, formsOf, textOf}
+use Rattle.plan.specs.declared.Reading.{Reading}
+use Rattle.plan.specs.declared.Reading.the-variants.{Accepted}
+use Rattle.plan.specs.declared.Reading.the-variants as plan
+use Rattle.plan.specs.Table.{tableForms}
+use Rattle.plan.specs.Rules.{refusedIf, planRefusal, tidyRefusal, Tabled}
+use Rattle.plan.proofs.Filling.{refused-is}
+use Rattle.plan.proofs.AcceptedTable.{plan-kept, plan-forms, plan-table}
+use Rattle.answers.specs.declared.Copied.{Copied}
+use Rattle.answers.specs.declared.Copied.the-variants.{Bytes, Refused}
+use Rattle.answers.specs.Answers.{copiedOf, copiedNumber, copiedHigh}
+use Rattle.answers.proofs.LineBounds.{Numbers, copy-bounded}
+use Rattle.report_lines.specs.Lines.{refusedLine}
+use Rattle.tidy_text.specs.Tidy.{tidyOf, Tidied, TidiedNumber, printedCopy}
+use Rattle.tidy_text.specs.Writing.{SmallTable}
+use Rattle.tidy_text.proofs.Tidy.{tidy-forms, tidy-fits, table-small}
+
+module _ (text before : List ℕ) where
+  refused-copy : (x : Refusal) → tidyRefusal text (length before) ≡ some x → Tidied text before (Refused x) before
+  unfolding copiedOf
+  refused-copy x e = record { answer = rw e; output = rw e }
+
+  pub copy-short : length before < maxBytes → Tidied text before (Refused (refusal 1 0)) before
+  unfolding tidyRefusal orElse
+  copy-short h = refused-copy (refusal 1 0) (rw (lt-ltb (length before) maxBytes h))
+
+  -- enough is lent: the plan's rules come next
+  plan-rules : maxBytes ≤ length before → tidyRefusal text (length before) ≡ planRefusal text
+  unfolding tidyRefusal orElse
+  plan-rules h = rw (le-ltb (length before) maxBytes h)
+
+  module _ (table : List ℕ) (q : Reading) (h : maxBytes ≤ length before) (t : Tabled (planRefusal text) text q table) where
+    pub copy-refused : (x : Refusal) → q ≡ plan.Refused x → Tidied text before (Refused x) before
+    copy-refused x g = refused-copy x (plan-rules h ∙ refused-is (planRefusal text) (length (formsOf text)) x (sym (t .answer) ∙ g))
+
+    module _ (n : ℕ) (g : q ≡ Accepted n) where
+      accepted : planRefusal text ≡ none
+      accepted = plan-kept text table q n t g
+
+      table-text : textOf (tableForms (take (n - 0) table)) ≡ tidyOf text
+      table-text = ap textOf (plan-forms text table q n t g) ∙ sym (tidy-forms text accepted)
+
+      pub copy-small : SmallTable (take (n - 0) table)
+      copy-small = table-small (take (n - 0) table) (plan-table text table q n t g)
+
+      pub copy-room : length (textOf (tableForms (take (n - 0) table))) ≤ length before
+      copy-room = omega (arith, ap length table-text, tidy-fits text accepted)
+
+      pub copy-written : (after : List ℕ) (k : ℕ) → Wrote before after 0 k (textOf (tableForms (take (n - 0) table))) → Tidied text before (Bytes k) after
+      unfolding copiedOf
+      copy-written after k w =
+          let z : tidyRefusal text (length before) ≡ none = plan-rules h ∙ accepted in
+          let c : k ≡ length (tidyOf text) = omega (arith, w .place, ap length table-text) in
+          record { answer = rw (z, c); output = rw z (wrote-filled before after 0 k _ w refl ∙ ap (λ x. filled x before) table-text) }
+
+-- ---- what the program prints
+
+module _ (text before : List ℕ) (r : Copied) (after : List ℕ) (t : Tidied text before r after) (h : maxBytes ≤ length before) where
+  by-plan : r ≡ copiedOf (planRefusal text) (length (tidyOf text))
+  by-plan = rw (plan-rules text before h) at (t .answer)
+
+  copy-kept : (o : Option Refusal) (m n : ℕ) → r ≡ copiedOf o m → r ≡ Bytes n → (o ≡ none) × (n ≡ m)
+  unfolding copiedOf
+  copy-kept none m n e g = (refl, cc)
+  copy-kept (some w) m n e g = let z : _≡_ {A = ℕ} 0 1 = cc in absurd (omega arith)
+
+  copy-refusal : (o : Option Refusal) (m : ℕ) (x : Refusal) → r ≡ copiedOf o m → r ≡ Refused x → o ≡ some x
+  unfolding copiedOf
+  copy-refusal none m x e g = let z : _≡_ {A = ℕ} 0 1 = cc in absurd (omega arith)
+  copy-refusal (some w) m x e g = let k : w ≡ x = cc in ap {B = Option Refusal} some k
+
+  pub printed-copy : (n : ℕ) → r ≡ Bytes n → Wrote before after 0 n (printedCopy text)
+  unfolding printedCopy
+  printed-copy n g =
+      let k = copy-kept (planRefusal text) (length (tidyOf text)) n by-plan g in
+      let given : after ≡ filled (tidyOf text) before = rw (plan-rules text before h, k .0) at (t .output) in
+      let count : n ≡ length (tidyOf text) = k .1 in
+      rw (k .0) (record { place = omega arith; fits = omega (arith, tidy-fits text (k .0)); written = rw count given })
+
+  pub printed-refusal : (x : Refusal) (after₁ : List ℕ) (n : ℕ) → r ≡ Refused x → Wrote after after₁ 0 n (refusedLine (x .rule) (x .line))
+      → Wrote before after₁ 0 n (printedCopy text)
+  unfolding printedCopy
+  printed-refusal x after₁ n g w =
+      let k = copy-refusal (planRefusal text) (length (tidyOf text)) x by-plan g in
+      let same : after ≡ before = rw (plan-rules text before h, k) at (t .output) in
+      rw (k, ← same) w
+
+-- ---- the answer as a number
+
+-- a copy has at most 32,768 bytes, and a refusal's line is a line of the text or 0
+pub copy-carried : (text before : List ℕ) (r : Copied) (after : List ℕ) → Tidied text before r after → copiedHigh r < 2 ^ 40
+unfolding tidyRefusal copiedOf copiedHigh
+copy-carried text before r after t = go (tidyRefusal text (length before)) (t .answer) fits (copy-bounded text (length before))
+  where
+    fits : tidyRefusal text (length before) ≡ none → length (tidyOf text) ≤ maxBytes
+    fits e = tidy-fits text (first-none (refusedIf 1 (ltb (length before) maxBytes)) (planRefusal text) e .1)
+
+    go : (o : Option Refusal) → r ≡ copiedOf o (length (tidyOf text)) → (o ≡ none → length (tidyOf text) ≤ maxBytes)
+        → ((w : Refusal) → o ≡ some w → Numbers w) → copiedHigh r < 2 ^ 40
+    go none e few small = rw e (omega (arith, few refl))
+    go (some w) e few small = rw e (small w refl .line)
+
+pub copy-number : (text before : List ℕ) (r : Copied) (after : List ℕ) (v : ℕ) → Tidied text before r after → v ≡ copiedNumber r → TidiedNumber text before v after
+copy-number text before r after v t e = record { copied = r; number = e; tidied = t }
