@@ -1,5 +1,5 @@
--- A refusal's numbers are small: the rule is one of 1 to 11, and the line is 0 or at most one more than the file has lines, of which there are no more than bytes. Of the rules
--- 4 to 10 this asks nothing but their numbers: every line that `lineOf` gives is such a line.
+-- A refusal's numbers are small: the rule is one of 1 to 12, and the line is 0 or at most one more than the file has lines, of which there are no more than bytes. Of the rules
+-- over the forms this asks nothing but their numbers: every line that `lineOf` gives is such a line.
 use Prim.Native.Nat.{ℕ, suc, _+_, _^_, _<_, _≤_}
 use native.Mathlib.Omega.{arith}
 use mathlib.Core.Bool.{Bool, true, false, cond}
@@ -19,9 +19,9 @@ use Rattle.text.specs.Lines.{refusal, pushByte, split, unindented, passedOver, 
 use Rattle.text.proofs.FormLines.{line-of-most}
 use Rattle.plan.specs.Grammar.{planIn}
 use Rattle.plan.specs.Structure.{misplacedForm}
-use Rattle.plan.specs.Limits.{breakingForm}
-use Rattle.plan.specs.Rules.{refusedAt, refusedIf, tooLong, linesRefusal, grammarRefusal, procForm, lowestFrom, procRefusal, tooLarge, tooManyPairs, formsRefusal, inFile, planOf}
-use Rattle.plan.specs.Rules.{planRefusal, verdictRefusal, pairsRefusal, tidyRefusal}
+use Rattle.plan.specs.Limits.{pastLimitForm, breakingForm}
+use Rattle.plan.specs.Rules.{refusedAt, refusedIf, tooLong, linesRefusal, referencesRefusal, grammarRefusal, procForm, lowestFrom, procRefusal, recursive, tooLarge, tooManyPairs}
+use Rattle.plan.specs.Rules.{formsRefusal, inFile, planOf, planRefusal, verdictRefusal, pairsRefusal, tidyRefusal}
 use Rattle.plan.proofs.AcceptedTable.{short-enough, lines-short}
 
 -- ---- lines
@@ -106,13 +106,13 @@ module _ (fs : List Form) where
   small-proc rule test h = small-at rule (procForm fs (lowestFrom test 0 (length (planIn fs .procs)))) h
 
   forms-small : If SmallRule (formsRefusal fs)
-  unfolding formsRefusal grammarRefusal tooLarge tooManyPairs
+  unfolding formsRefusal grammarRefusal referencesRefusal recursive tooLarge tooManyPairs
   forms-small =
       let by : (rule : ℕ) → rule < 256 → If SmallRule (refusedAt rule (breakingForm rule fs)) = λ rule h. small-at rule (breakingForm rule fs) h in
       if-or _ _
       (if-or _ _ (small-at 4 (misplacedForm fs) (omega arith))
-      (λ _. if-or _ _ (by 5 (omega arith)) (λ _. if-or _ _ (by 6 (omega arith)) (λ _. if-or _ _ (by 7 (omega arith)) (λ _. by 8 (omega arith))))))
-      (λ _. if-or _ _ (small-proc 9 _ (omega arith)) (λ _. small-proc 10 _ (omega arith)))
+      (λ _. if-or _ _ (small-at 5 (pastLimitForm fs) (omega arith)) (λ _. if-or _ _ (by 6 (omega arith)) (λ _. if-or _ _ (by 7 (omega arith)) (λ _. by 8 (omega arith))))))
+      (λ _. if-or _ _ (small-proc 12 _ (omega arith)) (λ _. if-or _ _ (small-proc 9 _ (omega arith)) (λ _. small-proc 10 _ (omega arith))))
 
 module _ (text : List ℕ) where
   lines-bounded : length text ≤ maxBytes → If Numbers (refusedAt 3 (unreadableLine text))

@@ -1,4 +1,4 @@
--- The plan's rules in checking order: 2 and 3 leave a table of forms, over which 4 to 8 are tested and then 9 and 10; a form that is named is named by its line.
+-- The plan's rules in checking order: 2 and 3 leave a table of forms, over which 4 to 8 are tested and then 12, 9 and 10; a form that is named is named by its line.
 use Prim.Native.Nat.{ℕ, _-_, _≤_}
 use native.Mathlib.Omega.{arith}
 use mathlib.Core.Path.{_≡_, sym, ap, _∙_}
@@ -13,10 +13,12 @@ use Rattle.text.proofs.Splits.{few-forms}
 use Rattle.plan.specs.declared.Reading.{Reading}
 use Rattle.plan.specs.declared.Reading.the-variants.{Accepted, Refused}
 use Rattle.plan.specs.Table.{formAt, tableForms}
-use Rattle.plan.specs.Settled.{PlanTable}
-use Rattle.plan.specs.Rules.{linesRefusal, grammarRefusal, procsRefusal, formsRefusal, inFile, planRefusal, readingOf, readInFile, Tabled}
+use Rattle.semantics.specs.Plan.{Ranks}
+use Rattle.plan.specs.Settled.{PlanTable, tablePlan}
+use Rattle.plan.specs.Rules.{linesRefusal, grammarRefusal, recursive, procsRefusal, formsRefusal, inFile, planRefusal, readingOf, readInFile, Tabled}
 use Rattle.plan.proofs.Passes.{first-refuses, first-passes}
 use Rattle.plan.proofs.Filling.{accepted-none, accepted-count, read-in-file}
+use Rattle.plan.proofs.Ranked.{rules-ranks}
 use Rattle.plan.proofs.AcceptedTable.{file-none, lines-short, formed-table, plan-kept}
 use Rattle.procs.specs.declared.Layout.{Layout}
 use Rattle.procs.specs.Laid.{Laid}
@@ -28,7 +30,7 @@ refused-not : (x : Refusal) (o : Option Refusal) (n : ℕ) → Refused x ≡ rea
 unfolding readingOf
 refused-not x o n e g = let k : _≡_ {A = ℕ} 0 1 = cc in absurd (omega arith)
 
--- ---- rules 4 to 10 over a table: q is the reading by 4 to 8
+-- ---- the rules over a table: q is the reading by 4 to 8
 
 module _ (ws : List ℕ) (q : Reading) (e : q ≡ readingOf (grammarRefusal (tableForms ws)) (length ws)) where
   pub grammar-refused : (x : Refusal) (r : CheckedText) → q ≡ Refused x → r .reading ≡ q → ChecksTable ws r
@@ -48,6 +50,11 @@ module _ (ws : List ℕ) (q : Reading) (e : q ≡ readingOf (grammarRefusal (tab
       reading = first-passes (grammarRefusal (tableForms ws)) (procsRefusal (tableForms ws)) q (r .reading) (length ws) n e g h;
       laid = λ k. d;
     }
+
+-- ---- of a plan: q is the reading by 12
+
+pub reading-ranks : (ws : List ℕ) (q : Reading) (n : ℕ) → PlanTable ws → q ≡ readingOf (recursive (tableForms ws)) (length ws) → q ≡ Accepted n → Ranks (tablePlan ws .procs)
+reading-ranks ws q n t e g = rules-ranks _ (t .settled) (accepted-none (recursive (tableForms ws)) (length ws) n (sym e ∙ g))
 
 -- ---- the whole text: q is the reading by 2 and 3
 

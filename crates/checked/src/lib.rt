@@ -1,4 +1,4 @@
-// The rules 2 to 10 over a text, in checking order, each tested over the whole text before the next; and the layout of an accepted text.
+// The rules 2 to 10 and 12 over a text, in checking order, each tested over the whole text before the next; and the layout of an accepted text.
 ghost use mathlib.Core.Path.{_≡_};
 ghost use Prim.Native.Nat.{_≤_};
 ghost use lib.ListN.{length};
@@ -45,25 +45,35 @@ fn check_grammar(table: &[u64]) -> Reading
     plan::check_forms(table, &mut stack)
 }
 
-// Rules 9 and 10 over the table of a plan, with a list of its own; and the table's layout.
+// Rules 12, 9 and 10 over the table of a plan, with a list of its own for the pairs.
+fn check_procs(table: &[u64], layout: Layout) -> Reading
+    requires { ⌜ PlanTable (now table) × Laid (now table) layout ⌝ }
+    ensures { λ r. ⌜ r ≡ readingOf (procsRefusal (tableForms (now (table .entry)))) (length (now (table .entry))) ⌝ }
+{
+    let masks = reach::reach_masks(table, layout);
+    let called = reach::check_recursion(table, layout, &masks);
+    let Reading::Accepted(_) = called else {
+        return called;
+    };
+    let sized = sizes::check_sizes(table, layout, &masks);
+    let Reading::Accepted(_) = sized else {
+        return sized;
+    };
+    let mut list = [0u64; PAIR_ROOM];
+    pairs::check_pairs(table, layout, &mut list)
+}
+
+// Rules 12, 9 and 10 over the table of a plan, and the table's layout.
 fn check_plan(table: &[u64]) -> CheckedText
     requires { ⌜ PlanTable (now table) ⌝ }
     ensures { λ r. ⌜ (r .reading ≡ readingOf (procsRefusal (tableForms (now (table .entry)))) (length (now (table .entry)))) × Laid (now (table .entry)) (r .layout) ⌝ }
 {
     let layout = procs::layout_of(table);
-    let sized = procs::check_sizes(table, layout);
-    let Reading::Accepted(_) = sized else {
-        return CheckedText {
-            reading: sized,
-            layout,
-        };
-    };
-    let mut list = [0u64; PAIR_ROOM];
-    let reading = pairs::check_pairs(table, layout, &mut list);
+    let reading = check_procs(table, layout);
     CheckedText { reading, layout }
 }
 
-// Rules 4 to 10 over a table of forms.
+// The rules over a table of forms: 4 to 8, 12, 9, 10.
 fn check_table(table: &[u64]) -> CheckedText
     requires { ⌜ length (now table) ≤ maxForms ⌝ }
     ensures { λ r. ⌜ ChecksTable (now (table .entry)) r ⌝ }
@@ -75,7 +85,7 @@ fn check_table(table: &[u64]) -> CheckedText
     check_plan(table)
 }
 
-// The plan's rules, 2 to 10, in checking order; the forms of an accepted text stay in the table.
+// The plan's rules in checking order, 2 to 8, 12, 9, 10; the forms of an accepted text stay in the table.
 pub fn read_text(text: &[u8], table: &mut [u64]) -> CheckedText
     requires { ⌜ maxForms ≤ length (now table) ⌝ }
     ensures { λ r. ⌜ Checks (now (text .entry)) r (now (table .exit)) ⌝ }

@@ -13,22 +13,25 @@ use Rattle.limits.specs.Limits.{maxBytes, maxSize, maxPairs, maxEntries}
 use Rattle.laws.proofs.Tests.{first-none}
 use Rattle.text.specs.Lines.{formsOf, unreadableLine, IsText}
 use Rattle.text.proofs.Splits.{readable-written, text-written}
-use Rattle.semantics.specs.Plan.{LockPlan}
+use Rattle.semantics.specs.Plan.{LockPlan, Ranks}
+use Rattle.semantics.specs.Calls.{Recursive}
 use Rattle.semantics.specs.Sizes.{sizeOf}
 use Rattle.semantics.specs.Pairs.{pairList}
 use Rattle.semantics.specs.Language.{PublishedCritical}
+use Rattle.semantics.proofs.Calls.Ranks.{acyclic-ranks}
 use Rattle.semantics.proofs.Critical.PairList.{pair-list-critical}
 use Rattle.semantics.proofs.Critical.CriticalLanguage.{critical-is-published}
 use Rattle.plan.specs.Grammar.{forms, planIn}
-use Rattle.plan.specs.Settled.{Settled}
 use Rattle.plan.specs.Rules.{refusedIf, grammarRefusal, tooLarge, tooManyPairs, planOf, planRefusal, verdictRefusal, pairsRefusal, tidyRefusal}
 use Rattle.plan.proofs.Kept.{unflagged}
 use Rattle.plan.proofs.AcceptedTable.{accepted-rules, rules-accepted, accepted-text, accepted-settled}
 use Rattle.plan.proofs.Allowed.{rules-plan}
+use Rattle.plan.proofs.Ranked.{recursive-exactly, rules-ranks}
 use Rattle.demands.specs.Broken.{TooLarge, TooManyPairs, planRules, AllUnbroken, AcceptedText}
+use Rattle.demands.proofs.Firsts.{below}
 use Rattle.demands.proofs.Lowest.{none-lowest, lowest-none}
 use Rattle.demands.proofs.Pairs.{many-pairs}
-use Rattle.demands.proofs.Refusals.{below, plan-refuses}
+use Rattle.demands.proofs.Refusals.{plan-refuses}
 
 not-above : (n : ℕ) → (maxSize < n → ⊥) → n ≤ maxSize
 not-above n h = omega arith
@@ -47,8 +50,9 @@ module _ (text : List ℕ) where
         plan = planOf text;
         written = subst (IsText text) written (readable-written text (r .readable));
         settled = settled;
+        acyclic = recursive-exactly fs .0 (r .acyclic);
         sizes = λ p h. not-above (sizeOf ps p) (none-lowest fs written (λ p. ltb maxSize (sizeOf ps p)) TooLarge (λ p h. below maxSize (sizeOf ps p)) 9 (r .sizes) p h);
-        pairs = none-lowest fs written (λ p. ltb maxPairs (length (pairList ps p))) TooManyPairs (many-pairs ps (settled .sound)) 10 (r .pairs);
+        pairs = none-lowest fs written (λ p. ltb maxPairs (length (pairList ps p))) TooManyPairs (many-pairs ps (rules-ranks fs settled (r .acyclic))) 10 (r .pairs);
       }
 
   module _ (x : AcceptedText text) where
@@ -63,6 +67,9 @@ module _ (text : List ℕ) where
     unfolding planOf
     accepted-plan = kept-rules .1
 
+    ranks : Ranks (x .plan .procs)
+    ranks = acyclic-ranks (x .plan .procs) (x .acyclic) (x .settled .callees-present) (x .settled .filled)
+
     unrefused : planRefusal text ≡ none
     unfolding tooLarge tooManyPairs
     unrefused =
@@ -70,7 +77,8 @@ module _ (text : List ℕ) where
         let ps = planIn fs .procs in
         let same = kept-rules .1 in
         let written : fs ≡ forms (planIn fs) = same-forms .1 ∙ ap forms (sym same) in
-        let settled : Settled (planIn fs) = subst Settled (sym same) (x .settled) in
+        let acyclic : (p : ℕ) → Recursive ps p → ⊥ = subst (λ (q : LockPlan). (p : ℕ) → Recursive (q .procs) p → ⊥) (sym same) (x .acyclic) in
+        let ranked : Ranks ps = subst (λ (q : LockPlan). Ranks (q .procs)) (sym same) ranks in
         let sizes : (p : ℕ) → p < length ps → sizeOf ps p ≤ maxSize =
         subst (λ (q : LockPlan). (p : ℕ) → p < length (q .procs) → sizeOf (q .procs) p ≤ maxSize) (sym same) (x .sizes) in
         let pairs : (p : ℕ) → p < length ps → TooManyPairs ps p → ⊥ =
@@ -79,16 +87,17 @@ module _ (text : List ℕ) where
           short = x .short;
           readable = same-forms .0;
           formed = kept-rules .0;
+          acyclic = recursive-exactly fs .1 acyclic;
           sizes = lowest-none fs written (λ p. ltb maxSize (sizeOf ps p)) TooLarge (λ p h. below maxSize (sizeOf ps p)) 9 (λ p h k. omega (arith, sizes p h));
-          pairs = lowest-none fs written (λ p. ltb maxPairs (length (pairList ps p))) TooManyPairs (many-pairs ps (settled .sound)) 10 pairs;
+          pairs = lowest-none fs written (λ p. ltb maxPairs (length (pairList ps p))) TooManyPairs (many-pairs ps ranked) 10 pairs;
         })
 
     -- demand 2, of the listed pairs
     pub published-exactly : (p : ℕ) → p < length (x .plan .procs) → (w : ℕ) → List·Memᴰ w (pairList (planOf text .procs) p) ↔ PublishedCritical (x .plan .procs) p w
     published-exactly p h w =
         let ps = x .plan .procs in
-        let listed = pair-list-critical ps (λ q. q) (x .settled .sound) p h w in
-        let published = critical-is-published ps (λ q. q) (x .settled .sound) p w in
+        let listed = pair-list-critical ps (ranks .rank) (ranks .sound) p (ranks .below p h) w in
+        let published = critical-is-published ps (ranks .rank) (ranks .sound) p w in
         rw accepted-plan (λ m. published .0 (listed .0 m), λ k. listed .1 (published .1 k))
 
   pub accepted-exactly : (planRefusal text ≡ none) ↔ AcceptedText text

@@ -1,4 +1,4 @@
--- While the machine of rule 4 reads a plan, the brackets that the pass counts are those opened behind the last `(proc` and not closed again (`along-step`). Where a
+-- While the machine of rule 4 reads a plan, the brackets that the pass counts are those opened behind the last `(proc` and not closed again (`open-step`). Where a
 -- procedure is open their number goes with the machine's stack; elsewhere all are closed.
 use Prim.Native.Nat.{ℕ, suc, _+_, _<_, _≤_}
 use mathlib.Core.Bool.{false}
@@ -11,12 +11,11 @@ use Rattle.text.specs.declared.Form.{Form}
 use Rattle.text.specs.declared.Form.the-variants.{Plan, Proc, Thread, Close, Skip, Call, Hold, Loop, Either, One, Two}
 use Rattle.text.specs.Forms.{kindIn, isProc, isBracket, isClose}
 use Rattle.plan.specs.declared.Counts.{Counts}
-use Rattle.plan.specs.Limits.{counted}
+use Rattle.plan.specs.Limits.{counted, countIf}
 use Rattle.plan.proofs.States.{Bracket, statement, one, two}
 use Rattle.plan.proofs.States.{State, initial, first-proc, next-proc, next-thread, finished, in-block, needs-one, needs-two, ends-either}
 use Rattle.plan.proofs.States.{Step, begins-plan, first, next, first-thread, more-threads, ends-plan, skips, calls, holds, loops, chooses}
 use Rattle.plan.proofs.States.{begins-one, begins-two, ends-proc, ends-statement, ends-one, ends-two, ends-choice}
-use Rattle.demands.specs.Lines.{count}
 use Rattle.demands.specs.Broken.{TooDeep}
 use Rattle.demands.proofs.Counting as Counting
 use Rattle.demands.proofs.Counting.{count-snoc, no-proc-in, inside-unique}
@@ -26,7 +25,7 @@ pub record Inside (fs : List Form) : Type 0 where
   pub earlier : List Form
   pub inside : List Form
   pub split : fs ≡ earlier ++ Proc ∷ inside
-  pub last : count isProc inside ≡ 0
+  pub last : countIf isProc inside ≡ 0
 
 -- one form more
 inside-more : (fs : List Form) (f : Form) → isProc f ≡ false → Inside fs → Inside (fs ++ f ∷ [])
@@ -38,24 +37,24 @@ inside-more fs f h x = record {
 }
 
 inside-new : (fs : List Form) → Inside (fs ++ Proc ∷ [])
-unfolding count
+unfolding countIf
 inside-new fs = record { earlier = fs; inside = []; split = refl; last = refl }
 
 -- k brackets are open in the procedure; d are counted
 pub record Within (k : ℕ) (fs : List Form) (d : ℕ) : Type 0 where
   pub in-proc : Inside fs
-  pub unclosed : count isBracket (in-proc .inside) ≡ count isClose (in-proc .inside) + k
+  pub unclosed : countIf isBracket (in-proc .inside) ≡ countIf isClose (in-proc .inside) + k
   pub depth : d ≡ k
 
 -- the last procedure is closed
 pub record Ended (fs : List Form) (d : ℕ) : Type 0 where
   pub in-proc : Inside fs
-  pub closed : count isBracket (in-proc .inside) ≤ count isClose (in-proc .inside)
+  pub closed : countIf isBracket (in-proc .inside) ≤ countIf isClose (in-proc .inside)
   pub depth : d ≡ 0
 
 -- no procedure has begun
 pub record Unbegun (fs : List Form) (d : ℕ) : Type 0 where
-  pub none-begun : count isProc fs ≡ 0
+  pub none-begun : countIf isProc fs ≡ 0
   pub depth : d ≡ 0
 
 -- the brackets that a stack stands for: an either is open around its one or two
@@ -109,7 +108,7 @@ module _ (fs : List Form) (f : Form) (d e : ℕ) (other : isProc f ≡ false) wh
       }
 
 new-within : (fs : List Form) (d : ℕ) → d ≡ 0 → Within 0 (fs ++ Proc ∷ []) d
-unfolding count inside-new
+unfolding countIf inside-new
 new-within fs d e = record { in-proc = inside-new fs; unclosed = omega arith; depth = e }
 
 pub open-step : {s t : State} {f : Form} → Step s f t → (fs : List Form) (c : Counts) → Open s fs (c .depth) → Open t (fs ++ f ∷ []) (counted c f .depth)

@@ -1,11 +1,12 @@
--- The first number of which something holds: there is at most one, so a search that finds such a number names it (`names-scanned`).
+-- The first number of which something holds: there is at most one, so a search that finds such a number names it (`names-scanned`). Tests, and what they say.
 use Prim.Native.Nat.{ℕ, _<_, _≤_}
 use mathlib.Core.Bool.{Bool, true, false}
-use mathlib.Core.Logic.{_⊎_, inl, inr, ⊎-elim}
+use mathlib.Core.Logic.{_⊎_, inl, inr, ⊎-elim, _↔_}
 use mathlib.Core.Option.{Option, none, some, Option·none-ne-some, Option·some-injective}
-use mathlib.Core.Path.{_≡_, sym, ap, subst, _∙_}
+use mathlib.Core.Path.{_≡_, refl, sym, ap, subst, _∙_}
 use native.Mathlib.Omega.{arith}
-use lib.Dec.{T}
+use lib.Dec.{T, ltb, leb}
+use borrow.Author.Tests.{lt-ltb, le-ltb, le-leb, lt-leb}
 use Rattle.laws.proofs.Tests.{lt-or-le}
 use Rattle.demands.specs.Lines.{First}
 use Rattle.demands.proofs.Order.{Names}
@@ -27,6 +28,25 @@ holds-where b P (inr x) e = absurd (subst T (sym e ∙ x .0) tt)
 pub fails-where : (b : Bool) (P : Type 0) → Decides b P → b ≡ false → P → ⊥
 fails-where b P (inl x) e r = subst T (sym (x .0) ∙ e) tt
 fails-where b P (inr x) e r = x .1 r
+
+pub false-where : (b : Bool) (P : Type 0) → Decides b P → (P → ⊥) → b ≡ false
+false-where b P (inl x) f = absurd (f (x .1))
+false-where b P (inr x) f = x .0
+
+-- a test of what is the same
+pub decides-iff : (b : Bool) (P Q : Type 0) → P ↔ Q → Decides b P → Decides b Q
+decides-iff b P Q e (inl x) = inl (x .0, e .0 (x .1))
+decides-iff b P Q e (inr x) = inr (x .0, λ q. x .1 (e .1 q))
+
+pub decides-itself : (b : Bool) → Decides b (T b)
+decides-itself true = inl (refl, tt)
+decides-itself false = inr (refl, λ t. t)
+
+pub below : (m n : ℕ) → Decides (ltb m n) (m < n)
+below m n = ⊎-elim (λ (h : m < n). inl (lt-ltb m n h, h)) (λ (h : n ≤ m). inr (le-ltb m n h, λ k. omega arith)) (lt-or-le m n)
+
+pub at-most : (m n : ℕ) → Decides (leb m n) (m ≤ n)
+at-most m n = ⊎-elim (λ (h : n < m). inr (lt-leb m n h, λ k. omega arith)) (λ (h : m ≤ n). inl (le-leb m n h, h)) (lt-or-le n m)
 
 -- what a search says by its answer: the first number of which P holds, or that there is none
 abbrev pub Scanned : (ℕ → Type 0) → Option ℕ → Type 0

@@ -4,15 +4,18 @@ pub mod InFile
 pub mod Firsts
 -- Rule 3.
 pub mod Readable
--- Rules 5 to 8: what is counted, the brackets that are open, the machine of rule 4 at each form.
+-- Rule 5: what is counted, the brackets that are open, the machine of rule 4 at each form. Rules 5 to 8.
 pub mod Counting
 pub mod Depth
 pub mod Reading
 pub mod Scan
 pub mod Limits
--- Rules 9 and 10.
+-- Rules 12, 9 and 10.
 pub mod Lowest
+pub mod Recursion
 pub mod Pairs
 -- All rules.
 pub mod Refusals
 pub mod Accepted
+-- The depth to which calls are followed.
+pub mod CallDepth

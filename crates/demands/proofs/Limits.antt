@@ -1,32 +1,34 @@
--- Rules 5 to 8: in the forms of a plan the pass names the first form that breaks the rule.
-use Prim.Native.Nat.{ℕ, _+_, _-_, _<_, _≤_}
-use mathlib.Core.Bool.{Bool, true, false}
+-- Rules 5 to 8: the pass of each names the first form that breaks the rule, that of rule 5 in the forms of a plan. A form breaks a rule of 6 to 8 exactly if the rule tests
+-- its number and that is too high (`number-breaks`).
+use Prim.Native.Nat.{ℕ, _<_, _≤_}
+use mathlib.Core.Bool.{Bool, true, false, cond}
 use mathlib.Core.List.{List, [], _∷_, _++_}
-use mathlib.Core.Logic.{inl, inr, ⊎-elim}
+use mathlib.Core.Logic.{inl, inr, ⊎-elim, _↔_}
 use mathlib.Core.Option.{none}
 use mathlib.Core.Path.{_≡_, refl, sym, ap, subst, _∙_}
 use native.Mathlib.Omega.{arith}
 use lib.Dec.{leb}
-use borrow.Author.Tests.{lt-ltb, le-ltb, le-leb, lt-leb}
-use Rattle.limits.specs.Limits.{maxProcs, maxStatements, maxThreads, maxBrackets, lockCount}
+use lib.Seq.{append-snoc}
+use borrow.Author.Tests.{lt-ltb, le-ltb}
+use Rattle.limits.specs.Limits.{maxProcs, maxStatements, maxThreads, maxBrackets}
 use Rattle.laws.specs.Choice.{pick}
-use Rattle.laws.proofs.Tests.{lt-or-le}
+use Rattle.laws.proofs.Tests.{lt-or-le, eqb-cases}
 use Rattle.text.specs.declared.Form.{Form}
 use Rattle.text.specs.declared.Form.the-variants.{Thread, Call, Hold}
 use Rattle.text.specs.Forms.{numberIn, kindIn, isProc, isThread, isCall, isHold}
 use Rattle.text.proofs.Matches.{kind-form}
 use Rattle.plan.specs.declared.Counts.{Counts}
-use Rattle.plan.specs.Limits.{overLimit, testedBy, leastBad, breaks, breakingForm}
+use Rattle.plan.specs.Limits.{overLimit, pastLimitForm, testedBy, leastBad, breaks, countIf, breakingForm}
 use Rattle.plan.specs.Structure.{misplacedForm}
 use Rattle.plan.proofs.States.{State}
-use Rattle.demands.specs.Lines.{First, FormWhere, count}
-use Rattle.demands.specs.Broken.{PastLimit, procedures, statements, threads, brackets, HighLock, LateCall, AbsentProc}
+use Rattle.demands.specs.Lines.{First, FormWhere}
+use Rattle.demands.specs.Broken.{PastLimit, procedures, statements, threads, brackets, HighLock, AbsentCallee, AbsentProc}
 use Rattle.demands.proofs.Order.{Names}
-use Rattle.demands.proofs.Firsts.{Decides}
-use Rattle.demands.proofs.Counting.{one, count-append, count-snoc, countsOf}
+use Rattle.demands.proofs.Firsts.{Decides, decides-iff, at-most}
+use Rattle.demands.proofs.Counting.{countsOf}
 use Rattle.demands.proofs.Depth.{open-deep}
-use Rattle.demands.proofs.Reading.{Along, Reached, reached, past, call-begun, thread-last}
-use Rattle.demands.proofs.Scan.{scan-names}
+use Rattle.demands.proofs.Reading.{Along, reached}
+use Rattle.demands.proofs.Scan.{limits-scan, numbers-scan}
 
 -- ---- 5
 
@@ -59,89 +61,79 @@ past-limit fs c s a =
     ))
     (lt-or-le maxBrackets (c .depth))) (lt-or-le maxThreads (c .threads))) (lt-or-le maxStatements (c .statements))) (lt-or-le maxProcs (c .procs))
 
+-- in the forms of a plan
+pub limits-names : (fs : List Form) → misplacedForm fs ≡ none → Names (pastLimitForm fs) (First (FormWhere (λ before f. PastLimit (before ++ f ∷ [])) fs))
+limits-names fs structured = limits-scan (λ before f. PastLimit (before ++ f ∷ [])) fs
+    (λ before f after e. let read = before ++ f ∷ [] in
+    let x = reached fs structured read after (e ∙ sym (append-snoc before f after)) in
+    past-limit read (countsOf read) (x .0) (x .1))
+
 -- ---- 6 to 8
 
--- which form has its number tested
-data Tested : Form → Type 0 where
-  thread : (n : ℕ) → Tested (Thread n)
-  call : (n : ℕ) → Tested (Call n)
-  hold : (l : ℕ) → Tested (Hold l)
-  untested : {f : Form} → testedBy f ≡ 0 → Tested f
+-- the forms by the rule that tests their number
+data Tested : ℕ → Form → Type 0 where
+  thread : (n : ℕ) → Tested 8 (Thread n)
+  call : (n : ℕ) → Tested 7 (Call n)
+  hold : (l : ℕ) → Tested 6 (Hold l)
+  untested : {f : Form} → Tested 0 f
 
-tested : (f : Form) → Tested f
+tested : (rule : ℕ) (f : Form) → testedBy f ≡ rule → Tested rule f
 unfolding testedBy
-tested f = go (isThread f) refl (isCall f) refl (isHold f) refl
+tested rule f e = subst (λ r. Tested r f) e (go (isThread f) refl (isCall f) refl (isHold f) refl)
   where
-    go : (a : Bool) → isThread f ≡ a → (b : Bool) → isCall f ≡ b → (c : Bool) → isHold f ≡ c → Tested f
-    go true h b i c j = subst Tested (sym (kind-form (Thread 0) f h)) (thread (numberIn f))
-    go false h true i c j = subst Tested (sym (kind-form (Call 0) f i)) (call (numberIn f))
-    go false h false i true j = subst Tested (sym (kind-form (Hold 0) f j)) (hold (numberIn f))
-    go false h false i false j = untested {f = f} (rw (h, i, j))
+    go : (a : Bool) → isThread f ≡ a → (b : Bool) → isCall f ≡ b → (c : Bool) → isHold f ≡ c → Tested (cond a 8 (cond b 7 (cond c 6 0))) f
+    go true h b i c j = subst (Tested 8) (sym (kind-form (Thread 0) f h)) (thread (numberIn f))
+    go false h true i c j = subst (Tested 7) (sym (kind-form (Call 0) f i)) (call (numberIn f))
+    go false h false i true j = subst (Tested 6) (sym (kind-form (Hold 0) f j)) (hold (numberIn f))
+    go false h false i false j = untested
 
--- a number that is tested against the least that breaks the rule
-at-least : (least n : ℕ) (P : Type 0) → (least ≤ n → P) → (P → least ≤ n) → Decides (leb least n) P
-at-least least n P f g =
-    ⊎-elim (λ (h : n < least). inr (lt-leb least n h, λ p. omega (arith, g p))) (λ (h : least ≤ n). inl (le-leb least n h, f h)) (lt-or-le n least)
+tested-hold : {f : Form} → Tested 6 f → f ≡ Hold (numberIn f)
+unfolding numberIn
+tested-hold (hold l) = refl
 
-decides-6 : (f : Form) (c : Counts) → Tested f → Decides (breaks 6 c f) (HighLock f)
-unfolding breaks testedBy leastBad numberIn pick kindIn
-decides-6 f c (thread n) = inr (refl, λ x. omega (arith, ap testedBy (x .hold)))
-decides-6 f c (call n) = inr (refl, λ x. omega (arith, ap testedBy (x .hold)))
-decides-6 f c (hold l) = at-least lockCount l (HighLock (Hold l))
-    (λ h. record { lock = l; hold = refl; above = h }) (λ x. omega (arith, x .above, ap numberIn (x .hold)))
-decides-6 f c (untested e) = inr (rw e, λ x. omega (arith, sym e ∙ ap testedBy (x .hold)))
+tested-call : {f : Form} → Tested 7 f → f ≡ Call (numberIn f)
+unfolding numberIn
+tested-call (call n) = refl
 
--- the count of procedures at a form is that before it, but for a `(proc`
-module _ (before : List Form) (f : Form) (after : List Form) (x : Reached before f after) where
-  abbrev here : Counts
-  here = countsOf (before ++ f ∷ [])
+tested-thread : {f : Form} → Tested 8 f → f ≡ Thread (numberIn f)
+unfolding numberIn
+tested-thread (thread n) = refl
 
-  procs-here : here .procs ≡ count isProc before + one isProc f
-  procs-here = past before f after x .counts .procs ∙ count-snoc isProc before f
+-- the rule tests the form's number, which is too high where there are n procedures
+abbrev TooHigh : ℕ → ℕ → Form → Type 0
+TooHigh rule n f = (testedBy f ≡ rule) × (leastBad rule n ≤ numberIn f)
 
-decides-7 : (before : List Form) (f : Form) (after : List Form) (x : Reached before f after) → Tested f → Decides (breaks 7 (countsOf (before ++ f ∷ [])) f) (LateCall before f)
-unfolding breaks testedBy leastBad numberIn pick kindIn
-decides-7 before f after x (thread n) = inr (refl, λ y. omega (arith, ap testedBy (y .call)))
-decides-7 before f after x (call n) =
-    let c = countsOf (before ++ Call n ∷ []) in
-    let k = procs-here before (Call n) after x in
-    let begun = call-begun (x .step) before (countsOf before .depth) (x .at .brackets) in
-    at-least (c .procs - 1) n (LateCall before (Call n))
-    (λ h. record { callee = n; caller = c .procs - 1; call = refl; last-begun = omega arith; not-smaller = h })
-    (λ y. omega (arith, y .last-begun, y .not-smaller, ap numberIn (y .call)))
-decides-7 before f after x (hold l) = inr (refl, λ y. omega (arith, ap testedBy (y .call)))
-decides-7 before f after x (untested e) = inr (rw e, λ y. omega (arith, sym e ∙ ap testedBy (y .call)))
+number-breaks : (rule n : ℕ) (f : Form) → Decides (breaks rule n f) (TooHigh rule n f)
+unfolding breaks pick
+number-breaks rule n f =
+    let least = leastBad rule n in
+    ⊎-elim (λ x. rw (x .1) (decides-iff (leb least (numberIn f)) _ _ (λ h. (x .0, h), λ y. y .1) (at-most least (numberIn f))))
+    (λ x. rw (x .1) (inr (refl, λ y. x .0 (y .0))))
+    (eqb-cases (testedBy f) rule)
 
-decides-8 : (before : List Form) (f : Form) (after : List Form) (x : Reached before f after) → Tested f
-    → Decides (breaks 8 (countsOf (before ++ f ∷ [])) f) (AbsentProc (before ++ f ∷ after) f)
-unfolding breaks testedBy leastBad numberIn pick kindIn count
-decides-8 before f after x (thread n) =
-    let c = countsOf (before ++ Thread n ∷ []) in
-    let k : c .procs ≡ count isProc (before ++ Thread n ∷ after) =
-    omega (arith, procs-here before (Thread n) after x, thread-last before n after x, count-append isProc before (Thread n ∷ after)) in
-    at-least (c .procs) n (AbsentProc (before ++ Thread n ∷ after) (Thread n))
-    (λ h. record { proc = n; thread = refl; absent = omega arith })
-    (λ y. omega (arith, y .absent, ap numberIn (y .thread)))
-decides-8 before f after x (call n) = inr (refl, λ y. omega (arith, ap testedBy (y .thread)))
-decides-8 before f after x (hold l) = inr (refl, λ y. omega (arith, ap testedBy (y .thread)))
-decides-8 before f after x (untested e) = inr (rw e, λ y. omega (arith, sym e ∙ ap testedBy (y .thread)))
-
--- ---- in the forms of a plan
-
-module _ (fs : List Form) (structured : misplacedForm fs ≡ none) where
-  pub limits-names : Names (breakingForm 5 fs) (First (FormWhere (λ before f. PastLimit (before ++ f ∷ [])) fs))
-  unfolding breaks pick
-  limits-names = scan-names 5 (λ before f. PastLimit (before ++ f ∷ [])) fs
-      (λ before f after e. let x = reached fs structured before f after e in
-      past-limit (before ++ f ∷ []) (countsOf (before ++ f ∷ [])) (x .to) (past before f after x))
+module _ (fs : List Form) where
+  numbers-names : (rule : ℕ) (P : Form → Type 0) → ((f : Form) → TooHigh rule (countIf isProc fs) f ↔ P f)
+      → Names (breakingForm rule fs) (First (FormWhere (λ before f. P f) fs))
+  numbers-names rule P says = numbers-scan (λ before f. P f) fs rule
+      (λ before f. decides-iff _ _ _ (says f) (number-breaks rule (countIf isProc fs) f))
 
   pub locks-names : Names (breakingForm 6 fs) (First (FormWhere (λ before f. HighLock f) fs))
-  locks-names = scan-names 6 (λ before f. HighLock f) fs (λ before f after e. decides-6 f (countsOf (before ++ f ∷ [])) (tested f))
+  unfolding leastBad testedBy numberIn pick kindIn
+  locks-names = numbers-names 6 HighLock (λ f. (
+    λ x. record { lock = numberIn f; hold = tested-hold (tested 6 f (x .0)); above = x .1 },
+    λ y. (ap testedBy (y .hold), omega (arith, y .above, ap numberIn (y .hold))),
+  ))
 
-  pub calls-names : Names (breakingForm 7 fs) (First (FormWhere LateCall fs))
-  calls-names = scan-names 7 LateCall fs (λ before f after e. decides-7 before f after (reached fs structured before f after e) (tested f))
+  pub calls-names : Names (breakingForm 7 fs) (First (FormWhere (λ before f. AbsentCallee fs f) fs))
+  unfolding leastBad testedBy numberIn pick kindIn
+  calls-names = numbers-names 7 (AbsentCallee fs) (λ f. (
+    λ x. record { callee = numberIn f; call = tested-call (tested 7 f (x .0)); absent = x .1 },
+    λ y. (ap testedBy (y .call), omega (arith, y .absent, ap numberIn (y .call))),
+  ))
 
   pub threads-names : Names (breakingForm 8 fs) (First (FormWhere (λ before f. AbsentProc fs f) fs))
-  threads-names = scan-names 8 (λ before f. AbsentProc fs f) fs
-      (λ before f after e. subst (λ gs. Decides (breaks 8 (countsOf (before ++ f ∷ [])) f) (AbsentProc gs f)) (sym e)
-      (decides-8 before f after (reached fs structured before f after e) (tested f)))
+  unfolding leastBad testedBy numberIn pick kindIn
+  threads-names = numbers-names 8 (AbsentProc fs) (λ f. (
+    λ x. record { proc = numberIn f; thread = tested-thread (tested 8 f (x .0)); absent = x .1 },
+    λ y. (ap testedBy (y .thread), omega (arith, y .absent, ap numberIn (y .thread))),
+  ))

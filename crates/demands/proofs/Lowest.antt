@@ -1,4 +1,4 @@
--- Rules 9 and 10 name the `(proc` of the lowest procedure of which P holds, by its number among the forms, where their test of a procedure says whether P does
+-- Rules 12, 9 and 10 name the `(proc` of the lowest procedure of which P holds, by its number among the forms, where their test of a procedure says whether P does
 -- (`lowest-names`): `procFormFrom` counts the `(proc` forms (`proc-number`).
 use Prim.Native.Nat.{ℕ, zero, suc, _+_, _-_, _<_}
 use mathlib.Core.Bool.{Bool, true, false, cond}
@@ -14,13 +14,15 @@ use Rattle.text.specs.Forms.{kindIn, isProc}
 use Rattle.text.proofs.Matches.{kind-form}
 use Rattle.semantics.specs.Plan.{Block}
 use Rattle.plan.specs.Grammar.{forms, planIn}
-use Rattle.plan.specs.Rules.{refusedAt, procFormFrom, procForm, lowestFrom, procRefusal}
-use Rattle.plan.proofs.Lowest.{Lowest, lowest, proc-refusal-none}
-use Rattle.demands.specs.Lines.{First, FormWhere, count}
+use Rattle.plan.specs.Limits.{countIf}
+use Rattle.plan.specs.Rules.{procFormFrom, procForm, lowestFrom, procRefusal}
+use Rattle.plan.proofs.Counting.{count-forms}
+use Rattle.plan.proofs.Lowest.{Lowest, lowest, proc-refusal-none, none-proc-refusal}
+use Rattle.demands.specs.Lines.{First, FormWhere}
 use Rattle.demands.specs.Broken.{BeginsProc, LowestProc}
 use Rattle.demands.proofs.Order.{Names}
-use Rattle.demands.proofs.Firsts.{first-unique, Decides, holds-where, fails-where}
-use Rattle.demands.proofs.Counting.{proc-unique, count-forms}
+use Rattle.demands.proofs.Firsts.{first-unique, Decides, holds-where, fails-where, false-where}
+use Rattle.demands.proofs.Counting.{proc-unique}
 
 -- ---- the number of a procedure's `(proc`
 
@@ -43,16 +45,16 @@ record ProcAt (fs : List Form) (k p : ℕ) : Type 0 where
   after : List Form
   split : fs ≡ before ++ Proc ∷ after
   number : procFormFrom k p fs ≡ k + length before
-  counted : count isProc before ≡ p
+  counted : countIf isProc before ≡ p
 
 proc-here : (fs : List Form) (k : ℕ) → ProcAt (Proc ∷ fs) k 0
-unfolding procFormFrom count kindIn
+unfolding procFormFrom countIf kindIn
 proc-here fs k = record { before = []; after = fs; split = refl; number = omega arith; counted = refl }
 
 -- a form in front
 proc-later : (f : Form) (fs : List Form) (k p q : ℕ) → procFormFrom k q (f ∷ fs) ≡ procFormFrom (suc k) p fs → cond (isProc f) 1 0 + p ≡ q
     → ProcAt fs (suc k) p → ProcAt (f ∷ fs) k q
-unfolding count
+unfolding countIf
 proc-later f fs k p q e h x = record {
   before = f ∷ x .before;
   after = x .after;
@@ -66,22 +68,22 @@ next-proc : (k p : ℕ) (fs : List Form) → procFormFrom k (suc p) (Proc ∷ fs
 unfolding procFormFrom kindIn
 next-proc k p fs = let e : suc p - 1 ≡ p = omega arith in rw (eqb·suc-zero p, e)
 
-proc-at : (fs : List Form) (k p : ℕ) → p < count isProc fs → ProcAt fs k p
-unfolding count kindIn
+proc-at : (fs : List Form) (k p : ℕ) → p < countIf isProc fs → ProcAt fs k p
+unfolding countIf kindIn
 proc-at [] k p h = absurd (omega arith)
 proc-at (f ∷ fs) k p h = go f (view f) p h (proc-at fs (suc k))
   where
-    go : (f : Form) → View f → (p : ℕ) → p < cond (isProc f) 1 0 + count isProc fs → ((q : ℕ) → q < count isProc fs → ProcAt fs (suc k) q) → ProcAt (f ∷ fs) k p
+    go : (f : Form) → View f → (p : ℕ) → p < cond (isProc f) 1 0 + countIf isProc fs → ((q : ℕ) → q < countIf isProc fs → ProcAt fs (suc k) q) → ProcAt (f ∷ fs) k p
     go f proc zero h ih = proc-here fs k
     go f proc (suc p) h ih = proc-later Proc fs k p (suc p) (next-proc k p fs) (omega arith) (ih p (omega arith))
     go f (other e same) p h ih = proc-later f fs k p p (same k p fs) (rw e (omega arith)) (ih p (omega (arith, rw e at h)))
 
-number-proc : (fs : List Form) (p n : ℕ) → p < count isProc fs → procFormFrom 1 p fs ≡ n → FormWhere (BeginsProc p) fs n
+number-proc : (fs : List Form) (p n : ℕ) → p < countIf isProc fs → procFormFrom 1 p fs ≡ n → FormWhere (BeginsProc p) fs n
 number-proc fs p n h e =
     let x = proc-at fs 1 p h in
     record { before = x .before; form = Proc; after = x .after; split = x .split; number = omega (arith, x .number); holds = (refl, x .counted) }
 
-proc-number : (fs : List Form) (p n : ℕ) → p < count isProc fs → FormWhere (BeginsProc p) fs n → procFormFrom 1 p fs ≡ n
+proc-number : (fs : List Form) (p n : ℕ) → p < countIf isProc fs → FormWhere (BeginsProc p) fs n → procFormFrom 1 p fs ≡ n
 proc-number fs p n h x =
     let y = proc-at fs 1 p h in
     let same : x .before ++ Proc ∷ x .after ≡ y .before ++ Proc ∷ y .after = sym (x .split ∙ ap (λ f. x .before ++ f ∷ x .after) (x .holds .0)) ∙ y .split in
@@ -92,8 +94,8 @@ proc-number fs p n h x =
 
 module _ (fs : List Form) (written : fs ≡ forms (planIn fs)) (test : ℕ → Bool) (P : List Block → ℕ → Type 0)
     (decide : (p : ℕ) → p < length (planIn fs .procs) → Decides (test p) (P (planIn fs .procs) p)) where
-  there : (p : ℕ) → p < length (planIn fs .procs) → p < count isProc fs
-  there p h = omega (arith, ap (count isProc) written, count-forms (planIn fs))
+  there : (p : ℕ) → p < length (planIn fs .procs) → p < countIf isProc fs
+  there p h = omega (arith, ap (countIf isProc) written, count-forms (planIn fs))
 
   abbrev n : ℕ
   n = length (planIn fs .procs)
@@ -130,9 +132,4 @@ module _ (fs : List Form) (written : fs ≡ forms (planIn fs)) (test : ℕ → B
   none-lowest rule e p h = fails p h (proc-refusal-none rule fs test e p h)
 
   pub lowest-none : (rule : ℕ) → ((p : ℕ) → p < length (planIn fs .procs) → P (planIn fs .procs) p → ⊥) → procRefusal rule fs test ≡ none
-  unfolding procRefusal
-  lowest-none rule h = go (lowestFrom test 0 n) (lowest test n 0)
-    where
-      go : (o : Option ℕ) → Lowest test 0 n o → refusedAt rule (procForm fs o) ≡ none
-      go none x = refl
-      go (some q) x = absurd (h q (omega (arith, x .1)) (holds q (omega (arith, x .1)) (x .2)))
+  lowest-none rule h = none-proc-refusal rule fs test (λ p b. false-where (test p) _ (decide p b) (h p b))

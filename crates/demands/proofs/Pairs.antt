@@ -12,7 +12,7 @@ use Rattle.limits.specs.Limits.{maxPairs}
 use Rattle.laws.specs.Ascending.{Ascends}
 use Rattle.laws.proofs.Ascending.{least}
 use Rattle.laws.proofs.Tests.{lt-or-le}
-use Rattle.semantics.specs.Plan.{Block, Sound}
+use Rattle.semantics.specs.Plan.{Block, Ranks}
 use Rattle.semantics.specs.Pairs.{pairList}
 use Rattle.semantics.proofs.Critical.PairList.{pair-list-ascends, pair-list-critical}
 use Rattle.demands.specs.Broken.{TooManyPairs}
@@ -31,9 +31,9 @@ ascends-length (y ∷ ys) (x ∷ xs) a b f =
     omega (arith, ascends-length ys (x ∷ xs) a (b .1) (λ v m. beyond y ys v (omega (arith, b .0 x k, least x xs a v m)) (f v m))))
     (List·Memᴰ·cases-cons (f x (List·Memᴰ·head refl)))
 
-pub many-pairs : (ps : List Block) → Sound ps (λ p. p) → (p : ℕ) → p < length ps → Decides (ltb maxPairs (length (pairList ps p))) (TooManyPairs ps p)
-many-pairs ps s p h =
-    let listed = pair-list-critical ps (λ q. q) s p h in
+pub many-pairs : (ps : List Block) → Ranks ps → (p : ℕ) → p < length ps → Decides (ltb maxPairs (length (pairList ps p))) (TooManyPairs ps p)
+many-pairs ps r p h =
+    let listed = pair-list-critical ps (r .rank) (r .sound) p (r .below p h) in
     ⊎-elim
     (λ (k : maxPairs < length (pairList ps p)). inl (
       lt-ltb maxPairs (length (pairList ps p)) k,

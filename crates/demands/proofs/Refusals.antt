@@ -1,44 +1,46 @@
--- The refusals are those by the first rule broken: the plan's (`refused-exactly`), the verdict's, the pair list's and the tidy copy's. Rule by rule, the rules 4 to 10 first over
+-- The refusals are those by the first rule broken: the plan's (`refused-exactly`), the verdict's, the pair list's and the tidy copy's. Rule by rule, those from 4 on first over
 -- the forms (`forms-refuses`), then in the file.
 use Prim.Native.Nat.{ℕ, _<_, _≤_}
 use mathlib.Core.Bool.{Bool, true, false, cond}
 use mathlib.Core.List.{List, [], _∷_, _++_}
-use mathlib.Core.Logic.{inl, inr, ⊎-elim, _↔_}
+use mathlib.Core.Logic.{inl, inr, _↔_}
 use mathlib.Core.Option.{Option, none, some, Option·none-ne-some, Option·some-injective}
 use mathlib.Core.Path.{_≡_, sym, ap, subst, _∙_}
-use native.Mathlib.Omega.{arith}
 use lib.Dec.{ltb, leb}
 use lib.ListN.{length}
-use borrow.Author.Tests.{lt-ltb, le-ltb, le-leb, lt-leb}
 use Rattle.limits.specs.Limits.{maxBytes, maxSize, maxPairs, maxEntries}
-use Rattle.laws.proofs.Tests.{lt-or-le, first-none}
+use Rattle.laws.proofs.Tests.{first-none}
 use Rattle.text.specs.declared.Form.{Form}
 use Rattle.text.specs.Lines.{refusal, formsOf, unreadableLine, IsText}
 use Rattle.text.proofs.Splits.{readable-written, text-written}
 use Rattle.semantics.specs.Plan.{Block, LockPlan}
+use Rattle.semantics.specs.Calls.{Recursive}
+use Rattle.semantics.specs.CallMasks.{reaches}
 use Rattle.semantics.specs.Sizes.{sizeOf}
 use Rattle.semantics.specs.Pairs.{pairList}
 use Rattle.plan.specs.Grammar.{forms, planIn}
 use Rattle.plan.specs.Structure.{misplacedForm}
-use Rattle.plan.specs.Limits.{breakingForm}
-use Rattle.plan.specs.Rules.{refusedAt, refusedIf, tooLong, linesRefusal, grammarRefusal, procForm, lowestFrom, procRefusal, tooLarge, tooManyPairs, formsRefusal}
-use Rattle.plan.specs.Rules.{planOf, planRefusal, verdictRefusal, pairsRefusal, tidyRefusal}
+use Rattle.plan.specs.Limits.{pastLimitForm, breakingForm}
+use Rattle.plan.specs.Rules.{refusedAt, refusedIf, tooLong, linesRefusal, referencesRefusal, grammarRefusal, procForm, lowestFrom, procRefusal, recursive, tooLarge, tooManyPairs}
+use Rattle.plan.specs.Rules.{formsRefusal, planOf, planRefusal, verdictRefusal, pairsRefusal, tidyRefusal}
 use Rattle.plan.proofs.Trees.{plan-of-forms}
 use Rattle.plan.proofs.Denotes.{accepted-denotes}
 use Rattle.plan.proofs.FirstMisplaced.{structure-first}
 use Rattle.plan.proofs.Kept.{kept, no-line}
 use Rattle.plan.proofs.Sound.{forms-settled}
+use Rattle.plan.proofs.Ranked.{rules-ranks}
 use Rattle.plan.proofs.AcceptedTable.{accepted-rules}
 use Rattle.demands.specs.Lines.{First, FormWhere}
-use Rattle.demands.specs.Broken.{TooShort, TooLong, Unreadable, OfForms, FirstForm, Misplaced, PastLimit, HighLock, LateCall, AbsentProc}
+use Rattle.demands.specs.Broken.{TooShort, TooLong, Unreadable, OfForms, FirstForm, Misplaced, PastLimit, HighLock, AbsentCallee, AbsentProc}
 use Rattle.demands.specs.Broken.{OfPlan, LowestProc, TooLarge, TooManyPairs, AbsentRequest}
 use Rattle.demands.specs.Broken.{Rule, rule, formRules, planRules, verdictRules, pairsRules, tidyRules, FirstBroken}
 use Rattle.demands.proofs.Order.{Names, RefusesBy, by-rule, then}
 use Rattle.demands.proofs.InFile.{refuses-in-file}
-use Rattle.demands.proofs.Firsts.{Decides}
+use Rattle.demands.proofs.Firsts.{Decides, below, at-most}
 use Rattle.demands.proofs.Readable.{readable-names}
 use Rattle.demands.proofs.Limits.{limits-names, locks-names, calls-names, threads-names}
 use Rattle.demands.proofs.Lowest.{lowest-names}
+use Rattle.demands.proofs.Recursion.{reaches-itself}
 use Rattle.demands.proofs.Pairs.{many-pairs}
 
 -- a rule that names no line
@@ -49,12 +51,6 @@ flag-names b P (inr x) n = rw (x .0) (λ e. absurd (Option·none-ne-some n e), �
 by-flag : (q : Rule) (b : Bool) → Names (cond b (some 0) none) (q .broken) → RefusesBy (q ∷ []) (refusedIf (q .number) b)
 by-flag q true h = by-rule q (some 0) h
 by-flag q false h = by-rule q none h
-
-pub below : (m n : ℕ) → Decides (ltb m n) (m < n)
-below m n = ⊎-elim (λ (h : m < n). inl (lt-ltb m n h, h)) (λ (h : n ≤ m). inr (le-ltb m n h, λ k. omega arith)) (lt-or-le m n)
-
-at-most : (m n : ℕ) → Decides (leb m n) (m ≤ n)
-at-most m n = ⊎-elim (λ (h : n < m). inr (lt-leb m n h, λ k. omega arith)) (λ (h : m ≤ n). inl (le-leb m n h, h)) (lt-or-le n m)
 
 -- ---- rule by rule
 
@@ -85,9 +81,9 @@ module _ (text : List ℕ) where
     rule-4 = of-forms 4 Misplaced (misplacedForm (formsOf text)) (structure-first (formsOf text))
 
     -- of rules 5 to 8
-    by-form : (number : ℕ) (P : List Form → List Form → Form → Type 0) → Names (breakingForm number (formsOf text)) (First (FormWhere (P (formsOf text)) (formsOf text)))
-        → RefusesBy (rule number (FirstForm P text) ∷ []) (refusedAt number (breakingForm number (formsOf text)))
-    by-form number P h = of-forms number (λ fs. First (FormWhere (P fs) fs)) (breakingForm number (formsOf text)) h
+    by-form : (number : ℕ) (P : List Form → List Form → Form → Type 0) (o : Option ℕ) → Names o (First (FormWhere (P (formsOf text)) (formsOf text)))
+        → RefusesBy (rule number (FirstForm P text) ∷ []) (refusedAt number o)
+    by-form number P o h = of-forms number (λ fs. First (FormWhere (P fs) fs)) o h
 
   -- the plan whose forms the text's lines spell is the one that is read
   module _ (readable : unreadableLine text ≡ none) (formed : grammarRefusal (formsOf text) ≡ none) where
@@ -115,13 +111,19 @@ module _ (text : List ℕ) where
         let o = procForm fs (lowestFrom test 0 (length (plan .procs))) in
         by-rule (rule number (OfPlan (LowestProc P) text)) o (of-plan (LowestProc P) o (lowest-names fs (accepted-denotes fs structured .1) test P decide))
 
+    rule-12 : RefusesBy (rule 12 (OfPlan (LowestProc Recursive) text) ∷ []) (recursive (formsOf text))
+    unfolding recursive plan
+    rule-12 = by-proc 12 Recursive (λ p. reaches (plan .procs) p p) (λ p h. reaches-itself (plan .procs) p)
+
     rule-9 : RefusesBy (rule 9 (OfPlan (LowestProc TooLarge) text) ∷ []) (tooLarge (formsOf text))
     unfolding tooLarge plan
     rule-9 = by-proc 9 TooLarge (λ p. ltb maxSize (sizeOf (plan .procs) p)) (λ p h. below maxSize (sizeOf (plan .procs) p))
 
-    rule-10 : RefusesBy (rule 10 (OfPlan (LowestProc TooManyPairs) text) ∷ []) (tooManyPairs (formsOf text))
+    rule-10 : recursive (formsOf text) ≡ none → RefusesBy (rule 10 (OfPlan (LowestProc TooManyPairs) text) ∷ []) (tooManyPairs (formsOf text))
     unfolding tooManyPairs plan
-    rule-10 = by-proc 10 TooManyPairs (λ p. ltb maxPairs (length (pairList (plan .procs) p))) (many-pairs (plan .procs) (forms-settled (formsOf text) formed .sound))
+    rule-10 acyclic =
+        let ranks = rules-ranks (formsOf text) (forms-settled (formsOf text) formed) acyclic in
+        by-proc 10 TooManyPairs (λ p. ltb maxPairs (length (pairList (plan .procs) p))) (many-pairs (plan .procs) ranks)
 
     rule-11 : (p : ℕ) → RefusesBy (rule 11 (OfPlan (AbsentRequest p) text) ∷ []) (refusedIf 11 (leb (length (planOf text .procs)) p))
     unfolding planOf plan
@@ -135,17 +137,18 @@ module _ (text : List ℕ) where
 module _ (text : List ℕ) where
   module _ (readable : unreadableLine text ≡ none) where
     forms-refuses : RefusesBy (formRules text) (formsRefusal (formsOf text))
-    unfolding formRules formsRefusal grammarRefusal
+    unfolding formRules formsRefusal grammarRefusal referencesRefusal
     forms-refuses =
         let fs = formsOf text in
         then
         (then (rule-4 text readable)
-        (λ e. let structured = no-line 4 (misplacedForm fs) e in then (by-form text readable 5 (λ fs before f. PastLimit (before ++ f ∷ [])) (limits-names fs structured))
-        (λ _. then (by-form text readable 6 (λ fs before f. HighLock f) (locks-names fs structured))
-        (λ _. then (by-form text readable 7 (λ fs before f. LateCall before f) (calls-names fs structured))
-        (λ _. by-form text readable 8 (λ fs before f. AbsentProc fs f) (threads-names fs structured))))))
-        (λ formed. then (rule-9 text readable formed)
-        (λ _. rule-10 text readable formed))
+        (λ e. then (by-form text readable 5 (λ fs before f. PastLimit (before ++ f ∷ [])) (pastLimitForm fs) (limits-names fs (no-line 4 (misplacedForm fs) e)))
+        (λ _. then (by-form text readable 6 (λ fs before f. HighLock f) (breakingForm 6 fs) (locks-names fs))
+        (λ _. then (by-form text readable 7 (λ fs before f. AbsentCallee fs f) (breakingForm 7 fs) (calls-names fs))
+        (λ _. by-form text readable 8 (λ fs before f. AbsentProc fs f) (breakingForm 8 fs) (threads-names fs))))))
+        (λ formed. then (rule-12 text readable formed)
+        (λ acyclic. then (rule-9 text readable formed)
+        (λ _. rule-10 text readable formed acyclic)))
 
   pub plan-refuses : RefusesBy (planRules text) (planRefusal text)
   unfolding planRules planRefusal linesRefusal

@@ -1,8 +1,8 @@
 -- What it means that a text breaks a rule, and at which line: said of the text, and of the forms or the plan that its lines spell. A text keeps the rules 2 to
--- 10 exactly when its plan is not refused (theorems `accepted-exactly`, `unbroken-exactly`), and (r, l) is the refusal exactly when rule r is the first one broken, at line
--- l (`refused-exactly`). Each rule is stated for texts that break none before it, as `FirstBroken` asks: the numbers of brackets and of the caller count on rule 4, sizes
--- on rule 7, a pair as one number on rule 6. 01, "Rules, in checking order".
-use Prim.Native.Nat.{ℕ, _+_, _-_, _<_, _≤_}
+-- 10 and 12 exactly when its plan is not refused (theorems `accepted-exactly`, `unbroken-exactly`), and (r, l) is the refusal exactly when rule r is the first one broken, at
+-- line l (`refused-exactly`). Each rule is stated for texts that break none before it, as `FirstBroken` asks: the numbers of brackets count on rule 4, a pair as one number on
+-- rule 6, sizes on rules 7 and 12. 01, "Rules, in checking order".
+use Prim.Native.Nat.{ℕ, _+_, _<_, _≤_}
 use mathlib.Core.List.{List, [], _∷_, _++_, List·Memᴰ}
 use mathlib.Core.Bool.{false}
 use mathlib.Core.Logic.{_⊎_}
@@ -15,12 +15,14 @@ use Rattle.text.specs.declared.Form.the-variants.{Proc, Thread, Call, Hold}
 use Rattle.text.specs.Forms.{IsForm, isProc, isThread, isStatement, isBracket, isClose}
 use Rattle.text.specs.Lines.{split, endedLine, unindented, passedOver, IsText}
 use Rattle.semantics.specs.Plan.{Block, LockPlan}
+use Rattle.semantics.specs.Calls.{Recursive}
 use Rattle.semantics.specs.Sizes.{sizeOf}
 use Rattle.semantics.specs.Pairs.{Critical}
 use Rattle.plan.specs.Grammar.{forms, Grammatical}
 use Rattle.plan.specs.Places.{NoPlace, EndsEarly}
+use Rattle.plan.specs.Limits.{countIf}
 use Rattle.plan.specs.Settled.{Settled}
-use Rattle.demands.specs.Lines.{First, FormWhere, InFile, count}
+use Rattle.demands.specs.Lines.{First, FormWhere, InFile}
 
 -- ---- of the lent buffer and the bytes
 
@@ -71,14 +73,14 @@ pub record TooDeep (fs : List Form) : Type 0 where
   pub earlier : List Form
   pub inside : List Form
   pub split : fs ≡ earlier ++ Proc ∷ inside
-  pub last : count isProc inside ≡ 0
-  pub unclosed : count isClose inside + maxBrackets < count isBracket inside
+  pub last : countIf isProc inside ≡ 0
+  pub unclosed : countIf isClose inside + maxBrackets < countIf isBracket inside
 
 -- 5: "There are more than 64 procedures, 1,024 statements, 6 threads, or 16 brackets .. (first line past a limit)", among the forms up to one
 pub data PastLimit (fs : List Form) : Type 0 where
-  procedures : maxProcs < count isProc fs → PastLimit fs
-  statements : maxStatements < count isStatement fs → PastLimit fs
-  threads : maxThreads < count isThread fs → PastLimit fs
+  procedures : maxProcs < countIf isProc fs → PastLimit fs
+  statements : maxStatements < countIf isStatement fs → PastLimit fs
+  threads : maxThreads < countIf isThread fs → PastLimit fs
   brackets : TooDeep fs → PastLimit fs
 
 -- 6: "A hold names a lock above 31 (first such line)."
@@ -87,19 +89,17 @@ pub record HighLock (f : Form) : Type 0 where
   pub hold : f ≡ Hold lock
   pub above : lockCount ≤ lock
 
--- 7: "A call names a procedure whose number is not smaller than the caller's own (first such line)." The caller is the last procedure begun, "numbered from 0"
-pub record LateCall (before : List Form) (f : Form) : Type 0 where
+-- 7, by 02, change 2: "rule 7 now means a call of a procedure that is not there"; 01: "(first such line)"
+pub record AbsentCallee (fs : List Form) (f : Form) : Type 0 where
   pub callee : ℕ
-  pub caller : ℕ
   pub call : f ≡ Call callee
-  pub last-begun : count isProc before ≡ caller + 1
-  pub not-smaller : caller ≤ callee
+  pub absent : countIf isProc fs ≤ callee
 
 -- 8: "A thread names a procedure that is not there (first such line)."
 pub record AbsentProc (fs : List Form) (f : Form) : Type 0 where
   pub proc : ℕ
   pub thread : f ≡ Thread proc
-  pub absent : count isProc fs ≤ proc
+  pub absent : countIf isProc fs ≤ proc
 
 -- ---- of the plan
 
@@ -112,7 +112,7 @@ pub record OfPlan (P : LockPlan → ℕ → Type 0) (text : List ℕ) (n : ℕ) 
 
 -- the `(proc` of procedure p: "Procedures are numbered from 0 in text order"
 abbrev pub BeginsProc : ℕ → List Form → Form → Type 0
-BeginsProc p before f = (f ≡ Proc) × (count isProc before ≡ p)
+BeginsProc p before f = (f ≡ Proc) × (countIf isProc before ≡ p)
 
 -- "`(proc` line of the lowest such", of the procedures of which P holds
 pub record LowestProc (P : List Block → ℕ → Type 0) (plan : LockPlan) (n : ℕ) : Type 0 where
@@ -120,6 +120,8 @@ pub record LowestProc (P : List Block → ℕ → Type 0) (plan : LockPlan) (n :
   pub present : proc < length (plan .procs)
   pub lowest : First (P (plan .procs)) proc
   pub begins : FormWhere (BeginsProc proc) (forms plan) n
+
+-- 12, 02, change 2: "a procedure that reaches itself, .. names the `(proc` line of the lowest such": `Recursive`
 
 -- 9: "Some procedure's size exceeds 1,024"
 abbrev pub TooLarge : List Block → ℕ → Type 0
@@ -146,14 +148,15 @@ pub record Rule : Type 1 where
 abbrev pub rule : ℕ → (ℕ → Type 0) → Rule
 rule n broken = record { number = n; broken = broken }
 
--- the rules 4 to 10, which name a form by its number
+-- the rules that name a form by its number, 4 to 10 and 12, which "follows rule 8"
 unfoldable pub formRules : List ℕ → List Rule
 formRules text =
     rule 4 (OfForms Misplaced text) ∷
     rule 5 (FirstForm (λ fs before f. PastLimit (before ++ f ∷ [])) text) ∷
     rule 6 (FirstForm (λ fs before f. HighLock f) text) ∷
-    rule 7 (FirstForm (λ fs before f. LateCall before f) text) ∷
+    rule 7 (FirstForm (λ fs before f. AbsentCallee fs f) text) ∷
     rule 8 (FirstForm (λ fs before f. AbsentProc fs f) text) ∷
+    rule 12 (OfPlan (LowestProc Recursive) text) ∷
     rule 9 (OfPlan (LowestProc TooLarge) text) ∷
     rule 10 (OfPlan (LowestProc TooManyPairs) text) ∷
     []
@@ -195,11 +198,12 @@ FirstBroken (q ∷ qs) r l = ((q .number ≡ r) × q .broken l) ⊎ (Unbroken q 
 
 -- ---- a text that keeps the rules
 
--- The text is short and its lines spell a plan that keeps what the rules say: `Settled` has those of 4 to 8, then 9 and 10.
+-- The text is short and its lines spell a plan that keeps what the rules say: `Settled` has those of 4 to 8, then 12, 9 and 10.
 pub record AcceptedText (text : List ℕ) : Type 0 where
   pub short : length text ≤ maxBytes
   pub plan : LockPlan
   pub written : IsText text (forms plan)
   pub settled : Settled plan
+  pub acyclic : (p : ℕ) → Recursive (plan .procs) p → ⊥
   pub sizes : (p : ℕ) → p < length (plan .procs) → sizeOf (plan .procs) p ≤ maxSize
   pub pairs : (p : ℕ) → p < length (plan .procs) → TooManyPairs (plan .procs) p → ⊥

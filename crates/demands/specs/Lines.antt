@@ -1,7 +1,6 @@
--- Forms by what holds of them, the first such form, its line in the file, and how many forms are of a kind. 01, "Rules, in checking order".
+-- Forms by what holds of them, the first such form, and its line in the file. 01, "Rules, in checking order".
 use Prim.Native.Nat.{ℕ, _+_, _<_}
-use mathlib.Core.Bool.{Bool, cond}
-use mathlib.Core.List.{List, [], _∷_, _++_}
+use mathlib.Core.List.{List, _∷_, _++_}
 use mathlib.Core.Path.{_≡_}
 use lib.ListN.{length}
 use Rattle.text.specs.declared.Form.{Form}
@@ -27,8 +26,3 @@ pub record InFile (text : List ℕ) (P : ℕ → Type 0) (n : ℕ) : Type 0 wher
   pub number : ℕ
   pub holds : P number
   pub line : n ≡ lineOf text number
-
--- how many of the forms are of a kind
-unfoldable pub count : (Form → Bool) → List Form → ℕ
-count kind [] = 0
-count kind (f ∷ fs) = cond (kind f) 1 0 + count kind fs

@@ -1,7 +1,7 @@
 -- Masks as sums of powers of two, and the machine's operations on them: a join with one member more, tests of membership, the lowest member, a shift
 -- with a number put below it. `width` is the number of digits of a machine word.
-use Prim.Native.Nat.{ℕ, zero, suc, _+_, _-_, _*_, _/_, _%_, _^_, _<_, _≤_}
-use mathlib.Core.Bool.{Bool, true, false, not, cond}
+use Prim.Native.Nat.{ℕ, zero, suc, _+_, _-_, _*_, _/_, _%_, _^_, _<_, _≤_, max}
+use mathlib.Core.Bool.{Bool, true, false, not, _||_, cond}
 use mathlib.Core.Logic.{_≢_, _⊎_, inl, inr, ⊎-elim}
 use mathlib.Core.Path.{_≡_, refl, sym, ap, subst, _∙_}
 use native.Mathlib.Omega.{arith}
@@ -11,10 +11,10 @@ use lib.Bits.{bitAnd, bitOr, and-step, and-self, and-high, and-le-r, or-shifted,
 use lib.Count.{trailingZeros}
 use lib.Dec.{T, eqb, eqb→eq, eqb·zero-suc, eqb·suc-zero, eqb·suc-suc}
 use lib.Pow.{pow-pos, pow-mono, shl-exact}
-use borrow.Author.Tests.{ne-eqb}
+use borrow.Author.Tests.{eq-eqb, ne-eqb}
 use Rattle.laws.specs.Mask.{bit, inMask, maskOf}
 use Rattle.laws.proofs.Bits.{bit-zero, bit-suc, bit-lt, bit-or, bit-and, bit-ext, bit-none, bit-pow, bit-pow-other}
-use Rattle.laws.proofs.Tests.{same-test, lt-or-le, eq-or-ne}
+use Rattle.laws.proofs.Tests.{same-test, eq→eqb, or-T, lt-or-le, eq-or-ne}
 
 -- a number of n digits has none above
 pub digit-out : (m n k : ℕ) → m < 2 ^ n → n ≤ k → bit m k ≡ 0
@@ -34,6 +34,36 @@ digit-test m k = on-digit (λ d. cond (eqb d 1) 1 0 ≡ d) refl refl (bit m k) (
 test-digit : (t : Bool) → eqb (cond t 1 0) 1 ≡ t
 test-digit true = refl
 test-digit false = refl
+
+-- ---- members of no mask, of a power of two, of a join
+
+pub in-none : (k : ℕ) → inMask 0 k ≡ false
+in-none k = rw (bit-none k) refl
+
+pub in-power : (l k : ℕ) → inMask (2 ^ l) k ≡ eqb k l
+in-power l k =
+    ⊎-elim (λ (e : k ≡ l). rw (e, bit-pow l) (sym (eq-eqb l l refl)))
+    (λ (d : k ≢ l). rw (bit-pow-other l k d, ne-eqb k l d) refl)
+    (eq-or-ne k l)
+
+pub in-or : (a b k : ℕ) → inMask (bitOr a b) k ≡ (inMask a k || inMask b k)
+in-or a b k =
+    rw (bit-or a b k) (on-digit (λ x. eqb (max x (bit b k)) 1 ≡ (eqb x 1 || eqb (bit b k) 1))
+    (on-digit (λ y. eqb (max 0 y) 1 ≡ (eqb 0 1 || eqb y 1)) refl refl (bit b k) (bit-lt b k))
+    (on-digit (λ y. eqb (max 1 y) 1 ≡ (eqb 1 1 || eqb y 1)) refl refl (bit b k) (bit-lt b k))
+    (bit a k) (bit-lt a k))
+
+-- a mask within another
+pub within-or : (a b : ℕ) → ((k : ℕ) → T (inMask a k) → T (inMask b k)) → bitOr a b ≡ b
+within-or a b h = bit-ext (bitOr a b) b (λ k. rw (bit-or a b k) (go k (bit a k) refl (bit-lt a k)))
+  where
+    go : (k d : ℕ) → bit a k ≡ d → d < 2 → max d (bit b k) ≡ bit b k
+    go k zero e l = omega arith
+    go k (suc zero) e l = let z : bit b k ≡ 1 = eqb→eq (bit b k) 1 (h k (eq→eqb (bit a k) 1 e)) in omega arith
+    go k (suc (suc d)) e l = absurd (omega arith)
+
+pub or-within : (a b k : ℕ) → bitOr a b ≡ b → T (inMask a k) → T (inMask b k)
+or-within a b k e t = subst (λ m. T (inMask m k)) e (subst T (sym (in-or a b k)) (or-T (inMask a k) (inMask b k) (inl t)))
 
 -- ---- sums of powers of two
 

@@ -29,7 +29,7 @@ use Rattle.answers.specs.declared.Listing.the-variants.{Pairs, Refused}
 use Rattle.answers.specs.Answers.{listingOf, listingNumber, listingHigh, written}
 use Rattle.listing.specs.Listed.{TablePairs, PairsFound, pairsOf, Exact, Listed, ListedBytes}
 use Rattle.answers.proofs.LineBounds.{Numbers, pairs-bounded}
-use Rattle.plan.proofs.AcceptedTable.{accepted-settled, plan-kept, plan-forms}
+use Rattle.plan.proofs.AcceptedTable.{accepted-ranks, plan-kept, plan-forms}
 use Rattle.plan.proofs.Filling.{refused-is}
 use Rattle.plan.proofs.Kept.{unflagged}
 
@@ -88,9 +88,9 @@ exact-pairs text p lent e =
     let absent = refusedIf 11 (leb (length (planOf text .procs)) p) in
     let plan-first = first-none (refusedIf 1 (ltb lent maxPairs)) (orElse (planRefusal text) absent) e .1 in
     let both = first-none (planRefusal text) absent plan-first in
-    let settled = accepted-settled text (both .0) in
+    let ranks = accepted-ranks text (both .0) in
     let there : p < length (planOf text .procs) = leb-false (length (planOf text .procs)) p (unflagged 11 _ (both .1)) in
-    record { critical = pair-list-critical (planOf text .procs) (λ q. q) (settled .sound) p there; ascending = pair-list-ascends (planOf text .procs) p }
+    record { critical = pair-list-critical (planOf text .procs) (ranks .rank) (ranks .sound) p (ranks .below p there); ascending = pair-list-ascends (planOf text .procs) p }
 
 -- ---- into the caller's buffer
 

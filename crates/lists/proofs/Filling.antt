@@ -121,7 +121,6 @@ module _ (table : List ℕ) (l : Layout) (lists₀ counts₀ lists counts : List
           pairs = omega (arith, s .same-lists, s .asked .pairs);
           threads = omega (arith, s .same-counts, s .asked .room);
           short = λ u b. all u b .short;
-          small = λ u w b m. pair-small (tablePlan table .procs) (s .asked .forms .plan .settled .sound) (getD (l .runs) u 0) w (present u b)
-              (subst (List·Memᴰ w) (all u b .pairs) m);
+          small = λ u w b m. pair-small (tablePlan table) (s .asked .forms .plan .settled) (getD (l .runs) u 0) w (subst (List·Memᴰ w) (all u b .pairs) m);
         };
       }

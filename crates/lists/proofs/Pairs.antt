@@ -1,21 +1,23 @@
--- A pair of a pair list is the set of the locks held, below 2 ^ 32, × 32 plus a lock below 32. The list of a procedure stands in the part of the lists that was
--- lent for it, and the pairs before the part stay.
-use Prim.Native.Nat.{ℕ, _+_, _-_, _^_, _≤_, _<_}
-use mathlib.Core.List.{List, [], _∷_, _++_, append-nil, append-assoc, List·Memᴰ}
-use mathlib.Core.Path.{_≡_, sym, ap, _∙_}
+-- A pair of a pair list is the set of the locks held, below 2 ^ 32, × 32 plus a lock below 32, however deep calls go. The list of a procedure stands in the part of the lists
+-- that was lent for it, and the pairs before the part stay.
+use Prim.Native.Nat.{ℕ, zero, suc, _+_, _-_, _≤_, _<_}
+use mathlib.Core.List.{List, [], _++_, append-nil, append-assoc, List·Memᴰ, List·Memᴰ·not-nil, List·Memᴰ·append-cases}
+use mathlib.Core.Logic.{⊎-elim}
+use mathlib.Core.Path.{_≡_, refl, sym, ap, _∙_}
 use native.Mathlib.Omega.{arith}
 use lib.ListN.{length, take, drop, take-append-drop, length-drop, drop-of-length-le}
 use lib.Seq.{take-all, take-at, drop-at, drop-drop, take-append-le, drop-append-le, length-take-le}
 use Rattle.limits.specs.Limits.{lockCount, pairRoom}
 use Rattle.laws.specs.Wrote.{Wrote}
-use Rattle.semantics.specs.Plan.{Block, hold, Sound}
-use Rattle.semantics.specs.Run.{thread, start}
-use Rattle.semantics.specs.Pairs.{Critical, pairList}
-use Rattle.semantics.proofs.Thread.Remainders.{plain-body, Remainder}
-use Rattle.semantics.proofs.Gateway.Invariant.{start-invariant, run-invariant}
+use Rattle.laws.proofs.Tests.{only}
+use Rattle.laws.proofs.Ascending.{mem-ascending}
+use Rattle.semantics.specs.Plan.{Block, done, skip, call, hold, loop, either, end, LockPlan, bodyIn, Written}
+use Rattle.semantics.specs.Run.{unlocked, up}
+use Rattle.semantics.specs.Pairs.{pairOf, held, fresh, pairAt, pairsWith, pairsAt, pairs, pairList}
+use Rattle.semantics.proofs.Thread.Remainders.{length-up}
 use Rattle.semantics.proofs.Ground.LockSets.{held-lt}
-use Rattle.semantics.proofs.Critical.PairList.{pair-list-critical}
-use Rattle.plan.specs.Settled.{tablePlan}
+use Rattle.plan.specs.Settled.{Settled, tablePlan}
+use Rattle.candidates.specs.Candidates.{pairSize}
 use Rattle.pairs.specs.Promises.{PairsCollected}
 use Rattle.pairs.proofs.Lists.{pairs-listed}
 use Rattle.procs.specs.declared.Layout.{Layout}
@@ -23,18 +25,41 @@ use Rattle.lists.specs.Lists.{PairTable}
 
 -- ---- the size of a pair
 
-module _ (ps : List Block) (s : Sound ps (λ p. p)) where
-  critical-small : (p w : ℕ) → Critical ps p w → w < 2 ^ 37
-  unfolding Remainder
-  critical-small p w c =
-      let k = (run-invariant ps (plain-body s) (start ps (p ∷ [])) (thread (hold (c .lock) (c .inside) (c .after)) (c .count) ∷ []) (c .steps) (c .reached)
-      (start-invariant ps (plain-body s) (p ∷ []))) .balanced 0 (omega arith) in
-      let size : length (c .count) ≡ lockCount = k .size in
-      let lock : c .lock < lockCount = k .remainder .0 in
-      omega (arith, c .pair, lock, held-lt lockCount (c .count) (omega arith))
+-- no number of the list is too large for a pair
+abbrev Small : List ℕ → Type 0
+Small ws = (w : ℕ) → List·Memᴰ w ws → w < pairSize
 
-  pub pair-small : (p w : ℕ) → p < length ps → List·Memᴰ w (pairList ps p) → w < 2 ^ 37
-  pair-small p w h m = critical-small p w (pair-list-critical ps (λ p. p) s p h w .0 m)
+small-append : (vs ws : List ℕ) → Small vs → Small ws → Small (vs ++ ws)
+small-append vs ws a b w m = ⊎-elim (a w) (b w) (List·Memᴰ·append-cases vs m)
+
+module _ (C : ℕ → Type 0) (f : ℕ → List ℕ → List ℕ) (called : (p : ℕ) (cs : List ℕ) → length cs ≡ lockCount → Small (f p cs)) where
+  block-small : (b : Block) → Written C b → (cs : List ℕ) → length cs ≡ lockCount → Small (pairsWith f cs b)
+  unfolding Written pairsWith
+  block-small done v cs e = λ w m. absurd (List·Memᴰ·not-nil m)
+  block-small (skip r) v cs e = block-small r v cs e
+  block-small (call p r) v cs e = small-append (f p cs) (pairsWith f cs r) (called p cs e) (block-small r (v .1) cs e)
+  block-small (hold l b r) v cs e =
+      small-append (pairAt cs l) (pairsWith f (up l cs) b ++ pairsWith f cs r)
+      (λ w m. omega (arith, only w (pairOf (held cs) l) (fresh cs l) m .1, v .0, held-lt lockCount cs (omega arith)))
+      (small-append (pairsWith f (up l cs) b) (pairsWith f cs r) (block-small b (v .1) (up l cs) (length-up l cs ∙ e)) (block-small r (v .2) cs e))
+  block-small (loop b r) v cs e = small-append (pairsWith f cs b) (pairsWith f cs r) (block-small b (v .0) cs e) (block-small r (v .1) cs e)
+  block-small (either a b r) v cs e =
+      small-append (pairsWith f cs a) (pairsWith f cs b ++ pairsWith f cs r) (block-small a (v .0) cs e)
+      (small-append (pairsWith f cs b) (pairsWith f cs r) (block-small b (v .1) cs e) (block-small r (v .2) cs e))
+  block-small (end l r) v cs e = absurd v
+
+module _ (plan : LockPlan) (s : Settled plan) where
+  abbrev ps : List Block
+  ps = plan .procs
+
+  called-small : (d p : ℕ) (cs : List ℕ) → length cs ≡ lockCount → Small (pairsAt d ps p cs)
+  unfolding pairsAt
+  called-small zero p cs e = λ w m. absurd (List·Memᴰ·not-nil m)
+  called-small (suc d) p cs e = block-small (λ q. q < length ps) (pairsAt d ps) (called-small d) (bodyIn ps p) (s .callees-present p) cs e
+
+  pub pair-small : (p w : ℕ) → List·Memᴰ w (pairList ps p) → w < pairSize
+  unfolding pairList
+  pair-small p w m = called-small (length ps) p unlocked refl w (mem-ascending (pairs (length ps) ps p) w m)
 
 -- ---- the part that was lent
 

@@ -1,4 +1,4 @@
-// The lists of the critical pairs of a plan's threads, one after another in a table of pairs.
+// The pair lists of a plan's threads, one after another in a table of pairs.
 ghost use Prim.Native.Nat.{_+_, _≤_, _<_};
 ghost use lib.ListN.{length};
 ghost use Rattle.limits.specs.Limits.{pairRoom};
@@ -9,7 +9,7 @@ ghost use Rattle.lists.specs.Lists.{PairTable, ListsAsked, ThreadLists};
 use limits::MAX_PAIRS;
 use procs::Layout;
 
-// The critical pairs of procedure p, from place `at` of the lists on.
+// The pair list of procedure p, from place `at` of the lists on.
 fn list_from(table: &[u64], layout: Layout, p: usize, lists: &mut [u64], at: usize) -> usize
     requires { ⌜ PairTable (now table) layout × (p < layout .procs) × (at + pairRoom ≤ length (now lists)) ⌝ }
     ensures { λ r. ⌜ Wrote (now (lists .entry)) (now (lists .exit)) at (at + r) (pairList (tablePlan (now (table .entry)) .procs) p) ⌝ }

@@ -9,7 +9,6 @@ use lib.Seq.{length-take-le}
 use Rattle.limits.specs.Limits.{maxSize}
 use Rattle.semantics.specs.Plan.{bodyIn}
 use Rattle.semantics.specs.Sizes.{sizeOf}
-use Rattle.semantics.proofs.Thread.Remainders.{body-below}
 use Rattle.semantics.specs.Paths.{found}
 use Rattle.semantics.proofs.Analysis.Paths.{path-found}
 use Rattle.paths.specs.declared.Stop.{Stop}
@@ -30,14 +29,14 @@ module _ {ws starts s s₁ : List ℕ} {procs p pair : ℕ} {r : Stop} (a : Path
       let size = size-deeper (procsIn ws) (length (procsIn ws)) p (λ z. omega arith) in
       let small = a .small in (
         there .later,
-        rw (a .count) at (i .walked (bodyIn (procsIn ws) p) (there .later) (there .written)
-            (body-below (procsIn ws) (λ q. q) (a .plan .settled .sound) (length (procsIn ws)) p (omega arith)) (rw (a .count) (omega arith))),
+        rw (a .count) at (i .walked (bodyIn (procsIn ws) p) (there .later) (there .written) (a .plan .settled .callees-present p)
+            (rw (a .count) (omega arith))),
       )
 
   pub path-written : PathWritten ws p pair (r .count) s₁
   path-written =
       let here : p < length (procsIn ws) = rw (← a .count) (a .present) in
-      let f = path-found (procsIn ws) (λ q. q) (a .plan .settled .sound) (length (procsIn ws)) p pair here (a .member) in
+      let f = path-found (procsIn ws) (a .ranks .rank) (a .ranks .sound) (length (procsIn ws)) p pair (a .ranks .below p here) (a .member) in
       let o = proc-walked .1 in
       let same : take (r .count) s₁ ≡ f .path = found-is (r .reached) (f .path) (take (r .count) s₁)
       (sym (f .walked) ∙ one-deeper (procsIn ws) (length (procsIn ws)) pair p 0 [] (λ z. omega arith) ∙ o .outcome) in

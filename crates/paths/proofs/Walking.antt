@@ -15,7 +15,6 @@ use Rattle.text.specs.declared.Form.the-variants.{Close, Skip, Call, Hold, Loop
 use Rattle.text.proofs.Form.{the-type}
 use Rattle.semantics.specs.Plan.{Block, skip, call, hold, loop, either, bodyIn}
 use Rattle.semantics.specs.Sizes.{sizeWith, sizeAt}
-use Rattle.semantics.proofs.Thread.Remainders.{body-below}
 use Rattle.semantics.specs.Paths.{stepOf, holding, put, Walked, found, passed, andThen, gives, walkWith, walkAt}
 use Rattle.plan.specs.Grammar.{blockForms}
 use Rattle.plan.specs.Table.{formAt}
@@ -216,8 +215,7 @@ module _ {ws starts : List ℕ} {way : Way} {p q n : ℕ} {s s₁ : List ℕ} {i
       let y = size-deeper (procsIn ws) (way .depth) p z in
       let place : q ≡ getD starts p 0 = begin (omega (arith, ready .begins .room)) in (
         there .later,
-        w .walked (bodyIn (procsIn ws) p) (there .later) (rw place (there .written))
-            (body-below (procsIn ws) (λ q. q) (ready .plan .settled .sound) (length (procsIn ws)) p (omega arith)) (omega arith),
+        w .walked (bodyIn (procsIn ws) p) (there .later) (rw place (there .written)) (ready .plan .settled .callees-present p) (omega arith),
       )
 
   pub call-passes : {at : ℕ} → StatementWalks ws way (Call p) at s n (stopped (i .reached) at (i .count)) s₁

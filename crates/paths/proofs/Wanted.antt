@@ -1,6 +1,5 @@
 -- The block of a procedure begins with a hold just if the form at its place is one.
 use Prim.Native.Nat.{ℕ, _+_, _^_, _<_, _≤_}
-use native.Mathlib.Omega.{arith}
 use mathlib.Core.List.{List, [], _∷_}
 use mathlib.Core.Path.{_≡_, refl, sym, _∙_}
 use denote.Enum.Declared.{tagOf}
@@ -11,17 +10,13 @@ use Rattle.text.specs.declared.Form.{Form}
 use Rattle.text.proofs.Form.{the-type}
 use Rattle.text.specs.declared.Form.the-variants.{Close, Hold}
 use Rattle.semantics.specs.Plan.{Block, done, skip, call, hold, loop, either, end, bodyIn}
-use Rattle.semantics.proofs.Thread.Remainders.{body-below}
 use Rattle.semantics.specs.StuckRounds.{firstWanted}
 use Rattle.plan.specs.Grammar.{blockForms}
 use Rattle.plan.specs.Table.{formAt, tableForms}
-use Rattle.plan.specs.Settled.{tablePlan, PlanTable}
-use Rattle.paths.specs.Walks.{InPlan, Inside}
+use Rattle.plan.specs.Settled.{tablePlan}
+use Rattle.paths.specs.Walks.{InPlan}
 use Rattle.paths.specs.Wanted.{FirstWantedAt}
 use Rattle.paths.proofs.Blocks.{other-form, none-begins, hold-only, table-more, table-none}
-
-within : (ws : List ℕ) → PlanTable ws → (p : ℕ) → p < length (tablePlan ws .procs) → Inside ws (bodyIn (tablePlan ws .procs) p)
-within ws t p h = body-below (tablePlan ws .procs) (λ q. q) (t .settled .sound) (length (tablePlan ws .procs)) p (omega arith)
 
 -- a block that does not begin with a hold wants no lock
 wanted-none : (f : Form) (fs later : List Form) (b : Block) → ((l : ℕ) → f ≡ Hold l → ⊥) → f ∷ fs ≡ blockForms b (Close ∷ later) → 0 ≡ firstWanted b
@@ -36,13 +31,13 @@ wanted-none f fs later (end l r) n e = refl
 
 module _ (ws : List ℕ) (start : ℕ) where
   pub wanted-ended : length ws ≤ start → FirstWantedAt ws start 0
-  wanted-ended h t p k st = absurd (none-begins (InPlan ws) (st .later) (st .later) _ (within ws t p k) (sym (table-none ws start h) ∙ st .written))
+  wanted-ended h t p k st = absurd (none-begins (InPlan ws) (st .later) (st .later) _ (t .settled .callees-present p) (sym (table-none ws start h) ∙ st .written))
 
   pub wanted-hold : (f : Form) (l r : ℕ) → start < length ws → f ≡ formAt (getD ws start 0) → f ≡ Hold l → (r < maskSize) × (l < lockCount → r ≡ 2 ^ l) → FirstWantedAt ws start r
   unfolding firstWanted
   wanted-hold f l r h e g u t p k st =
       hold-only (InPlan ws) (st .later) (tableForms (drop (start + 1) ws)) l (λ b. r ≡ firstWanted b) (λ b x c v v′ q. u .1 c)
-      (bodyIn (tablePlan ws .procs) p) (within ws t p k) (let m = table-more ws start h in let w = st .written in cc)
+      (bodyIn (tablePlan ws .procs) p) (t .settled .callees-present p) (let m = table-more ws start h in let w = st .written in cc)
 
   pub wanted-other : (f : Form) → start < length ws → f ≡ formAt (getD ws start 0) → OneOf (0 ∷ 1 ∷ 2 ∷ 3 ∷ 4 ∷ 5 ∷ 7 ∷ 8 ∷ 9 ∷ 10 ∷ []) (tagOf the-type f)
       → FirstWantedAt ws start 0

@@ -7,7 +7,7 @@ use lib.ListN.{length, take, drop}
 use Rattle.limits.specs.Limits.{maskSize, maxSize}
 use Rattle.text.specs.declared.Form.{Form}
 use Rattle.text.specs.declared.Form.the-variants.{Close}
-use Rattle.semantics.specs.Plan.{Block, Written}
+use Rattle.semantics.specs.Plan.{Block, Written, Ranks}
 use Rattle.semantics.specs.Sizes.{sizeWith, sizeAt, sizeOf}
 use Rattle.semantics.specs.Pairs.{pairs}
 use Rattle.semantics.specs.Paths.{Walked, found, passed, walkWith, walkAt, PathFound}
@@ -112,9 +112,10 @@ pub record StatementWalks (ws : List ℕ) (way : Way) (f : Form) (at : ℕ) (bef
 
 -- ---- the path
 
--- what the path to a pair asks: the pair is one of the pairs of procedure p, whose size is within rule 9
+-- what the path to a pair asks: a plan within rule 12, and one of the pairs of its procedure p, whose size is within rule 9
 pub record PathAsked (ws starts : List ℕ) (procs p pair : ℕ) : Type 0 where
   pub plan : PlanTable ws
+  pub ranks : Ranks (procsIn ws)
   pub begins : Starts ws starts
   pub count : procs ≡ length (procsIn ws)
   pub present : p < procs

@@ -10,6 +10,7 @@ use lib.Dec.{ltb}
 use Rattle.laws.proofs.Tests.{first-none}
 use borrow.Author.Tests.{ltb-false, le-ltb}
 use Rattle.limits.specs.Limits.{maxBytes, maxForms}
+use Rattle.semantics.specs.Plan.{Ranks}
 use Rattle.text.specs.declared.Refusal.{Refusal}
 use Rattle.text.specs.Lines.{formsOf, unreadableLine}
 use Rattle.text.proofs.Splits.{few-forms}
@@ -18,17 +19,19 @@ use Rattle.plan.specs.declared.Reading.the-variants.{Accepted}
 use Rattle.plan.specs.Table.{tableForms}
 use Rattle.plan.specs.Grammar.{forms}
 use Rattle.plan.specs.Settled.{Settled, PlanTable, RulesKept}
-use Rattle.plan.specs.Rules.{refusedAt, tooLong, linesRefusal, grammarRefusal, tooLarge, tooManyPairs, procsRefusal, formsRefusal, inFile, planRefusal, planOf, Tabled}
+use Rattle.plan.specs.Rules.{refusedAt, tooLong, linesRefusal, grammarRefusal, recursive, tooLarge, tooManyPairs, procsRefusal, formsRefusal, inFile, planRefusal, planOf, Tabled}
 use Rattle.plan.proofs.Kept.{kept, no-line, unflagged}
 use Rattle.plan.proofs.Denotes.{accepted-denotes}
 use Rattle.plan.proofs.Filling.{accepted-none, accepted-count}
 use Rattle.plan.proofs.Sound.{forms-settled}
+use Rattle.plan.proofs.Ranked.{rules-ranks}
 
 -- what the rules say of a text that none of them refuses
 pub record AcceptedRules (text : List ℕ) : Type 0 where
   pub short : length text ≤ maxBytes
   pub readable : unreadableLine text ≡ none
   pub formed : grammarRefusal (formsOf text) ≡ none
+  pub acyclic : recursive (formsOf text) ≡ none
   pub sizes : tooLarge (formsOf text) ≡ none
   pub pairs : tooManyPairs (formsOf text) ≡ none
 
@@ -51,20 +54,22 @@ accepted-rules text e =
     let fs = formsOf text in
     let x = first-none (orElse (tooLong text) (refusedAt 3 (unreadableLine text))) (inFile text (orElse (grammarRefusal fs) (procsRefusal fs))) e in
     let y = first-none (grammarRefusal fs) (procsRefusal fs) (file-none text _ (x .1)) in
-    let z = first-none (tooLarge fs) (tooManyPairs fs) (y .1) in
+    let u = first-none (recursive fs) (orElse (tooLarge fs) (tooManyPairs fs)) (y .1) in
+    let z = first-none (tooLarge fs) (tooManyPairs fs) (u .1) in
     record {
       short = lines-short text (x .0);
       readable = no-line 3 (unreadableLine text) (first-none (tooLong text) (refusedAt 3 (unreadableLine text)) (x .0) .1);
       formed = y .0;
+      acyclic = u .0;
       sizes = z .0;
       pairs = z .1;
     }
 
 pub rules-accepted : (text : List ℕ) → AcceptedRules text → planRefusal text ≡ none
 unfolding planRefusal linesRefusal tooLong formsRefusal orElse
-rules-accepted text r = rw (le-ltb maxBytes (length text) (r .short), r .readable, r .formed, r .sizes, r .pairs)
+rules-accepted text r = rw (le-ltb maxBytes (length text) (r .short), r .readable, r .formed, r .acyclic, r .sizes, r .pairs)
 
--- the forms of an accepted text are those of its plan, and rules 4 to 8 settle the plan
+-- the forms of an accepted text are those of its plan; rules 4 to 8 settle the plan, and with rule 12 its procedures have ranks
 module _ (text : List ℕ) (e : planRefusal text ≡ none) where
   pub accepted-text : formsOf text ≡ forms (planOf text)
   unfolding planOf
@@ -73,6 +78,10 @@ module _ (text : List ℕ) (e : planRefusal text ≡ none) where
   pub accepted-settled : Settled (planOf text)
   unfolding planOf
   accepted-settled = forms-settled (formsOf text) (accepted-rules text e .formed)
+
+  pub accepted-ranks : Ranks (planOf text .procs)
+  unfolding planOf
+  accepted-ranks = rules-ranks (formsOf text) accepted-settled (accepted-rules text e .acyclic)
 
 -- the table of forms that rules 4 to 8 do not refuse
 pub formed-table : (ws : List ℕ) → grammarRefusal (tableForms ws) ≡ none → PlanTable ws
@@ -98,4 +107,9 @@ module _ (text table : List ℕ) (q : Reading) (n : ℕ) (t : Tabled (planRefusa
   plan-few = rw plan-forms (accepted-rules text plan-kept .pairs)
 
   pub rules-kept : RulesKept (take (n - 0) table)
-  rules-kept = record { plan = plan-table; sizes = rw plan-forms (accepted-rules text plan-kept .sizes); pairs = plan-few }
+  rules-kept = record {
+    plan = plan-table;
+    acyclic = rw plan-forms (accepted-rules text plan-kept .acyclic);
+    sizes = rw plan-forms (accepted-rules text plan-kept .sizes);
+    pairs = plan-few;
+  }

@@ -15,15 +15,15 @@ use Rattle.laws.specs.Choice.{pick}
 use Rattle.text.specs.declared.Form.{Form}
 use Rattle.text.specs.declared.Form.the-variants.{Plan, Proc, Thread, Close, Skip, Call, Hold, Loop, Either, One, Two}
 use Rattle.semantics.specs.Plan.{Block, done, skip, call, hold, loop, either, end, LockPlan, bodyIn, Written}
-use Rattle.semantics.proofs.Thread.Remainders.{written-weaken}
 use Rattle.text.specs.Forms.{numberIn, kindIn}
 use Rattle.plan.specs.declared.Counts.{Counts}
 use Rattle.plan.specs.Grammar.{blockForms, procForms, threadForms, forms, Grammatical, planIn}
-use Rattle.plan.specs.Limits.{asCounts, counted, overLimit, testedBy, leastBad, breaks, breaking, breakingForm, noCounts}
-use Rattle.plan.specs.Rules.{grammarRefusal}
+use Rattle.plan.specs.Limits.{asCounts, counted, overLimit, pastLimitFrom, pastLimitForm, testedBy, leastBad, breaks, breaking, breakingForm, noCounts}
+use Rattle.plan.specs.Rules.{referencesRefusal, grammarRefusal}
 use Rattle.plan.proofs.Trees.{plan-of-forms}
 use Rattle.plan.proofs.Accepts.{forms-accepted}
 use Rattle.plan.proofs.Denotes.{accepted-denotes}
+use Rattle.plan.proofs.Counting.{count-forms}
 use Rattle.plan.proofs.Kept.{Keeps, Kept, kept}
 use Rattle.plan.specs.Settled.{statements, allStatements, nesting, Settled}
 use Rattle.plan.proofs.Sound.{recount, forms-settled}
@@ -32,38 +32,39 @@ within : (n s t o : ℕ) → n ≤ maxProcs → s ≤ maxStatements → t ≤ ma
 unfolding overLimit pick
 within n s t o a b c d = rw (le-ltb maxProcs n a, le-ltb maxStatements s b, le-ltb maxThreads t c, le-ltb maxBrackets o d)
 
-module _ (n t : ℕ) (few-procs : n ≤ maxProcs) (few-threads : t ≤ maxThreads) where
-  keeps : (f : Form) (s o : ℕ) → s ≤ maxStatements → o ≤ maxBrackets → breaks 6 (asCounts n s t o) f ≡ false → breaks 7 (asCounts n s t o) f ≡ false → breaks 8 (asCounts n s t o) f ≡ false
-      → Keeps (asCounts n s t o) f
+-- in the n-th of m procedures, where t threads have been read
+module _ (m n t : ℕ) (few-procs : n ≤ maxProcs) (few-threads : t ≤ maxThreads) where
+  keeps : (f : Form) (s o : ℕ) → s ≤ maxStatements → o ≤ maxBrackets → breaks 6 m f ≡ false → breaks 7 m f ≡ false → breaks 8 m f ≡ false
+      → Keeps m (asCounts n s t o) f
   keeps f s o a b lock callee thread = record { limits = within n s t o few-procs a few-threads b; lock = lock; callee = callee; thread = thread }
 
   -- the forms of a block that keeps the rules, where what follows keeps them
   abbrev Passes : Block → Type 0
-  Passes b = (s o : ℕ) (fs : List Form) → s + statements b ≤ maxStatements → o + nesting b ≤ maxBrackets → Kept (asCounts n (s + statements b) t o) fs
-      → Kept (asCounts n s t o) (blockForms b fs)
+  Passes b = (s o : ℕ) (fs : List Form) → s + statements b ≤ maxStatements → o + nesting b ≤ maxBrackets → Kept m (asCounts n (s + statements b) t o) fs
+      → Kept m (asCounts n s t o) (blockForms b fs)
 
   -- behind the form of a loop or a hold
   bracket-kept : (b r : Block) → Passes b → Passes r → (s o : ℕ) (fs : List Form) → s + statements (loop b r) ≤ maxStatements → o + nesting (loop b r) ≤ maxBrackets
-      → Kept (asCounts n (s + statements (loop b r)) t o) fs → Kept (asCounts n (s + 1) t (o + 1)) (blockForms b (Close ∷ blockForms r fs))
+      → Kept m (asCounts n (s + statements (loop b r)) t o) fs → Kept m (asCounts n (s + 1) t (o + 1)) (blockForms b (Close ∷ blockForms r fs))
   unfolding Kept statements nesting counted breaks testedBy leastBad numberIn pick kindIn
   bracket-kept b r pass-b pass-r s o fs h d k =
       let s₁ = s + 1 + statements b in
       let gs = blockForms r fs in
-      let k′ = recount n t (s + (1 + statements b + statements r)) (s₁ + statements r) o o fs (omega arith) refl k in
+      let k′ = recount m n t (s + (1 + statements b + statements r)) (s₁ + statements r) o o fs (omega arith) refl k in
       let r′ = pass-r s₁ o fs (omega arith) (omega arith) k′ in
       pass-b (s + 1) (o + 1) (Close ∷ gs) (omega arith) (omega arith)
-      (keeps Close s₁ (o + 1 - 1) (omega arith) (omega arith) refl refl refl, recount n t s₁ s₁ o (o + 1 - 1) gs refl (omega arith) r′)
+      (keeps Close s₁ (o + 1 - 1) (omega arith) (omega arith) refl refl refl, recount m n t s₁ s₁ o (o + 1 - 1) gs refl (omega arith) r′)
 
-  block-kept : (b : Block) → Written (λ q. q + 1 < n) b → Passes b
+  block-kept : (b : Block) → Written (λ q. q < m) b → Passes b
   unfolding Kept blockForms Written statements nesting counted breaks testedBy leastBad numberIn pick kindIn
-  block-kept done w s o fs h d k = recount n t (s + 0) s o o fs (omega arith) refl k
+  block-kept done w s o fs h d k = recount m n t (s + 0) s o o fs (omega arith) refl k
   block-kept (skip r) w s o fs h d k = (
     keeps Skip (s + 1) o (omega arith) (omega arith) refl refl refl,
-    block-kept r w (s + 1) o fs (omega arith) d (recount n t (s + (1 + statements r)) (s + 1 + statements r) o o fs (omega arith) refl k),
+    block-kept r w (s + 1) o fs (omega arith) d (recount m n t (s + (1 + statements r)) (s + 1 + statements r) o o fs (omega arith) refl k),
   )
   block-kept (call p r) w s o fs h d k = (
-    keeps (Call p) (s + 1) o (omega arith) (omega arith) refl (lt-leb (n - 1) p (omega (arith, w .0))) refl,
-    block-kept r (w .1) (s + 1) o fs (omega arith) d (recount n t (s + (1 + statements r)) (s + 1 + statements r) o o fs (omega arith) refl k),
+    keeps (Call p) (s + 1) o (omega arith) (omega arith) refl (lt-leb m p (w .0)) refl,
+    block-kept r (w .1) (s + 1) o fs (omega arith) d (recount m n t (s + (1 + statements r)) (s + 1 + statements r) o o fs (omega arith) refl k),
   )
   block-kept (hold l b r) w s o fs h d k =
       let small : l ≤ 31 = omega (arith, w .0) in (
@@ -80,19 +81,19 @@ module _ (n t : ℕ) (few-procs : n ≤ maxProcs) (few-threads : t ≤ maxThread
       let gs = blockForms r fs in
       let hs = blockForms b (Close ∷ Close ∷ gs) in
       let r′ = block-kept r (w .2) s₂ o fs (omega arith) (omega arith)
-      (recount n t (s + (1 + statements a + statements b + statements r)) (s₂ + statements r) o o fs (omega arith) refl k) in
+      (recount m n t (s + (1 + statements a + statements b + statements r)) (s₂ + statements r) o o fs (omega arith) refl k) in
       let b′ = block-kept b (w .1) s₁ (o + 1 + 1) (Close ∷ Close ∷ gs) (omega arith) (omega arith) (
         keeps Close s₂ (o + 1 + 1 - 1) (omega arith) (omega arith) refl refl refl,
         (
           keeps Close s₂ (o + 1 + 1 - 1 - 1) (omega arith) (omega arith) refl refl refl,
-          recount n t s₂ s₂ o (o + 1 + 1 - 1 - 1) gs refl (omega arith) r′,
+          recount m n t s₂ s₂ o (o + 1 + 1 - 1 - 1) gs refl (omega arith) r′,
         ),
       ) in
       let a′ = block-kept a (w .0) (s + 1) (o + 1 + 1) (Close ∷ Two ∷ hs) (omega arith) (omega arith) (
         keeps Close s₁ (o + 1 + 1 - 1) (omega arith) (omega arith) refl refl refl,
         (
           keeps Two s₁ (o + 1 + 1 - 1 + 1) (omega arith) (omega arith) refl refl refl,
-          recount n t s₁ s₁ (o + 1 + 1) (o + 1 + 1 - 1 + 1) hs refl (omega arith) b′,
+          recount m n t s₁ s₁ (o + 1 + 1) (o + 1 + 1 - 1 + 1) hs refl (omega arith) b′,
         ),
       ) in (
         keeps Either (s + 1) (o + 1) (omega arith) (omega arith) refl refl refl,
@@ -100,68 +101,69 @@ module _ (n t : ℕ) (few-procs : n ≤ maxProcs) (few-threads : t ≤ maxThread
       )
   block-kept (end l r) w s o fs h d k = absurd w
 
-procs-kept : (bs : List Block) (n s : ℕ) (fs : List Form) → n + length bs ≤ maxProcs → s + allStatements bs ≤ maxStatements
-    → ((p : ℕ) → Written (λ q. q < n + p) (bodyIn bs p)) → ((p : ℕ) → nesting (bodyIn bs p) ≤ maxBrackets)
-    → Kept (asCounts (n + length bs) (s + allStatements bs) 0 0) fs → Kept (asCounts n s 0 0) (procForms bs fs)
+procs-kept : (bs : List Block) (m n s : ℕ) (fs : List Form) → n + length bs ≤ maxProcs → s + allStatements bs ≤ maxStatements
+    → ((p : ℕ) → Written (λ q. q < m) (bodyIn bs p)) → ((p : ℕ) → nesting (bodyIn bs p) ≤ maxBrackets)
+    → Kept m (asCounts (n + length bs) (s + allStatements bs) 0 0) fs → Kept m (asCounts n s 0 0) (procForms bs fs)
 unfolding Kept procForms bodyIn allStatements counted breaks testedBy leastBad numberIn pick kindIn
-procs-kept [] n s fs h i w d k = rw (add-zero n, add-zero s) at k
-procs-kept (b ∷ bs) n s fs h i w d k =
+procs-kept [] m n s fs h i w d k = rw (add-zero n, add-zero s) at k
+procs-kept (b ∷ bs) m n s fs h i w d k =
     let few : n + 1 ≤ maxProcs = omega arith in
     let procs : n + suc (length bs) ≡ n + 1 + length bs = omega arith in
     let all : s + (statements b + allStatements bs) ≡ s + statements b + allStatements bs = omega arith in
-    let later : (p : ℕ) → Written (λ q. q < n + 1 + p) (bodyIn bs p) =
-    λ p. written-weaken (λ q. q < n + suc p) (λ q. q < n + 1 + p) (λ q h. omega arith) (bodyIn bs p) (w (suc p)) in
-    let rest = procs-kept bs (n + 1) (s + statements b) fs (omega arith) (omega arith) later (λ p. d (suc p)) (rw (procs, all) at k) in
-    let first = written-weaken (λ q. q < n + 0) (λ q. q + 1 < n + 1) (λ q h. omega arith) b (w 0) in (
-      keeps (n + 1) 0 few (omega arith) Proc s 0 (omega arith) (omega arith) refl refl refl,
-      block-kept (n + 1) 0 few (omega arith) b first s 0 (Close ∷ procForms bs fs) (omega arith) (omega (arith, d 0))
-          (keeps (n + 1) 0 few (omega arith) Close (s + statements b) 0 (omega arith) (omega arith) refl refl refl, rest),
+    let rest = procs-kept bs m (n + 1) (s + statements b) fs (omega arith) (omega arith) (λ p. w (suc p)) (λ p. d (suc p)) (rw (procs, all) at k) in (
+      keeps m (n + 1) 0 few (omega arith) Proc s 0 (omega arith) (omega arith) refl refl refl,
+      block-kept m (n + 1) 0 few (omega arith) b (w 0) s 0 (Close ∷ procForms bs fs) (omega arith) (omega (arith, d 0))
+          (keeps m (n + 1) 0 few (omega arith) Close (s + statements b) 0 (omega arith) (omega arith) refl refl refl, rest),
     )
 
-threads-kept : (ns : List ℕ) (n s t : ℕ) → n ≤ maxProcs → s ≤ maxStatements → t + length ns ≤ maxThreads → ((i : ℕ) → i < length ns → getD ns i 0 < n)
-    → Kept (asCounts n s t 0) (threadForms ns (Close ∷ []))
+threads-kept : (ns : List ℕ) (m n s t : ℕ) → n ≤ maxProcs → s ≤ maxStatements → t + length ns ≤ maxThreads → ((i : ℕ) → i < length ns → getD ns i 0 < m)
+    → Kept m (asCounts n s t 0) (threadForms ns (Close ∷ []))
 unfolding Kept threadForms counted breaks testedBy leastBad numberIn pick kindIn
-threads-kept [] n s t a b c h = (keeps n t a (omega arith) Close s 0 b (omega arith) refl refl refl, tt)
-threads-kept (m ∷ ns) n s t a b c h = (
-  keeps n (t + 1) a (omega arith) (Thread m) s 0 b (omega arith) refl refl (lt-leb n m (h 0 (omega arith))),
-  threads-kept ns n s (t + 1) a b (omega arith) (λ i k. h (suc i) (omega arith)),
+threads-kept [] m n s t a b c h = (keeps m n t a (omega arith) Close s 0 b (omega arith) refl refl refl, tt)
+threads-kept (p ∷ ns) m n s t a b c h = (
+  keeps m n (t + 1) a (omega arith) (Thread p) s 0 b (omega arith) refl refl (lt-leb m p (h 0 (omega arith))),
+  threads-kept ns m n s (t + 1) a b (omega arith) (λ i k. h (suc i) (omega arith)),
 )
 
-pub settled-kept : (plan : LockPlan) → Settled plan → Kept noCounts (forms plan)
+settled-kept : (plan : LockPlan) → Settled plan → Kept (length (plan .procs)) noCounts (forms plan)
 unfolding Kept forms counted breaks testedBy leastBad numberIn pick kindIn
 settled-kept plan x =
     let n = length (plan .procs) in
     let s = allStatements (plan .procs) in
     let few : 0 + n ≤ maxProcs = omega (arith, x .few-procs) in
     let small : 0 + s ≤ maxStatements = omega (arith, x .few-statements) in
-    let threads =
-    threads-kept (plan .threads) (0 + n) (0 + s) 0 few small (omega (arith, x .few-threads)) (λ i h. omega (arith, x .threads-present i h)) in
-    let written : (p : ℕ) → Written (λ q. q < 0 + p) (bodyIn (plan .procs) p) =
-    λ p. written-weaken (λ q. q < p) (λ q. q < 0 + p) (λ q h. omega arith) (bodyIn (plan .procs) p) (x .sound .body p) in (
-      keeps 0 0 (omega arith) (omega arith) Plan 0 0 (omega arith) (omega arith) refl refl refl,
-      procs-kept (plan .procs) 0 0 (threadForms (plan .threads) (Close ∷ [])) few small written (x .few-open) threads,
+    let threads = threads-kept (plan .threads) n (0 + n) (0 + s) 0 few small (omega (arith, x .few-threads)) (x .threads-present) in (
+      keeps n 0 0 (omega arith) (omega arith) Plan 0 0 (omega arith) (omega arith) refl refl refl,
+      procs-kept (plan .procs) n 0 0 (threadForms (plan .threads) (Close ∷ [])) few small (x .callees-present) (x .few-open) threads,
     )
 
 -- a rule that each form keeps names none
-module _ (rule : ℕ) (keeps-rule : (c : Counts) (f : Form) → Keeps c f → breaks rule c f ≡ false) where
-  unbroken : (fs : List Form) (c : Counts) (number : ℕ) → Kept c fs → breaking rule c number fs ≡ none
+none-over : (fs : List Form) (m : ℕ) (c : Counts) (number : ℕ) → Kept m c fs → pastLimitFrom c number fs ≡ none
+unfolding Kept pastLimitFrom
+none-over [] m c number k = refl
+none-over (f ∷ fs) m c number k = rw (k .0 .limits) (none-over fs m (counted c f) (suc number) (k .1))
+
+module _ (rule m : ℕ) (keeps-rule : (c : Counts) (f : Form) → Keeps m c f → breaks rule m f ≡ false) where
+  unbroken : (fs : List Form) (c : Counts) (number : ℕ) → Kept m c fs → breaking rule m number fs ≡ none
   unfolding Kept breaking
   unbroken [] c number k = refl
   unbroken (f ∷ fs) c number k = rw (keeps-rule (counted c f) f (k .0)) (unbroken fs (counted c f) (suc number) (k .1))
 
 pub settled-grammatical : (plan : LockPlan) → Settled plan → Grammatical plan
-settled-grammatical plan x = record { some-procedure = x .some-proc; some-thread = x .some-thread; blocks = x .sound .filled }
+settled-grammatical plan x = record { some-procedure = x .some-proc; some-thread = x .some-thread; blocks = x .filled }
 
 pub settled-accepted : (plan : LockPlan) → Settled plan → grammarRefusal (forms plan) ≡ none
-unfolding grammarRefusal breakingForm breaks pick orElse
+unfolding grammarRefusal referencesRefusal pastLimitForm breakingForm orElse
 settled-accepted plan x =
+    let m = length (plan .procs) in
     let k = settled-kept plan x in
     rw (
       forms-accepted plan (settled-grammatical plan x),
-      unbroken 5 (λ c f h. h .limits) (forms plan) noCounts 1 k,
-      unbroken 6 (λ c f h. h .lock) (forms plan) noCounts 1 k,
-      unbroken 7 (λ c f h. h .callee) (forms plan) noCounts 1 k,
-      unbroken 8 (λ c f h. h .thread) (forms plan) noCounts 1 k,
+      none-over (forms plan) m noCounts 1 k,
+      count-forms plan,
+      unbroken 6 m (λ c f h. h .lock) (forms plan) noCounts 1 k,
+      unbroken 7 m (λ c f h. h .callee) (forms plan) noCounts 1 k,
+      unbroken 8 m (λ c f h. h .thread) (forms plan) noCounts 1 k,
     )
 
 -- Rules 4 to 8 accept exactly the texts of the plans that keep what the rules settle.

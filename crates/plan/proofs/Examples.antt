@@ -17,22 +17,23 @@ use Rattle.text.specs.Kinds.{kindOf, planKind, twoKind, threadKind, callKind, h
 use Rattle.text.specs.Kinds.{betweenKeyword, afterKeyword, numberOf, appendDigit, leadingOf, digitOf}
 use Rattle.text.specs.Lines.{split, unindented, passedOver, formsIn, formsOf, unreadable, unreadableLine, lineFor, lineOf}
 use Rattle.semantics.specs.Plan.{bodyIn, _⨾_}
+use Rattle.semantics.specs.CallMasks.{callMask, joinThrough, warshallRound, reachMasks, reachMask}
 use Rattle.semantics.specs.Sizes.{sizeWith, sizeAt, sizeOf, sizes, threadSizes}
 use Rattle.semantics.specs.Run.{up, down, move, compatible, withAll, apart, threadAt, stepIn, step, run, start}
 use Rattle.semantics.specs.Pairs.{heldFrom, pairsWith, pairsAt, pairList}
 use Rattle.semantics.specs.Cases.{setOf}
 use Rattle.semantics.specs.Conflict.{any, unmet, searchFrom}
 use Rattle.semantics.proofs.Stuck.LargestStuck.{atHold, round, rounds}
-use Rattle.semantics.proofs.Analysis.CaseTest.{written, soundFrom, all, pairsFrom, sameBelow, stuckAre, answers, passes, passes-facts}
+use Rattle.semantics.proofs.Analysis.CaseTest.{written, allWritten, all, pairsFrom, sameBelow, stuckAre, answers, passes, passes-facts}
 use Rattle.plan.specs.Grammar.{inFront, behind, planIn}
 use Rattle.plan.specs.Structure.{among, only, closeBlock, onClose, advanceOf, misplaced, misplacedForm}
-use Rattle.plan.specs.Limits.{counted, overLimit, testedBy, leastBad, breaks, breaking, breakingForm}
+use Rattle.plan.specs.Limits.{counted, overLimit, pastLimitFrom, pastLimitForm, testedBy, leastBad, breaks, breaking, countIf, breakingForm}
 use Rattle.text.specs.declared.Refusal.{Refusal}
 use Rattle.text.specs.Lines.{refusal}
-use Rattle.plan.specs.Rules.{tooLong, linesRefusal, grammarRefusal, formsRefusal, planOf, procFormFrom}
-use Rattle.plan.specs.Rules.{lowestFrom, procRefusal, tooLarge, tooManyPairs, planRefusal}
+use Rattle.plan.specs.Rules.{tooLong, linesRefusal, referencesRefusal, grammarRefusal, formsRefusal, planOf, procFormFrom}
+use Rattle.plan.specs.Rules.{lowestFrom, procRefusal, recursive, tooLarge, tooManyPairs, planRefusal}
 use Rattle.plan.specs.Examples.{Outcome, refusedBy, accepted, Example, Gives, copies, loops, eithers}
-use Rattle.plan.specs.Examples.{rule3, rule4, rule5, rule678, rule9, remarks, to8, to9, reference, limits}
+use Rattle.plan.specs.Examples.{rule3, rule4, rule5, rule678, laterCalls, rule9, remarks, to8, to9, reference, limits}
 
 -- ---- the test
 
@@ -53,13 +54,13 @@ right [] = true
 right (e ∷ es) = comesOut (e .text) (e .outcome) && right es
 
 examples-right : T (right (reference ++ limits))
-unfolding right comesOut reference limits rule3 rule4 rule5 rule678 rule9 remarks copies loops eithers kindOf planKind twoKind threadKind callKind
+unfolding right comesOut reference limits rule3 rule4 rule5 rule678 laterCalls rule9 remarks copies loops eithers kindOf planKind twoKind threadKind callKind
     holdKind numbered keywordKind betweenKeyword afterKeyword numberOf appendDigit leadingOf digitOf split unindented passedOver formsIn formsOf unreadable unreadableLine
-    lineFor lineOf pick orElse bind equal inFront behind planIn among only closeBlock onClose advanceOf misplaced misplacedForm counted overLimit testedBy leastBad
-    numberIn kindIn breaks breaking breakingForm tooLong linesRefusal grammarRefusal formsRefusal planOf procFormFrom lowestFrom procRefusal tooLarge
-    tooManyPairs planRefusal bodyIn _⨾_ sizeWith sizeAt sizeOf sizes threadSizes heldFrom pairsWith pairsAt pairList up down insertOnce
+    lineFor lineOf pick orElse bind equal inFront behind planIn among only closeBlock onClose advanceOf misplaced misplacedForm counted overLimit pastLimitFrom pastLimitForm testedBy leastBad
+    numberIn kindIn breaks breaking countIf breakingForm tooLong linesRefusal referencesRefusal grammarRefusal formsRefusal planOf procFormFrom lowestFrom procRefusal recursive
+    callMask joinThrough warshallRound reachMasks reachMask tooLarge tooManyPairs planRefusal bodyIn _⨾_ sizeWith sizeAt sizeOf sizes threadSizes heldFrom pairsWith pairsAt pairList up down insertOnce
     ascending move compatible withAll apart threadAt stepIn step run start bit any unmet searchFrom atHold round rounds written
-    soundFrom all pairsFrom sameBelow setOf stuckAre answers passes
+    allWritten all pairsFrom sameBelow setOf stuckAre answers passes
 examples-right = tt
 
 -- ---- what it implies

@@ -6,10 +6,13 @@ pub mod Accepts
 pub mod Denotes
 pub mod FirstMisplaced
 -- Rules 5 to 8, and a rule of procedures.
+pub mod Counting
 pub mod Kept
 pub mod Sound
 pub mod Allowed
 pub mod Lowest
+pub mod Ranked
+pub mod WithinSize
 -- A form as a code in a table, and the table while it is filled.
 pub mod Codes
 pub mod Filling

@@ -21,6 +21,8 @@ use Rattle.text.proofs.Form.{the-type}
 use Rattle.text.proofs.Matches.{match-arm, kind-rest}
 use Rattle.plan.specs.declared.Advance.{Advance}
 use Rattle.plan.specs.declared.Advance.the-variants.{Stay, Push, Pop, Misplaced}
+use Rattle.plan.specs.declared.Limited.{Limited}
+use Rattle.plan.specs.declared.Limited.the-variants.{Within, Past}
 use Rattle.plan.specs.declared.Reading.{Reading}
 use Rattle.plan.specs.declared.Reading.the-variants.{Accepted, Refused}
 use Rattle.plan.specs.declared.Counts.{Counts}
@@ -28,8 +30,8 @@ use Rattle.plan.specs.Table.{codeOf, formAt}
 use Rattle.plan.specs.Structure.{innermost, stackOf, among, advanceOf, goOn, complete, misplaced}
 use Rattle.text.specs.declared.Refusal.{Refusal}
 use Rattle.text.specs.Lines.{refusal}
-use Rattle.plan.specs.Rules.{refusedAt, readingOf}
-use Rattle.plan.specs.Limits.{Small, asCounts, noCounts, addIf, depthAfter, counted, testedBy, leastBad, breaks, breaking}
+use Rattle.plan.specs.Rules.{refusedAt, limitedOf, readingOf}
+use Rattle.plan.specs.Limits.{Small, asCounts, noCounts, addIf, depthAfter, counted, overLimit, pastLimitFrom, testedBy, leastBad, breaks, breaking, countIf, breakingForm}
 
 -- ---- a match on a form: what a definition says of it, by the arm
 
@@ -77,14 +79,13 @@ pub counts-more : (c : Counts) (f : Form) (p s t d : ℕ) (isP isS isT : Bool) �
 unfolding counted
 counts-more c f p s t d isP isS isT i j k x y z u = rw (x, y, z, u, i, j, k)
 
-pub breaks-number : (rule t a b : ℕ) (c : Counts) (f : Form) → (rule ≡ 5 → ⊥)
-    → t ≡ testedBy f → t ≡ rule → a ≡ leastBad rule c → b ≡ numberIn f → leb a b ≡ breaks rule c f
+pub breaks-number : (rule t a b n : ℕ) (f : Form) → t ≡ testedBy f → t ≡ rule → a ≡ leastBad rule n → b ≡ numberIn f → leb a b ≡ breaks rule n f
 unfolding breaks pick
-breaks-number rule t a b c f n e h p q = rw (ne-eqb rule 5 n, ← e, eq-eqb t rule h, ← p, ← q)
+breaks-number rule t a b n f e h p q = rw (← e, eq-eqb t rule h, ← p, ← q)
 
-pub breaks-not : (rule t : ℕ) (c : Counts) (f : Form) → (rule ≡ 5 → ⊥) → t ≡ testedBy f → (t ≡ rule → ⊥) → false ≡ breaks rule c f
+pub breaks-not : (rule t n : ℕ) (f : Form) → t ≡ testedBy f → (t ≡ rule → ⊥) → false ≡ breaks rule n f
 unfolding breaks pick
-breaks-not rule t c f n e h = rw (ne-eqb rule 5 n, ← e, ne-eqb t rule h)
+breaks-not rule t n f e h = rw (← e, ne-eqb t rule h)
 
 -- ---- the stack in its buffer
 
@@ -163,7 +164,7 @@ module _ (table : List ℕ) (mode d i : ℕ) (stack : List ℕ) (r : Option ℕ)
   unfolding readingOf
   pass-early n h p e = let a : some (i + 1) ≡ r = rw (ne-eqb mode 4 e) at (at-end h p) in rw (← a)
 
--- ---- rules 5 to 8, one form of a table on
+-- ---- rule 5, one form of a table on
 
 pub small-none : Small noCounts 0
 small-none = record { procs = le-refl 0; statements = le-refl 0; threads = le-refl 0; depth = le-refl 0 }
@@ -192,25 +193,73 @@ small-more c r f i e s = rw e (grown c i s f)
 pub small-below : (c : Counts) (i n : ℕ) → Small c i → i < n → n < 65536 → Small c 65536
 small-below c i n s h k = record { procs = omega arith; statements = omega arith; threads = omega arith; depth = omega arith }
 
-module _ (table : List ℕ) (rule i : ℕ) (c d : Counts) (f : Form) (q : Bool) (r : Option ℕ)
+module _ (table : List ℕ) (i : ℕ) (c d : Counts) (f : Form) (q : Bool) (r : Option ℕ)
     (h : i < length table) (e : f ≡ formAt (getD table i 0)) (k : d ≡ counted c f)
-    (b : q ≡ breaks rule d f) (p : breaking rule c (i + 1) (map formAt (drop i table)) ≡ r) where
-  tested : cond q (some (i + 1)) (breaking rule d (i + 1 + 1) (map formAt (drop (i + 1) table))) ≡ r
-  unfolding breaking
-  tested = rw (b, k, e, ← number-next i, add-one) (rw (drop-cons table i 0 h, add-one) at p)
+    (b : q ≡ overLimit d) (p : pastLimitFrom c (i + 1) (map formAt (drop i table)) ≡ r) where
+  limited : cond q (some (i + 1)) (pastLimitFrom d (i + 1 + 1) (map formAt (drop (i + 1) table))) ≡ r
+  unfolding pastLimitFrom
+  limited = rw (b, k, e, ← number-next i, add-one) (rw (drop-cons table i 0 h, add-one) at p)
 
-  pub rule-again : q ≡ false → breaking rule d (i + 1 + 1) (map formAt (drop (i + 1) table)) ≡ r
+  pub limits-again : q ≡ false → pastLimitFrom d (i + 1 + 1) (map formAt (drop (i + 1) table)) ≡ r
+  limits-again z = rw z at limited
+
+  pub limits-passed : (n : ℕ) → q ≡ true → Past (refusal 5 (i + 1)) ≡ limitedOf (refusedAt 5 r) n
+  unfolding limitedOf
+  limits-passed n z = let a : some (i + 1) ≡ r = rw z at limited in rw (← a)
+
+-- the procedures counted, and those among the forms fs
+unfoldable pub procsFrom : Counts → List Form → ℕ
+procsFrom c fs = c .procs + countIf isProc fs
+
+pub procs-none : (fs : List Form) → procsFrom noCounts fs ≡ countIf isProc fs
+unfolding procsFrom
+procs-none fs = omega arith
+
+pub procs-again : (table : List ℕ) (i r : ℕ) (c d : Counts) (f : Form) → procsFrom c (map formAt (drop i table)) ≡ r → i < length table → f ≡ formAt (getD table i 0)
+    → d ≡ counted c f → procsFrom d (map formAt (drop (i + 1) table)) ≡ r
+unfolding procsFrom counted countIf
+procs-again table i r c d f p h e k =
+    let rest = countIf isProc (map formAt (drop (i + 1) table)) in
+    let t : c .procs + (cond (isProc f) 1 0 + rest) ≡ r = rw (e, add-one) (rw (drop-cons table i 0 h) at p) in
+    rw k (more (isProc f) rest t)
+  where
+    more : (q : Bool) (rest : ℕ) → c .procs + (cond q 1 0 + rest) ≡ r → addIf q (c .procs) + rest ≡ r
+    more true rest t = omega arith
+    more false rest t = omega arith
+
+pub limits-kept : (table : List ℕ) (i n : ℕ) (c : Counts) (r : Option ℕ) → length table ≤ i → pastLimitFrom c (i + 1) (map formAt (drop i table)) ≡ r
+    → procsFrom c (map formAt (drop i table)) ≡ n → Within (c .procs) ≡ limitedOf (refusedAt 5 r) n
+unfolding pastLimitFrom procsFrom countIf limitedOf
+limits-kept table i n c r h p k =
+    let a : none ≡ r = rw (drop-of-length-le table h) at p in
+    let b : c .procs + 0 ≡ n = rw (drop-of-length-le table h) at k in
+    let e : c .procs ≡ n = omega arith in
+    rw (← a, e)
+
+-- ---- rules 6 to 8, one form of a table on
+
+pub rule-first : (rule m : ℕ) (fs : List Form) → m ≡ countIf isProc fs → breaking rule m 1 fs ≡ breakingForm rule fs
+unfolding breakingForm
+rule-first rule m fs e = rw e
+
+module _ (table : List ℕ) (rule m i : ℕ) (f : Form) (q : Bool) (r : Option ℕ)
+    (h : i < length table) (e : f ≡ formAt (getD table i 0)) (b : q ≡ breaks rule m f) (p : breaking rule m (i + 1) (map formAt (drop i table)) ≡ r) where
+  tested : cond q (some (i + 1)) (breaking rule m (i + 1 + 1) (map formAt (drop (i + 1) table))) ≡ r
+  unfolding breaking
+  tested = rw (b, e, ← number-next i, add-one) (rw (drop-cons table i 0 h, add-one) at p)
+
+  pub rule-again : q ≡ false → breaking rule m (i + 1 + 1) (map formAt (drop (i + 1) table)) ≡ r
   rule-again z = rw z at tested
 
   pub rule-broken : (n : ℕ) → q ≡ true → Refused (refusal rule (i + 1)) ≡ readingOf (refusedAt rule r) n
   unfolding readingOf
   rule-broken n z = let a : some (i + 1) ≡ r = rw z at tested in rw (← a)
 
-pub rule-kept : (table : List ℕ) (rule i : ℕ) (c : Counts) (r : Option ℕ) → length table ≤ i → i ≤ length table
-    → breaking rule c (i + 1) (map formAt (drop i table)) ≡ r
+pub rule-kept : (table : List ℕ) (rule m i : ℕ) (r : Option ℕ) → length table ≤ i → i ≤ length table
+    → breaking rule m (i + 1) (map formAt (drop i table)) ≡ r
     → Accepted i ≡ readingOf (refusedAt rule r) (length table)
 unfolding breaking readingOf
-rule-kept table rule i c r h k p =
+rule-kept table rule m i r h k p =
     let a : none ≡ r = rw (drop-of-length-le table h) at p in
     let b : i ≡ length table = omega arith in
     rw (← a, b)
@@ -226,3 +275,27 @@ pub first-passes : (a b : Option Refusal) (q r : Reading) (n m : ℕ) → q ≡ 
 unfolding readingOf orElse
 first-passes none b q r n m e g h = h
 first-passes (some w) b q r n m e g h = let z : _≡_ {A = ℕ} 0 1 = cc in absurd (omega arith)
+
+-- by the answer of rule 5
+
+module _ (a b : Option Refusal) (q : Limited) (r : Reading) (n k : ℕ) (e : q ≡ limitedOf a n) where
+  pub limits-refuse : (x : Refusal) → q ≡ Past x → r ≡ Refused x → r ≡ readingOf (orElse a b) k
+  unfolding limitedOf readingOf orElse
+  limits-refuse x g h = go a e
+    where
+      go : (a : Option Refusal) → q ≡ limitedOf a n → r ≡ readingOf (orElse a b) k
+      go none e = let z : _≡_ {A = ℕ} 0 1 = cc in absurd (omega arith)
+      go (some w) e = let z : w ≡ x = cc in rw z h
+
+  pub limits-pass : (m : ℕ) → q ≡ Within m → r ≡ readingOf b k → r ≡ readingOf (orElse a b) k
+  unfolding limitedOf readingOf orElse
+  limits-pass m g h = go a e
+    where
+      go : (a : Option Refusal) → q ≡ limitedOf a n → r ≡ readingOf (orElse a b) k
+      go none e = h
+      go (some w) e = let z : _≡_ {A = ℕ} 0 1 = cc in absurd (omega arith)
+
+pub procs-counted : (a : Option Refusal) (q : Limited) (n m : ℕ) → q ≡ limitedOf a n → q ≡ Within m → m ≡ n
+unfolding limitedOf
+procs-counted none q n m e g = cc
+procs-counted (some w) q n m e g = let z : _≡_ {A = ℕ} 0 1 = cc in absurd (omega arith)

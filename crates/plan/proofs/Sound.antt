@@ -1,5 +1,5 @@
 -- What rules 4 to 8 settle of a plan's tree (`forms-settled`). The counts run along with the forms: a block adds its statements and leaves the
--- other counts as they were, so a call within procedure p meets the count p + 1, and a thread the count of all procedures.
+-- other counts as they were. What calls and threads name is below the number of all procedures.
 use Prim.Native.Nat.{ℕ, zero, suc, _+_, _-_, _<_, _≤_}
 use mathlib.Core.Bool.{Bool, true, false}
 use mathlib.Core.List.{List, [], _∷_}
@@ -13,33 +13,33 @@ use Rattle.limits.specs.Limits.{maxProcs, maxStatements, maxThreads, maxBracket
 use Rattle.text.specs.declared.Form.{Form}
 use Rattle.text.specs.declared.Form.the-variants.{Close, Two}
 use Rattle.semantics.specs.Plan.{Block, done, skip, call, hold, loop, either, end, LockPlan, bodyIn, WellFormed, Written}
-use Rattle.semantics.proofs.Thread.Remainders.{written-weaken}
 use Rattle.plan.specs.Grammar.{blockForms, procForms, threadForms, forms, Grammatical, planIn}
 use Rattle.laws.specs.Choice.{pick}
-use Rattle.text.specs.Forms.{numberIn, kindIn}
-use Rattle.plan.specs.Limits.{asCounts, counted, testedBy, leastBad, breaks, noCounts}
+use Rattle.text.specs.Forms.{numberIn, kindIn, isProc}
+use Rattle.plan.specs.Limits.{asCounts, counted, testedBy, leastBad, breaks, countIf, noCounts}
 use Rattle.plan.specs.Settled.{statements, allStatements, nesting, Settled}
 use Rattle.plan.specs.Rules.{grammarRefusal}
 use Rattle.plan.proofs.Trees.{later-blocks}
 use Rattle.plan.proofs.Denotes.{accepted-denotes}
+use Rattle.plan.proofs.Counting.{count-forms}
 use Rattle.plan.proofs.Kept.{Kept, kept, within-limits}
 
--- In the n-th procedure, where t threads have been read:
-module _ (n t : ℕ) where
+-- In the n-th of m procedures, where t threads have been read:
+module _ (m n t : ℕ) where
   -- what the forms of a block b say, where s statements have been read and o brackets are open
   record KeptBlock (s o : ℕ) (b : Block) (fs : List Form) : Type 0 where
-    written : Written (λ q. q + 1 < n) b
+    written : Written (λ q. q < m) b
     nested : o + nesting b ≤ maxBrackets
-    later : Kept (asCounts n (s + statements b) t o) fs
+    later : Kept m (asCounts n (s + statements b) t o) fs
 
-  pub recount : (s s′ o o′ : ℕ) (fs : List Form) → s ≡ s′ → o ≡ o′ → Kept (asCounts n s t o) fs → Kept (asCounts n s′ t o′) fs
+  pub recount : (s s′ o o′ : ℕ) (fs : List Form) → s ≡ s′ → o ≡ o′ → Kept m (asCounts n s t o) fs → Kept m (asCounts n s′ t o′) fs
   recount s s′ o o′ fs p q k = rw (← p, ← q) k
 
   abbrev Reads : Block → Type 0
-  Reads b = (s o : ℕ) (fs : List Form) → o ≤ maxBrackets → Kept (asCounts n s t o) (blockForms b fs) → KeptBlock s o b fs
+  Reads b = (s o : ℕ) (fs : List Form) → o ≤ maxBrackets → Kept m (asCounts n s t o) (blockForms b fs) → KeptBlock s o b fs
 
   -- behind the form of a skip or a call
-  kept-simple : (r : Block) → Reads r → (s o : ℕ) (fs : List Form) → o ≤ maxBrackets → Kept (asCounts n (s + 1) t o) (blockForms r fs) → KeptBlock s o (skip r) fs
+  kept-simple : (r : Block) → Reads r → (s o : ℕ) (fs : List Form) → o ≤ maxBrackets → Kept m (asCounts n (s + 1) t o) (blockForms r fs) → KeptBlock s o (skip r) fs
   unfolding Written statements nesting
   kept-simple r read s o fs h k =
       let x = read (s + 1) o fs h k in
@@ -48,7 +48,7 @@ module _ (n t : ℕ) where
 
   -- behind the form of a loop or a hold
   kept-bracket : (b r : Block) → Reads b → Reads r → (s o : ℕ) (fs : List Form) → o + 1 ≤ maxBrackets
-      → Kept (asCounts n (s + 1) t (o + 1)) (blockForms b (Close ∷ blockForms r fs)) → KeptBlock s o (loop b r) fs
+      → Kept m (asCounts n (s + 1) t (o + 1)) (blockForms b (Close ∷ blockForms r fs)) → KeptBlock s o (loop b r) fs
   unfolding Kept Written statements nesting counted kindIn
   kept-bracket b r read-b read-r s o fs h k =
       let s₁ = s + 1 + statements b in
@@ -84,7 +84,7 @@ module _ (n t : ℕ) where
   kept-block (skip r) empty w s o fs h k = kept-simple r (kept-block r true w) s o fs h (k .1)
   kept-block (call p r) empty w s o fs h k =
       let x = kept-simple r (kept-block r true w) s o fs h (k .1) in
-      record { written = (omega (arith, leb-false (n - 1) p (k .0 .callee)), x .written); nested = x .nested; later = x .later }
+      record { written = (leb-false m p (k .0 .callee), x .written); nested = x .nested; later = x .later }
   kept-block (hold l b r) empty w s o fs h k =
       let deeper = within-limits (asCounts n (s + 1) t (o + 1)) (k .0 .limits) .depth in
       let x = kept-bracket b r (kept-block b false (w .0)) (kept-block r true (w .1)) s o fs deeper (k .1) in
@@ -96,19 +96,19 @@ module _ (n t : ℕ) where
       kept-either a b r (kept-block a false (w .0)) (kept-block b false (w .1)) (kept-block r true (w .2)) s o fs h k
   kept-block (end l r) empty w s o fs h k = absurd w
 
--- what the forms of procedures say, where n procedures and s statements have been read, and the counts behind them
-record KeptProcs (n s : ℕ) (bs : List Block) (fs : List Form) : Type 0 where
-  written : (p : ℕ) → Written (λ q. q < n + p) (bodyIn bs p)
+-- what the forms of procedures say, where n of the m procedures and s statements have been read, and the counts behind them
+record KeptProcs (m n s : ℕ) (bs : List Block) (fs : List Form) : Type 0 where
+  written : (p : ℕ) → Written (λ q. q < m) (bodyIn bs p)
   nested : (p : ℕ) → nesting (bodyIn bs p) ≤ maxBrackets
-  later : Kept (asCounts (n + length bs) (s + allStatements bs) 0 0) fs
+  later : Kept m (asCounts (n + length bs) (s + allStatements bs) 0 0) fs
 
-kept-procs : (bs : List Block) → ((p : ℕ) → p < length bs → WellFormed false (bodyIn bs p)) → (n s : ℕ) (fs : List Form)
-    → Kept (asCounts n s 0 0) (procForms bs fs) → KeptProcs n s bs fs
+kept-procs : (bs : List Block) → ((p : ℕ) → p < length bs → WellFormed false (bodyIn bs p)) → (m n s : ℕ) (fs : List Form)
+    → Kept m (asCounts n s 0 0) (procForms bs fs) → KeptProcs m n s bs fs
 unfolding Kept procForms bodyIn Written allStatements nesting counted kindIn
-kept-procs [] w n s fs k = record { written = λ p. tt; nested = λ p. omega arith; later = rw (add-zero n, add-zero s) k }
-kept-procs (b ∷ bs) w n s fs k =
-    let x = kept-block (n + 1) 0 b false (w 0 (omega arith)) s 0 (Close ∷ procForms bs fs) (omega arith) (k .1) in
-    let y = kept-procs bs (later-blocks b bs w) (n + 1) (s + statements b) fs (x .later .1) in
+kept-procs [] w m n s fs k = record { written = λ p. tt; nested = λ p. omega arith; later = rw (add-zero n, add-zero s) k }
+kept-procs (b ∷ bs) w m n s fs k =
+    let x = kept-block m (n + 1) 0 b false (w 0 (omega arith)) s 0 (Close ∷ procForms bs fs) (omega arith) (k .1) in
+    let y = kept-procs bs (later-blocks b bs w) m (n + 1) (s + statements b) fs (x .later .1) in
     let procs : n + 1 + length bs ≡ n + suc (length bs) = omega arith in
     let counted-statements : s + statements b + allStatements bs ≡ s + (statements b + allStatements bs) = omega arith in
     record {
@@ -117,50 +117,50 @@ kept-procs (b ∷ bs) w n s fs k =
       later = rw (procs, counted-statements) at (y .later);
     }
   where
-    each-body : Written (λ q. q + 1 < n + 1) b → ((p : ℕ) → Written (λ q. q < n + 1 + p) (bodyIn bs p))
-        → (p : ℕ) → Written (λ q. q < n + p) (bodyIn (b ∷ bs) p)
-    each-body w ws zero = written-weaken (λ q. q + 1 < n + 1) (λ q. q < n + 0) (λ q h. omega arith) b w
-    each-body w ws (suc p) = written-weaken (λ q. q < n + 1 + p) (λ q. q < n + suc p) (λ q h. omega arith) (bodyIn bs p) (ws p)
+    each-body : Written (λ q. q < m) b → ((p : ℕ) → Written (λ q. q < m) (bodyIn bs p)) → (p : ℕ) → Written (λ q. q < m) (bodyIn (b ∷ bs) p)
+    each-body w ws zero = w
+    each-body w ws (suc p) = ws p
 
     each-nested : 0 + nesting b ≤ maxBrackets → ((p : ℕ) → nesting (bodyIn bs p) ≤ maxBrackets) → (p : ℕ) → nesting (bodyIn (b ∷ bs) p) ≤ maxBrackets
     each-nested o os zero = omega arith
     each-nested o os (suc p) = os p
 
-record KeptThreads (n s t : ℕ) (ns : List ℕ) : Type 0 where
-  present : (i : ℕ) → i < length ns → getD ns i 0 < n
+record KeptThreads (m n s t : ℕ) (ns : List ℕ) : Type 0 where
+  present : (i : ℕ) → i < length ns → getD ns i 0 < m
   few-procs : n ≤ maxProcs
   few-statements : s ≤ maxStatements
   few-threads : t + length ns ≤ maxThreads
 
-kept-threads : (ns : List ℕ) (n s t : ℕ) → Kept (asCounts n s t 0) (threadForms ns (Close ∷ [])) → KeptThreads n s t ns
+kept-threads : (ns : List ℕ) (m n s t : ℕ) → Kept m (asCounts n s t 0) (threadForms ns (Close ∷ [])) → KeptThreads m n s t ns
 unfolding Kept threadForms counted breaks testedBy leastBad numberIn pick kindIn
-kept-threads [] n s t k =
+kept-threads [] m n s t k =
     let x = within-limits (asCounts n s t 0) (k .0 .limits) in
     record { present = λ i h. absurd (omega arith); few-procs = x .procs; few-statements = x .statements; few-threads = omega (arith, x .threads) }
-kept-threads (m ∷ ns) n s t k =
-    let x = kept-threads ns n s (t + 1) (k .1) in
+kept-threads (p ∷ ns) m n s t k =
+    let x = kept-threads ns m n s (t + 1) (k .1) in
     record {
-      present = each (leb-false n m (k .0 .thread)) (x .present);
+      present = each (leb-false m p (k .0 .thread)) (x .present);
       few-procs = x .few-procs;
       few-statements = x .few-statements;
       few-threads = omega (arith, x .few-threads);
     }
   where
-    each : m < n → ((i : ℕ) → i < length ns → getD ns i 0 < n) → (i : ℕ) → i < length (m ∷ ns) → getD (m ∷ ns) i 0 < n
+    each : p < m → ((i : ℕ) → i < length ns → getD ns i 0 < m) → (i : ℕ) → i < length (p ∷ ns) → getD (p ∷ ns) i 0 < m
     each b bs zero h = b
     each b bs (suc i) h = bs i (omega arith)
 
 -- the forms of a plan that keep rules 5 to 8
-pub kept-settled : (plan : LockPlan) → Grammatical plan → Kept noCounts (forms plan) → Settled plan
+pub kept-settled : (plan : LockPlan) → Grammatical plan → Kept (countIf isProc (forms plan)) noCounts (forms plan) → Settled plan
 unfolding Kept forms counted kindIn
 kept-settled plan g k =
-    let x = kept-procs (plan .procs) (g .blocks) 0 0 (threadForms (plan .threads) (Close ∷ [])) (k .1) in
-    let y = kept-threads (plan .threads) (0 + length (plan .procs)) (0 + allStatements (plan .procs)) 0 (x .later) in
-    let bodies : (p : ℕ) → Written (λ q. q < p) (bodyIn (plan .procs) p) =
-    λ p. written-weaken (λ q. q < 0 + p) (λ q. q < p) (λ q h. omega arith) (bodyIn (plan .procs) p) (x .written p) in
+    let m = length (plan .procs) in
+    let j : Kept m noCounts (forms plan) = rw (count-forms plan) at k in
+    let x = kept-procs (plan .procs) (g .blocks) m 0 0 (threadForms (plan .threads) (Close ∷ [])) (j .1) in
+    let y = kept-threads (plan .threads) m (0 + length (plan .procs)) (0 + allStatements (plan .procs)) 0 (x .later) in
     record {
-      sound = record { body = bodies; filled = g .blocks };
-      threads-present = λ t h. omega (arith, y .present t h);
+      callees-present = x .written;
+      filled = g .blocks;
+      threads-present = y .present;
       some-proc = g .some-procedure;
       some-thread = g .some-thread;
       few-procs = omega (arith, y .few-procs);
@@ -173,4 +173,4 @@ pub forms-settled : (fs : List Form) → grammarRefusal fs ≡ none → Settled 
 forms-settled fs h =
     let k = kept fs h in
     let d = accepted-denotes fs (k .0) in
-    kept-settled (planIn fs) (d .0) (subst (λ l. Kept noCounts l) (d .1) (k .1))
+    kept-settled (planIn fs) (d .0) (subst (λ l. Kept (countIf isProc l) noCounts l) (d .1) (k .1))

@@ -1,4 +1,4 @@
--- Rules 5 to 8: tests of each form in turn, with the counts of what has been read. 01, "Rules, in checking order".
+-- Rule 5, a test of the counts of what has been read, form after form; rules 6 to 8, a test of each form's number. 01, "Rules, in checking order".
 use Prim.Native.Nat.{ℕ, suc, _+_, _-_, _≤_}
 use mathlib.Core.Bool.{Bool, true, false, cond}
 use mathlib.Core.List.{List, [], _∷_}
@@ -9,6 +9,8 @@ use Rattle.laws.specs.Choice.{pick}
 use Rattle.text.specs.declared.Form.{Form}
 use Rattle.text.specs.Forms.{numberIn, isProc, isThread, isClose, isCall, isHold, isStatement, isBracket}
 use Rattle.plan.specs.declared.Counts.{Counts}
+
+-- ---- 5
 
 -- the counts of procedures, statements and threads, and of "brackets of hold, loop, either, one and two open together in a procedure"
 abbrev pub asCounts : ℕ → ℕ → ℕ → ℕ → Counts
@@ -40,24 +42,40 @@ counted c f = asCounts (addIf (isProc f) (c .procs)) (addIf (isStatement f) (c .
 unfoldable pub overLimit : Counts → Bool
 overLimit c = pick (ltb maxProcs (c .procs)) true (pick (ltb maxStatements (c .statements)) true (pick (ltb maxThreads (c .threads)) true (ltb maxBrackets (c .depth))))
 
+-- the first form at which a count is past its limit, of the forms from number k on, where c counts those before: "first line past a limit"
+unfoldable pub pastLimitFrom : Counts → ℕ → List Form → Option ℕ
+pastLimitFrom c k [] = none
+pastLimitFrom c k (f ∷ fs) = cond (overLimit (counted c f)) (some k) (pastLimitFrom (counted c f) (suc k) fs)
+
+-- rule 5 over the whole text
+unfoldable pub pastLimitForm : List Form → Option ℕ
+pastLimitForm fs = pastLimitFrom noCounts 1 fs
+
+-- ---- 6 to 8
+
 -- the rule that tests a form's number: 6 a hold's lock, 7 a call's procedure, 8 a thread's; 0 where none does
 unfoldable pub testedBy : Form → ℕ
 testedBy f = cond (isThread f) 8 (cond (isCall f) 7 (cond (isHold f) 6 0))
 
--- the least number that breaks the rule. 6: "A hold names a lock above 31". 7: "A call names a procedure whose number is not smaller than the caller's own"; the
--- caller is the last procedure begun. 8: "A thread names a procedure that is not there"; thread lines stand behind all procedures
-unfoldable pub leastBad : ℕ → Counts → ℕ
-leastBad rule c = pick (eqb rule 6) lockCount (pick (eqb rule 7) (c .procs - 1) (c .procs))
+-- the least number that breaks the rule, where there are n procedures. 6: "A hold names a lock above 31". 7, by 02, change 2: "a call of a procedure that is not there".
+-- 8: "A thread names a procedure that is not there"
+unfoldable pub leastBad : ℕ → ℕ → ℕ
+leastBad rule n = pick (eqb rule 6) lockCount n
 
--- whether a form breaks a rule, where c counts what has been read, the form too
-unfoldable pub breaks : ℕ → Counts → Form → Bool
-breaks rule c f = pick (eqb rule 5) (overLimit c) (pick (eqb (testedBy f) rule) (leb (leastBad rule c) (numberIn f)) false)
+-- whether a form breaks rule 6, 7 or 8, where there are n procedures
+unfoldable pub breaks : ℕ → ℕ → Form → Bool
+breaks rule n f = pick (eqb (testedBy f) rule) (leb (leastBad rule n) (numberIn f)) false
 
--- the first form that breaks a rule, of the forms from number n on: "first line past a limit", "first such line"
-unfoldable pub breaking : ℕ → Counts → ℕ → List Form → Option ℕ
-breaking rule c n [] = none
-breaking rule c n (f ∷ fs) = cond (breaks rule (counted c f) f) (some n) (breaking rule (counted c f) (suc n) fs)
+-- the first form that breaks it, of the forms from number k on: "first such line"
+unfoldable pub breaking : ℕ → ℕ → ℕ → List Form → Option ℕ
+breaking rule n k [] = none
+breaking rule n k (f ∷ fs) = cond (breaks rule n f) (some k) (breaking rule n (suc k) fs)
 
--- rule 5, 6, 7 or 8 over the whole text
+-- how many of the forms are of a kind
+unfoldable pub countIf : (Form → Bool) → List Form → ℕ
+countIf kind [] = 0
+countIf kind (f ∷ fs) = cond (kind f) 1 0 + countIf kind fs
+
+-- rule 6, 7 or 8 over the whole text, which has as many procedures as `(proc` forms
 unfoldable pub breakingForm : ℕ → List Form → Option ℕ
-breakingForm rule fs = breaking rule noCounts 1 fs
+breakingForm rule fs = breaking rule (countIf isProc fs) 1 fs

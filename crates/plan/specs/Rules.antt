@@ -1,6 +1,6 @@
 -- The rules in checking order, as four refusals: the plan's, the verdict's, the pair list's, the tidy copy's. 01, "Rules, in checking order": "A refusal returns its
--- number and a line (0 where none is named) .. Each rule is tested over the whole text before the next." The rules 4 to 10 are said of the list of forms and name a form
--- by its number, from 1; `planRefusal` names its line in the file.
+-- number and a line (0 where none is named) .. Each rule is tested over the whole text before the next." The rules 4 to 10 and 12 are said of the list of forms and name a
+-- form by its number, from 1; `planRefusal` names its line in the file.
 use Prim.Native.Nat.{ℕ, zero, suc, _-_}
 use mathlib.Core.Bool.{Bool, _&&_, cond}
 use mathlib.Core.List.{List, [], _∷_}
@@ -14,12 +14,15 @@ use Rattle.text.specs.declared.Refusal.{Refusal}
 use Rattle.text.specs.Forms.{isProc}
 use Rattle.text.specs.Lines.{refusal, formsOf, unreadableLine, lineOf}
 use Rattle.semantics.specs.Plan.{LockPlan}
+use Rattle.semantics.specs.CallMasks.{reaches}
 use Rattle.semantics.specs.Sizes.{sizeOf}
 use Rattle.semantics.specs.Pairs.{pairList}
 use Rattle.plan.specs.Grammar.{planIn}
 use Rattle.plan.specs.Structure.{misplacedForm}
 use Rattle.plan.specs.Table.{tableForms}
-use Rattle.plan.specs.Limits.{breakingForm}
+use Rattle.plan.specs.Limits.{pastLimitForm, breakingForm}
+use Rattle.plan.specs.declared.Limited.{Limited}
+use Rattle.plan.specs.declared.Limited.the-variants.{Within, Past}
 use Rattle.plan.specs.declared.Reading.{Reading}
 use Rattle.plan.specs.declared.Reading.the-variants.{Accepted, Refused}
 
@@ -40,14 +43,13 @@ tooLong text = refusedIf 2 (ltb maxBytes (length text))
 unfoldable pub linesRefusal : List ℕ → Option Refusal
 linesRefusal text = orElse (tooLong text) (refusedAt 3 (unreadableLine text))
 
--- rules 4 to 8, of the forms of a text
+-- rules 6 to 8, of the forms of a text: what holds, calls and threads name
+unfoldable pub referencesRefusal : List Form → Option Refusal
+referencesRefusal fs = orElse (refusedAt 6 (breakingForm 6 fs)) (orElse (refusedAt 7 (breakingForm 7 fs)) (refusedAt 8 (breakingForm 8 fs)))
+
+-- rules 4 to 8
 unfoldable pub grammarRefusal : List Form → Option Refusal
-grammarRefusal fs =
-    orElse (refusedAt 4 (misplacedForm fs))
-    (orElse (refusedAt 5 (breakingForm 5 fs))
-    (orElse (refusedAt 6 (breakingForm 6 fs))
-    (orElse (refusedAt 7 (breakingForm 7 fs))
-    (refusedAt 8 (breakingForm 8 fs)))))
+grammarRefusal fs = orElse (refusedAt 4 (misplacedForm fs)) (orElse (refusedAt 5 (pastLimitForm fs)) (referencesRefusal fs))
 
 -- the plan of a text that no rule refuses
 unfoldable pub planOf : List ℕ → LockPlan
@@ -72,6 +74,10 @@ procForm fs (some p) = some (procFormFrom 1 p fs)
 unfoldable pub procRefusal : ℕ → List Form → (ℕ → Bool) → Option Refusal
 procRefusal rule fs test = refusedAt rule (procForm fs (lowestFrom test 0 (length (planIn fs .procs))))
 
+-- 12, 02, change 2: "a procedure that reaches itself, .. names the `(proc` line of the lowest such"
+unfoldable pub recursive : List Form → Option Refusal
+recursive fs = procRefusal 12 fs (λ p. reaches (planIn fs .procs) p p)
+
 -- 9: "Some procedure's size exceeds 1,024"
 unfoldable pub tooLarge : List Form → Option Refusal
 tooLarge fs = procRefusal 9 fs (λ p. ltb maxSize (sizeOf (planIn fs .procs) p))
@@ -80,11 +86,11 @@ tooLarge fs = procRefusal 9 fs (λ p. ltb maxSize (sizeOf (planIn fs .procs) p))
 unfoldable pub tooManyPairs : List Form → Option Refusal
 tooManyPairs fs = procRefusal 10 fs (λ p. ltb maxPairs (length (pairList (planIn fs .procs) p)))
 
--- rules 9 and 10, of the forms of a plan
+-- rules 12, 9 and 10, of the forms of a plan: 12 "follows rule 8"
 abbrev pub procsRefusal : List Form → Option Refusal
-procsRefusal fs = orElse (tooLarge fs) (tooManyPairs fs)
+procsRefusal fs = orElse (recursive fs) (orElse (tooLarge fs) (tooManyPairs fs))
 
--- rules 4 to 10
+-- the rules over the forms: 4 to 8, 12, 9, 10
 unfoldable pub formsRefusal : List Form → Option Refusal
 formsRefusal fs = orElse (grammarRefusal fs) (procsRefusal fs)
 
@@ -97,7 +103,7 @@ abbrev pub inFile : List ℕ → Option Refusal → Option Refusal
 inFile text none = none
 inFile text (some x) = some (refusalInFile text x)
 
--- the plan's rules, 2 to 10
+-- the plan's rules: 2 to 8, 12, 9, 10
 unfoldable pub planRefusal : List ℕ → Option Refusal
 planRefusal text = orElse (linesRefusal text) (inFile text (formsRefusal (formsOf text)))
 
@@ -112,6 +118,11 @@ pairsRefusal text p lent = orElse (refusedIf 1 (ltb lent maxPairs)) (orElse (pla
 -- the tidy copy's: 02, change 1, "The output must hold 32,768 bytes, otherwise rule 1 applies.", then the plan's
 unfoldable pub tidyRefusal : List ℕ → ℕ → Option Refusal
 tidyRefusal text lent = orElse (refusedIf 1 (ltb lent maxBytes)) (planRefusal text)
+
+-- The cases of rule 5's answer: how many procedures there are, where no limit is passed, or the refusal.
+unfoldable pub limitedOf : Option Refusal → ℕ → Limited
+limitedOf none n = Within n
+limitedOf (some r) n = Past r
 
 -- The cases of a reading, with 01's numbers: none of the rules asked is broken, and how many forms there are; or the number of the first rule broken and its line, of a
 -- reading of forms the number of the form.

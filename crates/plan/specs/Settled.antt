@@ -1,14 +1,15 @@
--- What rules 4 to 8 settle of a plan's tree: exactly this (theorem `rules-plan`). Later crates rest on it.
+-- What rules 4 to 8 settle of a plan's tree: exactly this (theorem `rules-plan`). Later crates rest on it. Rule 12 adds ranks (theorem `rules-ranks`).
 use Prim.Native.Nat.{ℕ, _+_, _<_, _≤_, max}
+use mathlib.Core.Bool.{false}
 use mathlib.Core.List.{List, [], _∷_}
 use mathlib.Core.Option.{none}
 use mathlib.Core.Path.{_≡_}
 use lib.ListN.{length, getD}
 use Rattle.limits.specs.Limits.{maxProcs, maxStatements, maxThreads, maxBrackets}
-use Rattle.semantics.specs.Plan.{Block, done, skip, call, hold, loop, either, end, LockPlan, bodyIn, Sound}
+use Rattle.semantics.specs.Plan.{Block, done, skip, call, hold, loop, either, end, LockPlan, bodyIn, Written, WellFormed}
 use Rattle.plan.specs.Grammar.{forms, planIn}
 use Rattle.plan.specs.Table.{tableForms}
-use Rattle.plan.specs.Rules.{tooLarge, tooManyPairs}
+use Rattle.plan.specs.Rules.{recursive, tooLarge, tooManyPairs}
 
 -- how many statements a block has, those within others too
 unfoldable pub statements : Block → ℕ
@@ -34,9 +35,10 @@ nesting (loop b r) = max (1 + nesting b) (nesting r)
 nesting (either a b r) = max (2 + nesting a) (max (2 + nesting b) (nesting r))
 nesting (end l r) = nesting r
 
--- What rules 4 to 8 settle of a plan.
+-- What rules 4 to 8 settle of a plan: among others that callees are there and locks below 32 (`callees-present`).
 pub record Settled (plan : LockPlan) : Type 0 where
-  pub sound : Sound (plan .procs) (λ p. p)
+  pub callees-present : (p : ℕ) → Written (λ q. q < length (plan .procs)) (bodyIn (plan .procs) p)
+  pub filled : (p : ℕ) → p < length (plan .procs) → WellFormed false (bodyIn (plan .procs) p)
   pub threads-present : (t : ℕ) → t < length (plan .threads) → getD (plan .threads) t 0 < length (plan .procs)
   pub some-proc : 0 < length (plan .procs)
   pub some-thread : 0 < length (plan .threads)
@@ -54,8 +56,9 @@ pub record PlanTable (ws : List ℕ) : Type 0 where
   pub written : tableForms ws ≡ forms (tablePlan ws)
   pub settled : Settled (tablePlan ws)
 
--- the table of a plan that keeps the rules 4 to 10: what an accepted text leaves (theorem `rules-kept`)
+-- the table of a plan that keeps the rules 4 to 10 and 12: what an accepted text leaves (theorem `rules-kept`)
 pub record RulesKept (ws : List ℕ) : Type 0 where
   pub plan : PlanTable ws
+  pub acyclic : recursive (tableForms ws) ≡ none
   pub sizes : tooLarge (tableForms ws) ≡ none
   pub pairs : tooManyPairs (tableForms ws) ≡ none

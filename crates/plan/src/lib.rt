@@ -4,12 +4,12 @@ ghost use mathlib.Core.Path.{_≡_};
 ghost use Prim.Native.Nat.{_+_, _-_, _≤_, _<_};
 ghost use lib.ListN.{length};
 ghost use Rattle.limits.specs.Limits.{maxBytes, maxForms};
-ghost use Rattle.text.specs.Forms.{numberIn};
+ghost use Rattle.text.specs.Forms.{numberIn, isProc};
 ghost use Rattle.text.specs.Lines.{lineAt, unreadableLine};
 ghost use Rattle.plan.specs.Table.{codeOf, formAt, tableForms, withLine};
 ghost use Rattle.plan.specs.Structure.{only, among, closeBlock, onClose, advanceOf, misplacedForm, stackOf, innermost};
-ghost use Rattle.plan.specs.Limits.{Small, addIf, depthAfter, counted, overLimit, testedBy, leastBad, breaks, breakingForm};
-ghost use Rattle.plan.specs.Rules.{refusedAt, linesRefusal, grammarRefusal, readingOf, readInFile, Tabled};
+ghost use Rattle.plan.specs.Limits.{Small, addIf, depthAfter, counted, overLimit, pastLimitForm, testedBy, leastBad, breaks, breakingForm, countIf};
+ghost use Rattle.plan.specs.Rules.{refusedAt, linesRefusal, referencesRefusal, grammarRefusal, limitedOf, readingOf, readInFile, Tabled};
 use limits::LOCK_COUNT;
 use limits::MAX_BRACKETS;
 use limits::MAX_BYTES;
@@ -36,6 +36,12 @@ pub struct Counts {
     pub statements: usize,
     pub threads: usize,
     pub depth: usize,
+}
+
+// What rule 5 gives: how many procedures there are, where no limit is passed, or the refusal.
+pub enum Limited {
+    Within(usize),
+    Past(Refusal),
 }
 
 // What reading a plan gives: how many forms it has, or the refusal.
@@ -250,6 +256,28 @@ fn over_limit(c: Counts) -> bool
     MAX_BRACKETS < c.depth
 }
 
+// Rule 5 over a table.
+fn check_limits(table: &[u64]) -> Limited
+    requires { ⌜ length (now table) < 65536 ⌝ }
+    ensures { λ r. ⌜ r ≡ limitedOf (refusedAt 5 (pastLimitForm (tableForms (now (table .entry))))) (countIf isProc (tableForms (now (table .entry)))) ⌝ }
+{
+    let mut c = Counts {
+        procs: 0,
+        statements: 0,
+        threads: 0,
+        depth: 0,
+    };
+    let mut i: usize = 0;
+    while i < table.len() {
+        c = count(c, form_at(table[i]));
+        i += 1;
+        if over_limit(c) {
+            return Limited::Past(Refusal { rule: 5, line: i });
+        }
+    }
+    Limited::Within(c.procs)
+}
+
 // The rule that tests a form's number, or 0.
 fn tested_by(form: Form) -> u8
     ensures { λ r. ⌜ r ≡ testedBy form ⌝ }
@@ -274,53 +302,53 @@ pub fn number_in(form: Form) -> usize
     }
 }
 
-// The least number that breaks rule 6, 7 or 8.
-fn least_bad(rule: u8, c: Counts) -> usize
-    ensures { λ r. ⌜ r ≡ leastBad rule c ⌝ }
+// The least number that breaks rule 6, 7 or 8, where there are so many procedures.
+fn least_bad(rule: u8, procs: usize) -> usize
+    ensures { λ r. ⌜ r ≡ leastBad rule procs ⌝ }
 {
-    if rule == 6 {
-        return LOCK_COUNT;
-    }
-    if rule == 7 {
-        return lower(c.procs);
-    }
-    c.procs
+    if rule == 6 { LOCK_COUNT } else { procs }
 }
 
-// Whether a form breaks a rule of 5 to 8, with the counts up to it.
-fn breaks_rule(rule: u8, c: Counts, form: Form) -> bool
-    ensures { λ r. ⌜ r ≡ breaks rule c form ⌝ }
+// Whether a form breaks rule 6, 7 or 8.
+fn breaks_rule(rule: u8, procs: usize, form: Form) -> bool
+    ensures { λ r. ⌜ r ≡ breaks rule procs form ⌝ }
 {
-    if rule == 5 {
-        return over_limit(c);
-    }
     if tested_by(form) == rule {
-        return least_bad(rule, c) <= number_in(form);
+        return least_bad(rule, procs) <= number_in(form);
     }
     false
 }
 
-// A rule of 5 to 8 over a table.
-fn check_rule(table: &[u64], rule: u8) -> Reading
-    requires { ⌜ length (now table) < 65536 ⌝ }
+// Rule 6, 7 or 8 over a table of so many procedures.
+fn check_numbers(table: &[u64], rule: u8, procs: usize) -> Reading
+    requires { ⌜ procs ≡ countIf isProc (tableForms (now table)) ⌝ }
     ensures { λ r. ⌜ r ≡ readingOf (refusedAt rule (breakingForm rule (tableForms (now (table .entry))))) (length (now (table .entry))) ⌝ }
 {
-    let mut c = Counts {
-        procs: 0,
-        statements: 0,
-        threads: 0,
-        depth: 0,
-    };
     let mut i: usize = 0;
     while i < table.len() {
         let form = form_at(table[i]);
         i += 1;
-        c = count(c, form);
-        if breaks_rule(rule, c, form) {
+        if breaks_rule(rule, procs, form) {
             return Reading::Refused(Refusal { rule, line: i });
         }
     }
     Reading::Accepted(i)
+}
+
+// Rules 6 to 8 over a table of so many procedures.
+fn check_references(table: &[u64], procs: usize) -> Reading
+    requires { ⌜ procs ≡ countIf isProc (tableForms (now table)) ⌝ }
+    ensures { λ r. ⌜ r ≡ readingOf (referencesRefusal (tableForms (now (table .entry)))) (length (now (table .entry))) ⌝ }
+{
+    let locks = check_numbers(table, 6, procs);
+    let Reading::Accepted(_) = locks else {
+        return locks;
+    };
+    let calls = check_numbers(table, 7, procs);
+    let Reading::Accepted(_) = calls else {
+        return calls;
+    };
+    check_numbers(table, 8, procs)
 }
 
 // Rules 4 to 8 over a table, each over the whole of it before the next.
@@ -332,19 +360,10 @@ pub fn check_forms(table: &[u64], stack: &mut [u8]) -> Reading
     let Reading::Accepted(_) = structure else {
         return structure;
     };
-    let limits = check_rule(table, 5);
-    let Reading::Accepted(_) = limits else {
-        return limits;
-    };
-    let locks = check_rule(table, 6);
-    let Reading::Accepted(_) = locks else {
-        return locks;
-    };
-    let calls = check_rule(table, 7);
-    let Reading::Accepted(_) = calls else {
-        return calls;
-    };
-    check_rule(table, 8)
+    match check_limits(table) {
+        Limited::Within(procs) => check_references(table, procs),
+        Limited::Past(refusal) => Reading::Refused(refusal),
+    }
 }
 
 // The line at a place, its form into place n of the table.

@@ -10,6 +10,7 @@ use mathlib.Core.Bool.{Bool, true, false, _&&_, cond}
 use lib.Dec.{eqb, eqb·suc-zero}
 use lib.ListN.{length, take, drop, getD, length-map, length-drop, length-take}
 use lib.Seq.{drop-drop, getD-take}
+use Rattle.limits.specs.Limits.{maxProcs}
 use Rattle.text.specs.declared.Form.{Form}
 use Rattle.text.specs.declared.Form.the-variants.{Proc, Close, Two}
 use Rattle.text.specs.Forms.{numberIn, kindIn, isProc}
@@ -195,3 +196,23 @@ module _ (ws : List ℕ) (t : PlanTable ws) where
         stands = λ p k. rw (at p k) (stands-placed _ _ _ (table-placed p k));
         numbers = λ p k. at p k ∙ places-numbers (tableForms ws) 0 p;
       }
+
+-- what f makes of the places and g of the blocks that stand there
+pub starts-map : (f : ℕ → ℕ) (g : Block → ℕ) (ps : List Block) (starts : List ℕ) → length ps ≤ length starts → ((p : ℕ) → p < length ps → f (getD starts p 0) ≡ g (bodyIn ps p))
+    → map f (take (length ps) starts) ≡ map g ps
+unfolding bodyIn
+starts-map f g [] starts h e = refl
+starts-map f g (b ∷ ps) [] h e = absurd (omega arith)
+starts-map f g (b ∷ ps) (s ∷ starts) h e = cc (e 0 (omega arith), starts-map f g ps starts (omega arith) (λ p k. e (suc p) (omega arith)))
+
+-- ---- the places, in the shape of a function's needs
+
+module _ (table : List ℕ) (procs : ℕ) (c : procs ≡ length (tablePlan table .procs)) where
+  pub start-room : (starts : List ℕ) (p : ℕ) → Starts table starts → p < procs → p < length starts
+  start-room starts p k h = omega (arith, k .room)
+
+  pub start-within : (starts : List ℕ) (p : ℕ) → Starts table starts → p < procs → getD starts p 0 ≤ length table
+  start-within starts p k h = k .stands p (rw c at h) .within
+
+  pub procs-few : PlanTable table → procs ≤ maxProcs
+  procs-few t = omega (arith, t .settled .few-procs)

@@ -1,4 +1,3 @@
--- Passes over the forms of a plan; the layout of its table; the table of sizes.
+-- Passes over the forms of a plan; the layout of its table.
 pub mod Passes
 pub mod Laid
-pub mod Sized

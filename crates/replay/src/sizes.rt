@@ -1,4 +1,5 @@
 // The sum of the threads' sizes, from the plan's text. Procedure p has entry p + 1 of a table, and the sum has the last.
+// A pass over the text settles the sizes of the procedures whose callees have theirs settled. No procedure reaches itself, so as many passes as procedures settle all, in whatever order they stand.
 use super::lines::letter;
 use super::lines::next_line;
 use super::lines::number;
@@ -11,7 +12,7 @@ const SUM: usize = MAX_PROCS + 1;
 
 pub const SIZES_ROOM: usize = SUM + 1;
 
-// The size of a procedure that stands before the line at hand.
+// The size of a procedure, as far as the table has it.
 fn size(sizes: &[usize], proc: usize) -> usize
     requires { ⌜ sizesRoom ≤ length (now sizes) ⌝ }
 {
@@ -47,17 +48,34 @@ fn next_entry(entry: usize, form: u8) -> usize
     if form == b'p' { entry + 1 } else { entry }
 }
 
-// The sum, with a table of zeros.
-pub fn sum(text: &[u8], sizes: &mut [usize]) -> usize
+// What an entry has so far in a pass: nothing where its first line is at hand, whatever an earlier pass left.
+fn so_far(size: usize, first: bool) -> usize {
+    if first { 0 } else { size }
+}
+
+// A pass over the text. No procedure calls itself, so none reads an entry that is being added up.
+fn pass(text: &[u8], sizes: &mut [usize])
     requires { ⌜ sizesRoom ≤ length (now sizes) ⌝ }
 {
     let mut entry: usize = 0;
     let mut at: usize = 0;
     while at < text.len() {
-        entry = next_entry(entry, letter(text, at));
+        let next = next_entry(entry, letter(text, at));
         let more = cost(text, at, sizes);
-        sizes[entry] = std::num::wrapping_add_usize(sizes[entry], more);
+        sizes[next] = std::num::wrapping_add_usize(so_far(sizes[next], next != entry), more);
+        entry = next;
         at = next_line(text, at);
+    }
+}
+
+// The sum, whatever the table has.
+pub fn sum(text: &[u8], sizes: &mut [usize]) -> usize
+    requires { ⌜ sizesRoom ≤ length (now sizes) ⌝ }
+{
+    let mut passes: usize = 0;
+    while passes < MAX_PROCS {
+        pass(text, sizes);
+        passes += 1;
     }
     sizes[SUM]
 }

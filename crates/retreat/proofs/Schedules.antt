@@ -153,7 +153,7 @@ module _ (plan : LockPlan) (vss : List (List ℕ)) (k : ℕ) (threadOf pair : �
 
   paths : Paths ps (plan .threads) P s (masksOf steps) (targets .begins)
   paths =
-      paths-of ps (plan .threads) P (masksOf steps) (targets .begins) (plain-body (r .sound)) (omega (arith, few))
+      paths-of ps (plan .threads) P (masksOf steps) (targets .begins) (plain-body (r .ranks .sound)) (omega (arith, few))
       (λ t b. let q = leads t b in (thread (q .rest) (q .count), q .stands .leads)) table-masks (λ t b. r .begins-with t (below t b))
 
   inside : (t : ℕ) → t < n → getD first-at t 0 ≤ length (P t)
@@ -204,7 +204,7 @@ module _ (plan : LockPlan) (vss : List (List ℕ)) (k : ℕ) (threadOf pair : �
       let e = r .all in
       let g = b .leads ps (plan .threads) P s (threadSizes plan) (sym e)
       (λ t j c l. let d : t < n = omega (arith, e) in path-choice steps lens t (fit .paths) (omega (arith, few)) (in-row t d) j l) paths (rw e first) in
-      rw e (finished-schedule plan (λ p. p) (r .sound) (finished paths g (λ t c. getD-take (targets .threads) (last .positions) t 0 (below t c) ∙ z t (below t c))))
+      rw e (finished-schedule plan (r .ranks .rank) (r .ranks .sound) (finished paths g (λ t c. getD-take (targets .threads) (last .positions) t 0 (below t c) ∙ z t (below t c))))
 
 -- the entries from a place on to the end, as a part of the table
 rest-of : (table : List ℕ) (d : ℕ) → take (length table - d) (drop d table) ≡ drop d table

@@ -7,7 +7,7 @@ use lib.ListN.{length, getD}
 use Rattle.limits.specs.Limits.{maxThreads, maxEntries}
 use Rattle.laws.specs.Mask.{inMask}
 use Rattle.laws.specs.Wrote.{Wrote}
-use Rattle.semantics.specs.Plan.{LockPlan, Sound, bodyIn}
+use Rattle.semantics.specs.Plan.{LockPlan, Ranks, bodyIn}
 use Rattle.semantics.specs.Run.{initial}
 use Rattle.semantics.specs.Sizes.{sizeOf}
 use Rattle.semantics.specs.Stuck.{Schedule}
@@ -31,12 +31,12 @@ pub record TargetsFit (steps : List ℕ) (t : Targets) : Type 0 where
   pub full : TargetsFull t
   pub in-rows : InRows steps (t .positions) (t .threads)
 
--- The tables are right for the plan and a cycle of k of its threads, member i with its pair: the steps and positions have a path to the hold of each
--- member's pair and none for the other threads, `begins` the lock that each thread's block begins with a hold of, and `wanted` what each thread wants
--- at its path's end.
+-- The tables are right for the plan, within rule 12, and a cycle of k of its threads, member i with its pair: the steps and positions have a path to the
+-- hold of each member's pair and none for the other threads, `begins` the lock that each thread's block begins with a hold of, and `wanted` what each
+-- thread wants at its path's end.
 pub record Right (plan : LockPlan) (vss : List (List ℕ)) (k : ℕ) (thread pair : ℕ → ℕ) (steps : List ℕ) (t : Targets) : Type 0 where
   pub all : t .threads ≡ length (plan .threads)
-  pub sound : Sound (plan .procs) (λ p. p)
+  pub ranks : Ranks (plan .procs)
   pub cycle : Cycle vss k thread pair
   pub present : (i : ℕ) → i < k → thread i < t .threads
   pub path : (i : ℕ) → i < k → Finds (plan .procs) (initial (plan .procs) (getD (plan .threads) (thread i) 0)) (pair i) (pathOf steps (t .positions) (thread i))

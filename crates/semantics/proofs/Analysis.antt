@@ -1,5 +1,5 @@
--- What the analyser computes: sizes in rounds, the path to a pair, joins of masks, cycles of pairs, pairs that can be pruned, the search for a cycle; a test of cases.
-pub mod SizeRounds
+-- What the analyser computes: sizes cut off at a limit, the path to a pair, joins of masks, cycles of pairs, pairs that can be pruned, the search for a cycle; a test of cases.
+pub mod CutOffSizes
 pub mod Paths
 pub mod Joins
 pub mod Cycle

@@ -60,10 +60,17 @@ Written C (loop b r) = Written C b × Written C r
 Written C (either a b r) = Written C a × Written C b × Written C r
 Written C (end l r) = ⊥
 
--- What the rules settle of the procedures: calls go to a lower rank, locks are below 32, no block is empty. Under rule 7 the rank of a procedure is its number.
+-- What the rules settle of the procedures: calls go to a lower rank, locks are below 32, no block is empty.
 pub record Sound (ps : List Block) (rank : ℕ → ℕ) : Type 0 where
   pub body : (p : ℕ) → Written (λ q. rank q < rank p) (bodyIn ps p)
   pub filled : (p : ℕ) → p < length ps → WellFormed false (bodyIn ps p)
+
+-- Ranks that fall along calls and are below the number of procedures, so that a chain of calls has fewer calls than there are procedures. Procedures that rules 4 to 8 let pass
+-- have them exactly if none reaches itself (theorems `acyclic-ranks`, `ranks-acyclic`).
+pub record Ranks (ps : List Block) : Type 0 where
+  pub rank : ℕ → ℕ
+  pub sound : Sound ps rank
+  pub below : (p : ℕ) → p < length ps → rank p < length ps
 
 -- no demand on a call
 abbrev pub AnyCall : ℕ → Type 0

@@ -20,7 +20,8 @@ unfoldable pub sizeAt : ℕ → List Block → ℕ → ℕ
 sizeAt ℕ.zero ps p = 0
 sizeAt (ℕ.suc d) ps p = sizeWith (sizeAt d ps) (bodyIn ps p)
 
--- the size of procedure p: calls that never come back to a procedure go less deep than there are procedures
+-- the size of procedure p. 02, change 2: "Sizes and pairs follow the calls and not the text order." Where no procedure reaches itself (rule 12) calls go less deep than there are
+-- procedures, so that a call counts 1 plus its callee's (theorem `size-of-body`)
 unfoldable pub sizeOf : List Block → ℕ → ℕ
 sizeOf ps p = sizeAt (length ps) ps p
 

@@ -149,7 +149,7 @@ module _ (ws : List ℕ) (l : Layout) (chosen : List ℕ) (k : ℕ) (a : CycleAs
         let le = member-within lengths (q .0) (q .1) (d .short (q .0) (q .1)) in
         subst (λ u. (getD lengths u 0 ≤ maxSize) × ((j : ℕ) → j ≤ getD lengths u 0 → getD (masksOf steps u) j 0 < maskSize)) e (
           le,
-          path-locks steps lengths i rows (member-low (q .0) (q .1)) le (tablePlan ws .procs) (procOf ws i) (memberPair chosen (q .0)) (plain-body (a .plan-laid .plan .settled .sound))
+          path-locks steps lengths i rows (member-low (q .0) (q .1)) le (tablePlan ws .procs) (procOf ws i) (memberPair chosen (q .0)) (plain-body (a .plan-laid .ranks .sound))
               (d .path (q .0) (q .1)),
         ))
         (λ (none : (j : ℕ) → j < k → T (eqb (memberThread chosen j) t) → ⊥).
@@ -163,7 +163,7 @@ module _ (ws : List ℕ) (l : Layout) (chosen : List ℕ) (k : ℕ) (a : CycleAs
         let below : (u : ℕ) → u < s .threads → u < n = λ u h. omega (arith, d .all) in
         record {
           all = d .all ∙ a .plan-laid .laid .threads-all;
-          sound = a .plan-laid .plan .settled .sound;
+          ranks = a .plan-laid .ranks;
           cycle = a .cycle;
           present = λ i h. omega (arith, d .all, member-present i h);
           path = d .path;

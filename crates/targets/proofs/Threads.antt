@@ -14,7 +14,7 @@ use Rattle.semantics.specs.Sizes.{sizeOf}
 use Rattle.semantics.specs.StuckRounds.{firstWanted}
 use Rattle.plan.specs.Table.{tableForms}
 use Rattle.plan.specs.Settled.{tablePlan}
-use Rattle.procs.proofs.WithinSize.{sizes-within}
+use Rattle.plan.proofs.WithinSize.{sizes-within}
 use Rattle.paths.specs.Walks.{PathAsked, PathWritten}
 use Rattle.paths.specs.Wanted.{FirstWantedAt}
 use Rattle.procs.specs.declared.Layout.{Layout}
@@ -80,6 +80,7 @@ module _ (ws : List ℕ) (l : Layout) (t pair p : ℕ) (a : LaidPlan ws l) (g : 
   target-asked k =
       rw is (record {
         plan = a .plan;
+        ranks = a .ranks;
         begins = a .laid .starts-there;
         count = a .laid .procs-all;
         present = rw is at k;

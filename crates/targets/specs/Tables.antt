@@ -6,7 +6,7 @@ use mathlib.Core.Option.{none}
 use mathlib.Core.Path.{_≡_}
 use lib.ListN.{length, getD, set, take, drop}
 use Rattle.limits.specs.Limits.{maxSize}
-use Rattle.semantics.specs.Plan.{bodyIn}
+use Rattle.semantics.specs.Plan.{bodyIn, Ranks}
 use Rattle.semantics.specs.Run.{initial}
 use Rattle.semantics.specs.Sizes.{sizeOf}
 use Rattle.semantics.specs.Pairs.{wantedOf, pairs, pairList}
@@ -35,10 +35,11 @@ procOf ws t = getD (tablePlan ws .threads) t 0
 unfoldable pub beginOf : List ℕ → ℕ → ℕ
 beginOf ws t = firstWanted (bodyIn (tablePlan ws .procs) (procOf ws t))
 
--- a plan's table within rule 9, with its layout
+-- a plan's table within rules 12 and 9, with its layout
 pub record LaidPlan (ws : List ℕ) (l : Layout) : Type 0 where
   pub plan : PlanTable ws
   pub laid : Laid ws l
+  pub ranks : Ranks (tablePlan ws .procs)
   pub sized : tooLarge (tableForms ws) ≡ none
 
 -- What is asked: a plan's table with its layout, and a cycle of k pairs of its threads as candidates thread + 8 × pair.

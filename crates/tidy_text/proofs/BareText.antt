@@ -1,5 +1,5 @@
 -- The bare text of a plan within the rules is read as the forms of that plan (`bare-read`), since their numbers are below 1,000. So it denotes the plan, two such plans with
--- one bare text are one, and it is accepted where it is short enough and the plan keeps rules 9 and 10.
+-- one bare text are one, and it is accepted where it is short enough and the plan keeps rules 12, 9 and 10.
 use Prim.Native.Nat.{ℕ, suc, _<_, _≤_}
 use native.Mathlib.Omega.{arith}
 use mathlib.Core.Path.{_≡_, sym, ap, subst, _∙_}
@@ -14,10 +14,9 @@ use Rattle.text.specs.Forms.{numberIn}
 use Rattle.text.specs.Lines.{formsOf, unreadableLine}
 use Rattle.text.proofs.Splits.{written-readable}
 use Rattle.semantics.specs.Plan.{Block, done, skip, call, hold, loop, either, end, LockPlan, bodyIn, Written}
-use Rattle.semantics.proofs.Thread.Remainders.{written-weaken}
 use Rattle.plan.specs.Grammar.{blockForms, procForms, threadForms, forms, planIn}
 use Rattle.plan.specs.Settled.{Settled}
-use Rattle.plan.specs.Rules.{tooLarge, tooManyPairs, planRefusal, planOf}
+use Rattle.plan.specs.Rules.{recursive, tooLarge, tooManyPairs, planRefusal, planOf}
 use Rattle.plan.proofs.Trees.{plan-of-forms}
 use Rattle.plan.proofs.Allowed.{settled-grammatical, settled-accepted}
 use Rattle.plan.proofs.AcceptedTable.{rules-accepted}
@@ -50,12 +49,12 @@ module _ (C : ℕ → Type 0) (small : (q : ℕ) → C q → q < 1000) where
       smalls-cons Either _ (omega arith) (smalls-cons One _ (omega arith) (block-smalls a _ (w .0) b′))
   block-smalls (end l r) fs w s = absurd w
 
-procs-smalls : (bs : List Block) (n : ℕ) (fs : List Form) → n ≤ 1000 → ((p : ℕ) → p < length bs → Written (λ q. q < n) (bodyIn bs p)) → Smalls fs → Smalls (procForms bs fs)
+procs-smalls : (bs : List Block) (n : ℕ) (fs : List Form) → n ≤ 1000 → ((p : ℕ) → Written (λ q. q < n) (bodyIn bs p)) → Smalls fs → Smalls (procForms bs fs)
 unfolding procForms bodyIn numberIn
 procs-smalls [] n fs h w s = s
 procs-smalls (b ∷ bs) n fs h w s =
-    let rest = procs-smalls bs n fs h (λ p k. w (suc p) (omega arith)) s in
-    smalls-cons Proc _ (omega arith) (block-smalls (λ q. q < n) (λ q k. omega arith) b _ (w 0 (omega arith)) (smalls-cons Close _ (omega arith) rest))
+    let rest = procs-smalls bs n fs h (λ p. w (suc p)) s in
+    smalls-cons Proc _ (omega arith) (block-smalls (λ q. q < n) (λ q k. omega arith) b _ (w 0) (smalls-cons Close _ (omega arith) rest))
 
 threads-smalls : (ns : List ℕ) (fs : List Form) → ((t : ℕ) → t < length ns → getD ns t 0 < 1000) → Smalls fs → Smalls (threadForms ns fs)
 unfolding threadForms numberIn
@@ -66,10 +65,8 @@ pub settled-smalls : (plan : LockPlan) → Settled plan → Smalls (forms plan)
 unfolding forms numberIn
 settled-smalls plan x =
     let n = length (plan .procs) in
-    let bodies : (p : ℕ) → p < n → Written (λ q. q < n) (bodyIn (plan .procs) p) =
-    λ p h. written-weaken (λ q. q < p) (λ q. q < n) (λ q k. omega arith) (bodyIn (plan .procs) p) (x .sound .body p) in
     let threads = threads-smalls (plan .threads) (Close ∷ []) (λ t h. omega (arith, x .threads-present t h, x .few-procs)) (smalls-cons Close [] (omega arith) smalls-none) in
-    smalls-cons Plan _ (omega arith) (procs-smalls (plan .procs) n _ (omega (arith, x .few-procs)) bodies threads)
+    smalls-cons Plan _ (omega arith) (procs-smalls (plan .procs) n _ (omega (arith, x .few-procs)) (x .callees-present) threads)
 
 -- ---- the bare text
 
@@ -82,10 +79,18 @@ module _ (plan : LockPlan) (x : Settled plan) where
   unfolding planOf
   bare-plan = ap planIn (bare-read .0) ∙ plan-of-forms plan (settled-grammatical plan x)
 
-  pub bare-accepted : length (bareText plan) ≤ maxBytes → tooLarge (forms plan) ≡ none → tooManyPairs (forms plan) ≡ none → planRefusal (bareText plan) ≡ none
-  bare-accepted h large many =
+  pub bare-accepted : length (bareText plan) ≤ maxBytes → recursive (forms plan) ≡ none → tooLarge (forms plan) ≡ none → tooManyPairs (forms plan) ≡ none
+      → planRefusal (bareText plan) ≡ none
+  bare-accepted h acyclic large many =
       let e : formsOf (bareText plan) ≡ forms plan = bare-read .0 in
-      rules-accepted (bareText plan) (record { short = h; readable = bare-read .1; formed = rw e (settled-accepted plan x); sizes = rw e large; pairs = rw e many })
+      rules-accepted (bareText plan) (record {
+        short = h;
+        readable = bare-read .1;
+        formed = rw e (settled-accepted plan x);
+        acyclic = rw e acyclic;
+        sizes = rw e large;
+        pairs = rw e many;
+      })
 
 pub bare-injective : (a b : LockPlan) → Settled a → Settled b → bareText a ≡ bareText b → a ≡ b
 bare-injective a b x y e = sym (bare-plan a x) ∙ ap planOf e ∙ bare-plan b y

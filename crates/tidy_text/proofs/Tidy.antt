@@ -43,7 +43,8 @@ module _ (text : List ℕ) (h : planRefusal text ≡ none) where
   tidy-accepted =
       let e : formsOf text ≡ forms (planOf text) = accepted-text text h in
       let fits : length (bareText (planOf text)) ≤ maxBytes = tidy-fits in
-      bare-accepted (planOf text) (accepted-settled text h) fits (rw e at (accepted-rules text h .sizes)) (rw e at (accepted-rules text h .pairs))
+      let r = accepted-rules text h in
+      bare-accepted (planOf text) (accepted-settled text h) fits (rw e at (r .acyclic)) (rw e at (r .sizes)) (rw e at (r .pairs))
 
   -- "and tidying a tidy copy alters nothing"
   pub tidy-twice : tidyOf (tidyOf text) ≡ tidyOf text

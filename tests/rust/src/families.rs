@@ -6,7 +6,7 @@ use std::path::Path;
 
 use crate::generate::statements;
 use crate::random::Random;
-use crate::reference::{MAX_PAIRS, MAX_STATEMENTS};
+use crate::reference::{MAX_PAIRS, MAX_PROCS, MAX_STATEMENTS};
 
 /// A statement to be printed; the numbers may break the rules.
 #[derive(Clone, Debug, PartialEq, Eq)]
@@ -32,6 +32,30 @@ impl Draft {
     pub fn each(procs: Vec<Vec<Tree>>) -> Draft {
         let threads = (0..procs.len()).collect();
         Draft { procs, threads }
+    }
+
+    /// The same with each call, told by caller and callee, replaced by a statement.
+    pub fn with_calls(&self, statement: impl Fn(usize, usize) -> Tree) -> Draft {
+        let body =
+            |(caller, body): (usize, &Vec<Tree>)| with_calls(body, &|callee| statement(caller, callee));
+        Draft { procs: self.procs.iter().enumerate().map(body).collect(), threads: self.threads.clone() }
+    }
+
+    /// The same procedures in another order, by the new number of each. Calls and
+    /// thread lines follow; the number of an absent procedure stays.
+    pub fn permuted(&self, numbers: &[usize]) -> Draft {
+        let number = |proc: usize| numbers.get(proc).copied().unwrap_or(proc);
+        let renamed = self.with_calls(|_, callee| Call(number(callee)));
+        let mut procs = vec![Vec::new(); renamed.procs.len()];
+        for (proc, body) in renamed.procs.into_iter().enumerate() {
+            procs[number(proc)] = body;
+        }
+        Draft { procs, threads: self.threads.iter().map(|proc| number(*proc)).collect() }
+    }
+
+    /// The procedures from the last to the first.
+    pub fn reversed(&self) -> Draft {
+        self.permuted(&(0..self.procs.len()).rev().collect::<Vec<_>>())
     }
 
     pub fn text(&self) -> Vec<u8> {
@@ -73,6 +97,17 @@ fn print(block: &[Tree], out: &mut String) {
             }
         }
     }
+}
+
+fn with_calls(block: &[Tree], statement: &dyn Fn(usize) -> Tree) -> Vec<Tree> {
+    let with = |tree: &Tree| match tree {
+        Tree::Skip => Skip,
+        Tree::Call(callee) => statement(*callee),
+        Tree::Hold(lock, body) => Hold(*lock, with_calls(body, statement)),
+        Tree::Loop(body) => Tree::Loop(with_calls(body, statement)),
+        Tree::Either(one, two) => Tree::Either(with_calls(one, statement), with_calls(two, statement)),
+    };
+    block.iter().map(with).collect()
 }
 
 /// A hold around a block; an empty block becomes a skip.
@@ -316,6 +351,32 @@ pub fn detours(depth: usize) -> Draft {
     Draft::each(vec![vec![hold(0, row)], inner])
 }
 
+/// 64 procedures that call each other from the first to the last, which takes two
+/// locks in both orders. Six threads of the first, of size 1,024: deadlock.
+pub fn call_chain() -> Draft {
+    let body = |proc: usize| [skips(15), vec![Call(proc + 1)]].concat();
+    let mut procs: Vec<Vec<Tree>> = (0..MAX_PROCS - 1).map(body).collect();
+    procs.push([skips(6), vec![nest(&[0, 1], vec![]), nest(&[1, 0], vec![])]].concat());
+    Draft { procs, threads: vec![0; 6] }
+}
+
+/// 64 procedures in any order of the text and in four layers, each with about twenty
+/// calls of those below, 1,024 statements in all. All locks ascend: free.
+pub fn layered_calls() -> Draft {
+    let random = &mut Random::new(0);
+    let mut calls = |layer: usize, count: usize| -> Vec<Tree> {
+        (0..count).map(|_| Call(16 * layer + random.below(16))).collect()
+    };
+    let body = |proc: usize| match proc / 16 {
+        0 => vec![nest(&[8 + proc, 16 + proc], vec![])],
+        1 => calls(0, 20),
+        2 => [calls(0, 9), calls(1, 1), vec![hold(proc % 8, [calls(0, 9), calls(1, 1)].concat())]].concat(),
+        _ => [calls(0, 17), calls(1, 1), calls(2, 2)].concat(),
+    };
+    let procs = (0..MAX_PROCS).map(body).collect();
+    Draft { procs, threads: (MAX_PROCS - 6..MAX_PROCS).collect() }.permuted(&random.permutation(MAX_PROCS))
+}
+
 /// The families that are measured: name, plan, whether it deadlocks.
 pub fn all() -> Vec<(String, Draft, bool)> {
     let mut all = Vec::new();
@@ -331,6 +392,8 @@ pub fn all() -> Vec<(String, Draft, bool)> {
         all.push((format!("late-choice-{count}"), late_choice(count), true));
     }
     all.push(("detours".into(), detours(14), true));
+    all.push(("call-chain".into(), call_chain(), true));
+    all.push(("layered-calls".into(), layered_calls(), false));
     all.push(("many-pairs".into(), many_pairs(false), false));
     all.push(("many-pairs-deadlock".into(), many_pairs(true), true));
     all.extend(rings());

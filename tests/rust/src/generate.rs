@@ -3,7 +3,7 @@
 use crate::families::{self, hold, nest, skips, Draft, Tree};
 use crate::indent::{self, indent, over, padded};
 use crate::random::Random;
-use crate::reference::{read, MAX_BYTES};
+use crate::reference::{read, MAX_BYTES, MAX_PROCS};
 
 /// A generated text with the name of its kind.
 pub struct Case {
@@ -55,6 +55,9 @@ pub const MEDIUM: Shape = shape((2, 10), (1, 6), 8, 14, 8, [3, 4, 8, 2, 2], 10);
 /// All locks, many pairs.
 pub const WIDE: Shape = shape((3, 20), (2, 6), 32, 40, 16, [2, 3, 12, 2, 2], 5);
 
+/// Many procedures, many calls.
+pub const CALLING: Shape = shape((3, 24), (2, 5), 5, 5, 5, [1, 9, 6, 1, 2], 10);
+
 /// Bytes of every kind.
 pub const CROOKED: Shape = shape((1, 3), (1, 3), 32, 5, 6, [3, 2, 4, 2, 2], 10);
 
@@ -85,7 +88,7 @@ pub fn statements(block: &[Tree]) -> usize {
 struct Body<'a> {
     random: &'a mut Random,
     shape: &'a Shape,
-    /// Sizes of the procedures before.
+    /// Sizes of the procedures that may be called.
     sizes: &'a [u64],
     held: Vec<usize>,
     left: usize,
@@ -153,7 +156,8 @@ pub fn body(random: &mut Random, shape: &Shape, sizes: &[u64]) -> Vec<Tree> {
     block
 }
 
-/// A random plan; sizes and counts of the smaller shapes are within the limits.
+/// A random plan in which no procedure reaches itself; sizes and counts of the smaller
+/// shapes are within the limits.
 pub fn plan(random: &mut Random, shape: &Shape) -> Draft {
     let mut draft = Draft::default();
     let mut sizes = Vec::new();
@@ -171,7 +175,98 @@ pub fn plan(random: &mut Random, shape: &Shape) -> Draft {
         let low = if random.chance(50) { count / 2 } else { 0 };
         draft.threads.push(random.between(low, count - 1));
     }
-    draft
+    any_order(draft, random)
+}
+
+/// The same plan with its procedures as they stand, from the last to the first, or
+/// in any order.
+fn any_order(draft: Draft, random: &mut Random) -> Draft {
+    match random.below(5) {
+        0 => draft,
+        1 => draft.reversed(),
+        _ => draft.permuted(&random.permutation(draft.procs.len())),
+    }
+}
+
+/// Puts a call somewhere into a block.
+fn put_call(block: &mut Vec<Tree>, callee: usize, random: &mut Random) {
+    let at = random.below(block.len());
+    let deeper = random.chance(70);
+    match &mut block[at] {
+        Tree::Hold(_, inner) | Tree::Loop(inner) if deeper => put_call(inner, callee, random),
+        Tree::Either(one, two) if deeper => {
+            put_call(if random.chance(50) { one } else { two }, callee, random);
+        }
+        _ => block.insert(at + random.below(2), Tree::Call(callee)),
+    }
+}
+
+/// Puts calls into a plan along so many of its procedures, and from the last of them
+/// to the first where the circle is closed; and some between one of them and others. A
+/// plan of too few gets more.
+fn put_circle(draft: &mut Draft, length: usize, closed: bool, random: &mut Random) {
+    let (calling, count) = (random.chance(30), (length + random.below(3)).min(MAX_PROCS));
+    while draft.procs.len() < count {
+        let callee = random.below(draft.procs.len());
+        draft.procs.push(if calling { vec![Tree::Call(callee)] } else { skips(1) });
+    }
+    let order = random.permutation(draft.procs.len());
+    let (members, others) = order.split_at(length);
+    for at in 0..length - usize::from(!closed) {
+        put_call(&mut draft.procs[members[at]], members[(at + 1) % length], random);
+    }
+    for other in &others[..random.below(4).min(others.len())] {
+        let (caller, callee) = if random.chance(60) { (*other, members[0]) } else { (members[0], *other) };
+        put_call(&mut draft.procs[caller], callee, random);
+    }
+}
+
+/// How many procedures a circle has.
+fn circle_length(random: &mut Random) -> usize {
+    match random.below(10) {
+        0 | 1 => 1,
+        2 | 3 => 2,
+        4 => 3,
+        5 | 6 => random.between(4, 12),
+        7 | 8 => random.between(13, 62),
+        _ => random.between(63, 64),
+    }
+}
+
+/// A number that none of so many procedures has.
+fn absent(count: usize, random: &mut Random) -> usize {
+    let number = match random.below(4) {
+        0 => count,
+        1 => random.between(count, 999),
+        // That of a procedure in its low bits.
+        2 => 64 * random.between(1, 14) + random.below(count),
+        _ => *random.pick(&[64, 65, 99, 100, 127, 128, 255, 256, 512, 998, 999]),
+    };
+    number.max(count)
+}
+
+/// Circles of calls, closed or not, and sometimes another rule broken with them.
+pub fn circles(random: &mut Random) -> Draft {
+    let mut draft = match random.below(4) {
+        0 => plan(random, &TINY),
+        1 => plan(random, &SMALL),
+        2 => plan(random, &CALLING),
+        _ => cycles(random),
+    };
+    for _ in 0..random.weighted(&[0, 3, 1]) {
+        let (length, closed) = (circle_length(random), random.chance(75));
+        put_circle(&mut draft, length, closed, random);
+    }
+    let count = draft.procs.len();
+    let proc = random.below(count);
+    match random.below(12) {
+        0 => put_call(&mut draft.procs[proc], absent(count, random), random),
+        1 => draft.threads[0] = absent(count, random),
+        2 => draft.procs.extend([skips(random.between(342, 400)), vec![Tree::Call(count); 3]]),
+        3 => draft.procs[proc].extend(couples(random.between(97, 120), random)),
+        _ => {}
+    }
+    any_order(draft, random)
 }
 
 /// Locks in an order that is ascending but for a few changes.
@@ -476,7 +571,7 @@ fn faulty(random: &mut Random) -> Draft {
         let number = *random.pick(&[proc, proc + 1, count, 31, 32, 33, 63, 64, 99, 100, 128, 256, 999]);
         match random.below(9) {
             0 => draft.procs[proc].insert(at, hold(number, vec![])),
-            1 => draft.procs[proc].insert(at, Tree::Call(number)),
+            1 => put_call(&mut draft.procs[proc], number, random),
             2 => draft.threads.push(number),
             3 => draft.threads.resize(7 + random.below(3), 0),
             4 => {
@@ -502,7 +597,7 @@ fn faulty(random: &mut Random) -> Draft {
 /// A text of an exact kind near a limit.
 fn limit(random: &mut Random) -> Case {
     let near = |random: &mut Random, limit: usize| limit - 1 + random.below(3);
-    let (kind, draft) = match random.below(21) {
+    let (kind, draft) = match random.below(22) {
         0 => ("64 procedures", many_procs(near(random, 64))),
         1 => ("1,024 statements", many_statements(near(random, 1_024), random)),
         2 => {
@@ -573,9 +668,10 @@ fn limit(random: &mut Random) -> Case {
             let text = deep(random);
             return Case { kind: "deep brackets", text };
         }
+        20 => ("layered calls", families::layered_calls()),
         _ => ("wide", plan(random, &WIDE)),
     };
-    Case { kind, text: draft.text() }
+    Case { kind, text: any_order(draft, random).text() }
 }
 
 /// Loops far deeper than the limit, closed, open, or with a bracket too many.
@@ -807,7 +903,8 @@ fn shuffled_forms(random: &mut Random) -> Vec<u8> {
             (_, b'2') => ")",
             (_, b't') => *random.pick(&["(proc", "(thread 0)", ")"]),
             _ => {
-                *random.pick(&["(skip)", "(skip)", "(loop", "(hold 3", "(either", ")", ")", ")", "(call 0)"])
+                let call = if random.chance(50) { "(call 0)" } else { "(call 1)" };
+                *random.pick(&["(skip)", "(skip)", "(loop", "(hold 3", "(either", ")", ")", ")", call])
             }
         };
         match line {
@@ -930,7 +1027,10 @@ fn noise(random: &mut Random) -> Vec<u8> {
     }
 }
 
-/// A bare text that breaks a rule from 3 to 10, most of them none before it.
+/// The rules from 3 on that a plan can break.
+const RULES: [u8; 9] = [3, 4, 5, 6, 7, 8, 12, 9, 10];
+
+/// A bare text that breaks one of these rules, most of them none before it.
 pub fn breaking(rule: u8, random: &mut Random) -> Vec<u8> {
     let mut draft = plan(random, &TINY);
     let proc = random.below(draft.procs.len());
@@ -956,10 +1056,14 @@ pub fn breaking(rule: u8, random: &mut Random) -> Vec<u8> {
             _ => draft = brackets(17, random),
         },
         6 => draft.procs[proc].push(hold(random.between(32, 999), vec![])),
-        7 => draft.procs[proc].push(Tree::Call(random.between(proc, 999))),
+        7 => {
+            let callee = absent(draft.procs.len(), random);
+            put_call(&mut draft.procs[proc], callee, random);
+        }
         8 => draft.threads.push(random.between(draft.procs.len(), 999)),
-        9 if random.chance(50) => draft = doubling(random.between(9, 20)),
-        9 => draft = sized(1_025, random),
+        9 if random.chance(50) => draft = any_order(doubling(random.between(9, 20)), random),
+        9 => draft = any_order(sized(1_025, random), random),
+        12 => put_circle(&mut draft, circle_length(random), true, random),
         _ => draft.procs[proc].extend(couples(random.between(97, 120), random)),
     }
     draft.threads.truncate(if rule == 5 { 9 } else { 6 });
@@ -968,7 +1072,7 @@ pub fn breaking(rule: u8, random: &mut Random) -> Vec<u8> {
 
 /// The same with lines that are passed over before the line that is named.
 fn breaking_indented(random: &mut Random) -> Vec<u8> {
-    let text = breaking(random.between(3, 10) as u8, random);
+    let text = breaking(*random.pick(&RULES), random);
     let mut first = over(20, random);
     first.extend(indent(&text, random).text);
     first
@@ -977,7 +1081,7 @@ fn breaking_indented(random: &mut Random) -> Vec<u8> {
 /// A text that what is passed over makes about as long as a text may be.
 fn padded_text(random: &mut Random) -> Vec<u8> {
     let text = match random.below(4) {
-        0 => breaking(random.between(3, 10) as u8, random),
+        0 => breaking(*random.pick(&RULES), random),
         1 => cycles(random).text(),
         _ => plan(random, &SMALL).text(),
     };
@@ -1017,7 +1121,7 @@ pub fn generate(random: &mut Random) -> Case {
 /// One text that is not indented, or only by a damage.
 fn plain(random: &mut Random) -> Case {
     let case = |kind, draft: Draft| Case { kind, text: draft.text() };
-    match random.weighted(&[12, 12, 8, 8, 10, 8, 8, 5, 13, 5, 2, 8]) {
+    match random.weighted(&[12, 12, 8, 8, 10, 8, 8, 5, 13, 5, 2, 8, 8, 7]) {
         0 => case("tiny", plan(random, &TINY)),
         1 => case("small", plan(random, &SMALL)),
         2 => case("nested", plan(random, &NESTED)),
@@ -1042,6 +1146,8 @@ fn plain(random: &mut Random) -> Case {
         }
         9 => Case { kind: "shuffled forms", text: shuffled_forms(random) },
         10 => Case { kind: "noise", text: noise(random) },
-        _ => case("crossings", crossings(random)),
+        11 => case("crossings", crossings(random)),
+        12 => case("calls", plan(random, &CALLING)),
+        _ => case("circles", circles(random)),
     }
 }

@@ -39,7 +39,7 @@ fn brackets() -> Vec<u8> {
 }
 
 /// Case A filled up with a padding, accepted and refused at its end. The line of
-/// a refusal by rules 4 to 10 stands behind all that is passed over.
+/// a refusal by rule 4 or 8 stands behind all that is passed over.
 fn padded(padding: Padding) -> Vec<Long> {
     let a = |threads| {
         let procs = vec![vec![nest(&[0, 1], vec![])], vec![nest(&[1, 0], vec![])]];

@@ -11,6 +11,7 @@ pub mod indent;
 pub mod lengths;
 #[cfg(feature = "library")]
 pub mod library;
+pub mod misread;
 pub mod pairs;
 pub mod promela;
 pub mod random;

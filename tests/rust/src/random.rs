@@ -71,4 +71,11 @@ impl Random {
             all.swap(at, self.below(at + 1));
         }
     }
+
+    /// The numbers below `count` in any order.
+    pub fn permutation(&mut self, count: usize) -> Vec<usize> {
+        let mut all: Vec<usize> = (0..count).collect();
+        self.shuffle(&mut all);
+        all
+    }
 }

@@ -1,4 +1,6 @@
-//! Reading a plan text: rules 2 to 10, the tree, the sizes.
+//! Reading a plan text: rules 2 to 10 and 12, the tree, the calls, the sizes.
+
+use std::collections::BTreeSet;
 
 use crate::pairs::{self, Pairs};
 
@@ -128,21 +130,56 @@ impl Plan {
         self.procs[proc].body..end
     }
 
+    /// The procedures that a procedure calls, one for each call.
+    pub fn callees(&self, proc: usize) -> impl Iterator<Item = usize> + '_ {
+        self.blocks_of(proc).flat_map(|block| &self.blocks[block]).filter_map(|stmt| match stmt {
+            Stmt::Call(callee) => Some(*callee),
+            _ => None,
+        })
+    }
+
+    /// The procedures that a procedure reaches through one call or more.
+    pub fn reached(&self, proc: usize) -> BTreeSet<usize> {
+        let mut reached = BTreeSet::new();
+        let mut left: Vec<usize> = self.callees(proc).collect();
+        while let Some(callee) = left.pop() {
+            if reached.insert(callee) {
+                left.extend(self.callees(callee));
+            }
+        }
+        reached
+    }
+
+    /// The procedures that reach themselves, ascending.
+    pub fn recursive(&self) -> Vec<usize> {
+        (0..self.procs.len()).filter(|proc| self.reached(*proc).contains(proc)).collect()
+    }
+
+    /// All procedures, each behind those that it calls. None may reach itself.
+    pub fn callees_first(&self) -> Vec<usize> {
+        fn put(plan: &Plan, proc: usize, order: &mut Vec<usize>) {
+            if !order.contains(&proc) {
+                plan.callees(proc).for_each(|callee| put(plan, callee, order));
+                order.push(proc);
+            }
+        }
+        let mut order = Vec::new();
+        (0..self.procs.len()).for_each(|proc| put(self, proc, &mut order));
+        order
+    }
+
     /// The longest a schedule may be.
     pub fn size_of_threads(&self) -> u64 {
         self.threads.iter().map(|proc| self.sizes[*proc]).sum()
     }
 }
 
-/// Rules 2 to 10.
+/// Rules 2 to 8, then 12, 9 and 10.
 pub fn read(text: &[u8]) -> Result<Plan, Refusal> {
-    if text.len() > MAX_BYTES {
-        return refuse(2, 0);
+    let mut plan = named(text)?;
+    if let Some(proc) = plan.recursive().first() {
+        return refuse(12, plan.procs[*proc].line);
     }
-    let lines = lines(text)?;
-    let mut plan = structure(&lines)?;
-    limits(&lines.forms)?;
-    names(&lines.forms, plan.procs.len())?;
     plan.sizes = sizes(&plan);
     if let Some(proc) = plan.sizes.iter().position(|size| *size > MAX_SIZE) {
         return refuse(9, plan.procs[proc].line);
@@ -151,6 +188,18 @@ pub fn read(text: &[u8]) -> Result<Plan, Refusal> {
     if let Some(proc) = plan.pairs.iter().position(|pairs| pairs.len() > MAX_PAIRS) {
         return refuse(10, plan.procs[proc].line);
     }
+    Ok(plan)
+}
+
+/// Rules 2 to 8: the tree, all of whose names are there. Sizes and pairs are left empty.
+pub fn named(text: &[u8]) -> Result<Plan, Refusal> {
+    if text.len() > MAX_BYTES {
+        return refuse(2, 0);
+    }
+    let lines = lines(text)?;
+    let plan = structure(&lines)?;
+    limits(&lines.forms)?;
+    names(&lines.forms, plan.procs.len())?;
     Ok(plan)
 }
 
@@ -332,31 +381,25 @@ fn limits(lines: &[Line]) -> Result<(), Refusal> {
 
 /// Rules 6, 7 and 8.
 fn names(lines: &[Line], procs: usize) -> Result<(), Refusal> {
-    let first = |bad: &dyn Fn(Form, usize) -> bool| {
-        let mut begun = 0;
-        lines.iter().find(|line| {
-            begun += usize::from(line.form == Form::Proc);
-            bad(line.form, begun)
-        })
-    };
-    if let Some(line) = first(&|form, _| matches!(form, Form::Hold(lock) if lock > MAX_LOCK)) {
+    let first = |bad: &dyn Fn(Form) -> bool| lines.iter().find(|line| bad(line.form));
+    if let Some(line) = first(&|form| matches!(form, Form::Hold(lock) if lock > MAX_LOCK)) {
         return refuse(6, line.number);
     }
-    // The caller is procedure `begun - 1`.
-    if let Some(line) = first(&|form, begun| matches!(form, Form::Call(proc) if proc as usize + 1 >= begun)) {
+    if let Some(line) = first(&|form| matches!(form, Form::Call(proc) if proc as usize >= procs)) {
         return refuse(7, line.number);
     }
-    if let Some(line) = first(&|form, _| matches!(form, Form::Thread(proc) if proc as usize >= procs)) {
+    if let Some(line) = first(&|form| matches!(form, Form::Thread(proc) if proc as usize >= procs)) {
         return refuse(8, line.number);
     }
     Ok(())
 }
 
-/// Sizes by procedure; a sum past 64 bits stays at the greatest number.
+/// Sizes by procedure, where none reaches itself; a sum past 64 bits stays at the
+/// greatest number.
 pub fn sizes(plan: &Plan) -> Vec<u64> {
     let mut blocks = vec![0_u64; plan.blocks.len()];
-    let mut procs: Vec<u64> = Vec::new();
-    for proc in 0..plan.procs.len() {
+    let mut procs = vec![0_u64; plan.procs.len()];
+    for proc in plan.callees_first() {
         for block in plan.blocks_of(proc).rev() {
             blocks[block] = plan.blocks[block].iter().fold(0, |sum: u64, stmt| {
                 sum.saturating_add(match stmt {
@@ -367,7 +410,7 @@ pub fn sizes(plan: &Plan) -> Vec<u64> {
                 })
             });
         }
-        procs.push(blocks[plan.procs[proc].body]);
+        procs[proc] = blocks[plan.procs[proc].body];
     }
     procs
 }

@@ -41,7 +41,7 @@ impl Entry {
 
 /// All fixed texts.
 pub fn all() -> Vec<Entry> {
-    shelf().into_iter().chain(others()).chain(remarked()).collect()
+    shelf().into_iter().chain(others()).chain(calls()).chain(remarked()).collect()
 }
 
 /// All fixed texts indented, each at several seeds.
@@ -179,13 +179,6 @@ pub fn others() -> Vec<Entry> {
         text("32,769 line ends", &[10; 32_769], 2, 0),
         text("a long line", &[b'('; 32_768], 3, 1),
         text("a million bytes", &[b'('; 1_000_000], 2, 0),
-        entry("a call of itself", Draft::each(vec![vec![Tree::Call(0)]]), Refused(7, 3)),
-        entry(
-            "a call of a later one",
-            Draft::each(vec![skips(1), vec![Tree::Call(2)], skips(1)]),
-            Refused(7, 6),
-        ),
-        entry("a call of none", Draft::each(vec![skips(1), vec![Tree::Call(999)]]), Refused(7, 6)),
         entry("an absent thread", Draft { procs: vec![skips(1)], threads: vec![0, 1, 2] }, Refused(8, 6)),
         entry(
             "lock before call before thread",
@@ -257,6 +250,218 @@ pub fn others() -> Vec<Entry> {
     all.push(entry("1,024 statements", statements(1_024), Free));
     all.push(entry("1,025 statements", statements(1_025), Refused(5, 2 + 512 + 2 + 513)));
     all
+}
+
+/// Fixed texts of calls.
+pub fn calls() -> Vec<Entry> {
+    let mut all = later_calls();
+    all.extend(limits_by_later_calls());
+    all.extend(absent_calls());
+    all.extend(circles());
+    all.extend(circles_and_others());
+    all.extend(rules_beside_recursion());
+    all
+}
+
+/// One thread of the first procedure.
+fn first(procs: Vec<Vec<Tree>>) -> Draft {
+    Draft { procs, threads: vec![0] }
+}
+
+/// Bodies of nothing but calls, and others behind them.
+fn calling(callees: &[&[usize]], others: &[Vec<Tree>]) -> Draft {
+    let body = |callees: &&[usize]| callees.iter().map(|callee| Tree::Call(*callee)).collect();
+    first(callees.iter().map(body).chain(others.iter().cloned()).collect())
+}
+
+/// Each procedure calls the next; the last one is given.
+fn calls_forward(count: usize, last: Vec<Tree>) -> Draft {
+    let mut procs: Vec<Vec<Tree>> = (1..count).map(|next| vec![Tree::Call(next)]).collect();
+    procs.push(last);
+    first(procs)
+}
+
+/// Each procedure calls all behind it; the last one is a skip.
+pub fn calls_of_all_behind(count: usize) -> Draft {
+    let mut procs: Vec<Vec<Tree>> = (1..count).map(|next| (next..count).map(Tree::Call).collect()).collect();
+    procs.push(skips(1));
+    first(procs)
+}
+
+/// So many calls, no two of them alike, in 64 procedures: the first 37 call 27 others,
+/// but for the last of them, and the 26 behind call the one that is left, a skip.
+pub fn calls_all_different(count: usize) -> Draft {
+    let body = |calls: usize| (37..37 + calls).map(Tree::Call).collect();
+    let mut procs: Vec<Vec<Tree>> = vec![body(27); 36];
+    procs.push(body(count - 36 * 27 - 26));
+    procs.extend(vec![vec![Tree::Call(63)]; 26]);
+    procs.push(skips(1));
+    first(procs)
+}
+
+/// Accepted plans with calls of later procedures.
+fn later_calls() -> Vec<Entry> {
+    use Gives::{Deadlock, Free};
+    let around = |lock, callee| vec![hold(lock, vec![Tree::Call(callee)])];
+    let a = vec![around(0, 2), around(1, 3), chain(&[1]), chain(&[0])];
+    let a = Draft { procs: a, threads: vec![0, 1] };
+    let either = Tree::Either(vec![Tree::Call(0)], vec![Tree::Loop(vec![Tree::Call(3)])]);
+    let both_ways = vec![chain(&[5]), vec![Tree::Call(3)], vec![hold(4, vec![either])], chain(&[6])];
+    vec![
+        entry("a call of a later one", Draft::each(vec![skips(1), vec![Tree::Call(2)], skips(1)]), Free),
+        Entry {
+            words: vec![vec![0, 33], vec![1, 64], vec![1], vec![0]],
+            schedule: Some(vec![0, 0, 1, 1]),
+            ..entry("A by later calls", a.clone(), Deadlock(3))
+        },
+        Entry {
+            words: vec![vec![0], vec![1], vec![1, 64], vec![0, 33]],
+            schedule: Some(vec![0, 0, 1, 1]),
+            ..entry("A by earlier calls", a.reversed(), Deadlock(3))
+        },
+        Entry {
+            // With 4 held, 16 × 32 more than with nothing held.
+            words: vec![vec![5], vec![6], vec![4, 517, 518], vec![6]],
+            ..entry("calls of an earlier and a later one", Draft::each(both_ways), Free)
+        },
+        entry("two ways to one procedure", calling(&[&[1, 2], &[3], &[3]], &[skips(1)]), Free),
+        entry("a later one called twice", calling(&[&[1, 1]], &[skips(1)]), Free),
+        entry("64 procedures, each calls the next", calls_forward(64, skips(1)), Free),
+        entry("64 procedures, each calls the one before", calls_forward(64, skips(1)).reversed(), Free),
+        Entry {
+            words: vec![vec![31]; 64],
+            ..entry("64 procedures, the last with a hold", calls_forward(64, chain(&[31])), Free)
+        },
+        entry("10 procedures, calls of all behind", calls_of_all_behind(10), Free),
+        entry("1,023 calls, all different", calls_all_different(1_023), Free),
+        entry("1,023 calls, from the last to the first", calls_all_different(1_023).reversed(), Free),
+    ]
+}
+
+/// Rules 5, 9 and 10 where callees stand behind their callers.
+fn limits_by_later_calls() -> Vec<Entry> {
+    use Gives::{Free, Refused};
+    // Procedures 8, 11, 9, 10, and then 0 to 7.
+    let about = doubling(11).permuted(&[4, 5, 6, 7, 8, 9, 10, 11, 0, 2, 3, 1]);
+    let sized =
+        |more: usize| first(vec![[vec![Tree::Call(1), hold(0, vec![])], skips(more)].concat(), skips(1_019)]);
+    let couple = nest(&[0, 31], vec![]);
+    vec![
+        entry("doubling from the last, 9 procedures", doubling(8).reversed(), Free),
+        entry("doubling from the last, 10 procedures", doubling(9).reversed(), Refused(9, 2)),
+        entry("doubling from the last, 64 procedures", doubling(63).reversed(), Refused(9, 2)),
+        entry("doubling in another order", about, Refused(9, 6)),
+        entry("11 procedures, calls of all behind", calls_of_all_behind(11), Refused(9, 2)),
+        entry("11 procedures, calls of all before", calls_of_all_behind(11).reversed(), Refused(9, 68)),
+        entry("size 1,024 by a later call", sized(1), Free),
+        entry("size 1,025 by a later call", sized(2), Refused(9, 2)),
+        // The skip of the last procedure is a statement too many.
+        entry("1,024 calls, all different", calls_all_different(1_024), Refused(5, 1 + 1_024 + 2 * 63 + 2)),
+        entry("size by later calls before pairs", calling(&[&[1, 1, 1]], &[couples(97)]), Refused(9, 2)),
+        entry("128 pairs by a later call", calling(&[&[1]], &[couples(96)]), Free),
+        entry(
+            "129 pairs by a later call",
+            first(vec![vec![Tree::Call(1), couple], couples(96)]),
+            Refused(10, 2),
+        ),
+    ]
+}
+
+/// Rule 7: calls of procedures that are not there.
+fn absent_calls() -> Vec<Entry> {
+    use Gives::{Free, Refused};
+    let of_64 = |caller: usize, callee: usize| {
+        let mut procs = vec![skips(1); 64];
+        procs[caller] = vec![Tree::Call(callee)];
+        first(procs)
+    };
+    let second = |callee| Draft::each(vec![skips(1), vec![Tree::Call(callee)]]);
+    vec![
+        entry("a call of none", second(999), Refused(7, 6)),
+        entry("a call of the number of procedures", second(2), Refused(7, 6)),
+        entry("a call of 64", second(64), Refused(7, 6)),
+        entry("a call of 256", second(256), Refused(7, 6)),
+        entry("64 procedures, a call of 64", of_64(63, 64), Refused(7, 3 + 3 * 63)),
+        entry("64 procedures, a call of 62", of_64(63, 62), Free),
+        entry("64 procedures, a call of 63", of_64(0, 63), Free),
+        entry("the first absent call of three", calling(&[&[1, 2, 7], &[2], &[3]], &[]), Refused(7, 5)),
+    ]
+}
+
+/// Skips, and behind them so many procedures that call each other around.
+fn circle(before: usize, count: usize) -> Draft {
+    let call = |at: usize| vec![Tree::Call(before + (at + 1) % count)];
+    first(vec![skips(1); before].into_iter().chain((0..count).map(call)).collect())
+}
+
+/// Rule 12: circles of calls.
+fn circles() -> Vec<Entry> {
+    use Gives::Refused;
+    let either = Tree::Either(skips(1), vec![Tree::Call(0)]);
+    let inside = vec![Tree::Loop(vec![hold(3, vec![either])])];
+    vec![
+        entry("a call of itself", circle(0, 1), Refused(12, 2)),
+        entry("a call of itself behind others", circle(2, 1), Refused(12, 8)),
+        entry("a call of itself by the last of 64", circle(63, 1), Refused(12, 2 + 3 * 63)),
+        entry("a call of itself inside", first(vec![inside]), Refused(12, 2)),
+        entry("a circle of 2", circle(0, 2), Refused(12, 2)),
+        entry("a circle of 2 that no thread reaches", circle(1, 2), Refused(12, 5)),
+        entry("a circle of 3", circle(0, 3), Refused(12, 2)),
+        entry("a circle of 63", circle(1, 63), Refused(12, 5)),
+        entry("a circle of 64", circle(0, 64), Refused(12, 2)),
+        entry("a circle of 64, from the last to the first", circle(0, 64).reversed(), Refused(12, 2)),
+    ]
+}
+
+/// Rule 12 names a procedure of a circle, and none that only reaches one.
+fn circles_and_others() -> Vec<Entry> {
+    use Gives::Refused;
+    let to_the_last = calls_forward(64, vec![Tree::Call(63)]);
+    vec![
+        entry("before and behind a circle", calling(&[&[1], &[2], &[1], &[2]], &[]), Refused(12, 5)),
+        entry("reached by a circle", calling(&[&[3], &[2, 0], &[1]], &[skips(1)]), Refused(12, 5)),
+        // Procedures 2 and 3 reach 1, which reaches 4 and 5.
+        entry(
+            "between two circles",
+            calling(&[&[6], &[4], &[3, 1], &[2], &[5], &[4]], &[skips(1)]),
+            Refused(12, 8),
+        ),
+        entry("a circle around another", calling(&[&[3], &[2], &[1], &[0]], &[]), Refused(12, 2)),
+        entry(
+            "two circles through one procedure",
+            calling(&[&[3], &[2], &[1, 2], &[1]], &[]),
+            Refused(12, 5),
+        ),
+        entry("63 calls to one of itself", to_the_last.clone(), Refused(12, 2 + 3 * 63)),
+        entry("63 calls to one of itself, reversed", to_the_last.reversed(), Refused(12, 2)),
+    ]
+}
+
+/// Rule 12 behind rules 5 to 8 and before 9 and 10.
+fn rules_beside_recursion() -> Vec<Entry> {
+    use Gives::Refused;
+    let itself = |threads: &[usize]| Draft { threads: threads.to_vec(), ..circle(0, 1) };
+    let mut doubled = doubling(9).reversed();
+    doubled.procs.push(vec![Tree::Call(10)]);
+    vec![
+        entry("threads before recursion", itself(&[0; 7]), Refused(5, 11)),
+        entry("lock before recursion", first(vec![vec![hold(32, vec![Tree::Call(0)])]]), Refused(6, 3)),
+        entry("call before recursion", calling(&[&[0, 1]], &[]), Refused(7, 4)),
+        entry("call behind a circle before recursion", calling(&[&[1], &[0], &[3]], &[]), Refused(7, 9)),
+        entry("thread before recursion", itself(&[0, 1]), Refused(8, 6)),
+        entry(
+            "call before thread before recursion",
+            Draft { threads: vec![9], ..calling(&[&[0, 1]], &[]) },
+            Refused(7, 4),
+        ),
+        entry("recursion before size", doubled, Refused(12, 2 + 9 * 4 + 3)),
+        entry(
+            "recursion before size in one procedure",
+            first(vec![skips(600), vec![Tree::Call(0), Tree::Call(0), Tree::Call(1)]]),
+            Refused(12, 604),
+        ),
+        entry("recursion before pairs", first(vec![couples(97), vec![Tree::Call(1)]]), Refused(12, 489)),
+    ]
 }
 
 /// A plan of six lines.
@@ -358,14 +563,14 @@ fn not_ended() -> Vec<Entry> {
     ]
 }
 
-/// Every rule from 3 to 10 with lines that are passed over before the named one.
+/// Every rule from 3 on with lines that are passed over before the named one.
 fn named_in_the_file() -> Vec<Entry> {
     let mut all = vec![
         text("rule 3 in the file", b";\n(plan\n\n(proc\n  (skip\n)\n(thread 0)\n)\n", 3, 5),
         text("rule 4 in the file", b";\n(plan\n\n(proc\n  ;\n)\n(thread 0)\n)\n", 4, 6),
         text("rule 4 behind the plan", &[SIX, b"\n;\n )\n"].concat(), 4, 9),
         text("rule 6 in the file", b"(plan\n;\n(proc\n\n  (hold 32\n(skip)\n)\n)\n(thread 0)\n)\n", 6, 5),
-        text("rule 7 in the file", b"(plan\n;\n(proc\n\n  (call 0)\n)\n(thread 0)\n)\n", 7, 5),
+        text("rule 7 in the file", b"(plan\n;\n(proc\n\n  (call 1)\n)\n(thread 0)\n)\n", 7, 5),
         text(
             "rule 8 in the file",
             b"(plan\n;\n(proc\n\n  (skip)\n)\n;\n(thread 0)\n;\n(thread 1)\n)\n",
@@ -382,6 +587,7 @@ fn named_in_the_file() -> Vec<Entry> {
     };
     let threads = Draft { procs: vec![skips(1)], threads: vec![0; 7] };
     push("rule 5 in the file", threads, 5, 11);
+    push("rule 12 in the file", circle(1, 2), 12, 5);
     push("rule 9 in the file", doubling(9), 9, 37);
     push("rule 10 in the file", Draft::each(vec![skips(1), couples(97)]), 10, 5);
     all

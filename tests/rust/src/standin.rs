@@ -3,18 +3,44 @@
 
 use crate::answer::{Answer, COPIED, DEADLOCK, FREE, PAIRS};
 use crate::compare::{Calls, PairsCall, TidyCall, VerdictCall};
-use crate::reference::{bare, lines, passed_over, read, Refusal, MAX_BYTES, MAX_PAIRS, SCHEDULE_ENTRIES};
+use crate::misread;
+use crate::reference::{
+    bare, lines, passed_over, read, Plan, Refusal, MAX_BYTES, MAX_PAIRS, SCHEDULE_ENTRIES,
+};
 use crate::tidy::{self, COPY_BYTES};
 use crate::verdict::{conflict, judge, pairs_of_threads, schedule, Verdict};
+
+/// The calls over a reading of texts.
+macro_rules! calls_over {
+    ($reading:path) => {
+        Calls {
+            verdict: |text, out| verdict_of($reading(text), out),
+            pairs: |text, proc, out| pairs_of($reading(text), proc, out),
+            tidy: |text, out| copy_of($reading(text), out),
+        }
+    };
+}
 
 /// The right ones.
 pub const CALLS: Calls = Calls { verdict, pairs, tidy };
 
 pub fn pairs(text: &[u8], proc: u64, out: &mut [u8]) -> u64 {
+    pairs_of(read(text), proc, out)
+}
+
+pub fn verdict(text: &[u8], out: &mut [u8]) -> u64 {
+    verdict_of(read(text), out)
+}
+
+pub fn tidy(text: &[u8], out: &mut [u8]) -> u64 {
+    copy_of(read(text), out)
+}
+
+fn pairs_of(plan: Result<Plan, Refusal>, proc: u64, out: &mut [u8]) -> u64 {
     if out.len() / 8 < MAX_PAIRS {
         return Answer::refused(Refusal { rule: 1, line: 0 }).number();
     }
-    let plan = match read(text) {
+    let plan = match plan {
         Ok(plan) => plan,
         Err(refusal) => return Answer::refused(refusal).number(),
     };
@@ -27,11 +53,11 @@ pub fn pairs(text: &[u8], proc: u64, out: &mut [u8]) -> u64 {
     Answer { kind: PAIRS, a: 0, b: pairs.len() as u64 }.number()
 }
 
-pub fn verdict(text: &[u8], out: &mut [u8]) -> u64 {
+fn verdict_of(plan: Result<Plan, Refusal>, out: &mut [u8]) -> u64 {
     if out.len() / 2 < SCHEDULE_ENTRIES {
         return Answer::refused(Refusal { rule: 1, line: 0 }).number();
     }
-    let plan = match read(text) {
+    let plan = match plan {
         Ok(plan) => plan,
         Err(refusal) => return Answer::refused(refusal).number(),
     };
@@ -46,11 +72,11 @@ pub fn verdict(text: &[u8], out: &mut [u8]) -> u64 {
     }
 }
 
-pub fn tidy(text: &[u8], out: &mut [u8]) -> u64 {
+fn copy_of(plan: Result<Plan, Refusal>, out: &mut [u8]) -> u64 {
     if out.len() < COPY_BYTES {
         return Answer::refused(Refusal { rule: 1, line: 0 }).number();
     }
-    match read(text) {
+    match plan {
         Ok(plan) => put_copy(&tidy::tidy(&plan), out),
         Err(refusal) => Answer::refused(refusal).number(),
     }
@@ -123,11 +149,11 @@ fn without_remark(line: &[u8]) -> Vec<u8> {
     }
 }
 
-/// A refusal of rules 4 to 10 that names the number of a form for its line.
+/// A refusal by a rule over the forms that names the number of a form for its line.
 fn forms_for_lines(text: &[u8], number: u64) -> u64 {
     let answer = Answer::new(number);
     match lines(text) {
-        Ok(lines) if refused(number) && (4..11).contains(&answer.a) => {
+        Ok(lines) if refused(number) && matches!(answer.a, 4..=10 | 12) => {
             let before = lines.forms.iter().filter(|line| (line.number as u64) < answer.b).count();
             Answer { b: before as u64 + 1, ..answer }.number()
         }
@@ -551,4 +577,24 @@ pub const FAULTY_TIDIES: [(&str, TidyCall); 31] = [
         Some(number) if out.len() >= COPY_BYTES => number,
         _ => tidy(text, out),
     }),
+];
+
+/// The calls over readings with a fault each.
+pub const FAULTY_READINGS: [(&str, Calls); 16] = [
+    ("calls of earlier ones alone", calls_over!(misread::calls_of_earlier_ones_alone)),
+    ("absent from 64 on", calls_over!(misread::absent_from_64_on)),
+    ("six bits of a callee", calls_over!(misread::six_bits_of_a_callee)),
+    ("the lowest that reaches a circle", calls_over!(misread::lowest_that_reaches_a_circle)),
+    ("the lowest between circles", calls_over!(misread::lowest_between_circles)),
+    ("the highest of a circle", calls_over!(misread::highest_of_a_circle)),
+    ("calls of itself alone", calls_over!(misread::calls_of_itself_alone)),
+    ("circles of threads alone", calls_over!(misread::circles_of_threads_alone)),
+    ("two ways for a circle", calls_over!(misread::two_ways_for_a_circle)),
+    ("all others for a circle", calls_over!(misread::all_others_for_a_circle)),
+    ("rule 12 before rule 7", calls_over!(misread::recursion_before_calls)),
+    ("rule 12 before rule 8", calls_over!(misread::recursion_before_threads)),
+    ("rule 9 before rule 12", calls_over!(misread::size_before_recursion)),
+    ("rule 10 before rule 12", calls_over!(misread::pairs_before_recursion)),
+    ("sizes in text order", calls_over!(misread::sizes_in_text_order)),
+    ("pairs in text order", calls_over!(misread::pairs_in_text_order)),
 ];

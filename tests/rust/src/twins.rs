@@ -1,13 +1,16 @@
 //! What a library says of texts of one plan: of a text, of its tidy copy and of
-//! the text indented. By the library alone, but for the trees of the plans.
+//! the text indented; and of the plan with its procedures in another order. By the
+//! library alone, but for the trees of the plans, the replay of a schedule and the
+//! lines of refusals in the other order.
 
-use crate::answer::{Answer, COPIED, REFUSED};
+use crate::answer::{Answer, COPIED, DEADLOCK, REFUSED};
 use crate::compare::Calls;
 use crate::families::Draft;
+use crate::gateway::replay;
 use crate::generate::neighbour;
 use crate::indent::indent;
 use crate::random::Random;
-use crate::reference::{read, Plan, Refusal, MAX_PAIRS, SCHEDULE_ENTRIES};
+use crate::reference::{named, read, Plan, Refusal, MAX_PAIRS, SCHEDULE_ENTRIES};
 use crate::tidy::{tree, COPY_BYTES};
 
 /// An answer, and the whole buffer as the call left it.
@@ -77,6 +80,41 @@ impl Told {
         let mut lists = self.pairs.iter().zip(&other.pairs).enumerate();
         lists.try_for_each(|(proc, (one, two))| same(format!("pairs of procedure {proc}"), one, two))
     }
+
+    /// Whether another text of an accepted plan, its procedures at other numbers, is
+    /// told the same verdict and the same pairs, and has a schedule of this plan.
+    fn same_shuffled(&self, other: &Told, plan: &Plan, numbers: &[usize]) -> Result<(), String> {
+        let (one, two) = (self.verdict.answer, other.verdict.answer);
+        if one.kind != two.kind {
+            return Err(format!("verdict: answer {two:?}, not as {one:?}"));
+        }
+        if two.kind == DEADLOCK {
+            other.run_of(plan).map_err(|message| format!("verdict: {message}"))?;
+        }
+        if self.pairs.len() != numbers.len() + 1 || other.pairs.len() != numbers.len() + 1 {
+            return Err(format!("{} pair lists, not {}", other.pairs.len(), numbers.len() + 1));
+        }
+        let moved = (0..numbers.len()).find(|proc| self.pairs[*proc] != other.pairs[numbers[*proc]]);
+        match moved {
+            Some(proc) => Err(format!("pairs of procedure {proc}, now {}: other ones", numbers[proc])),
+            None => Ok(()),
+        }
+    }
+
+    /// Whether the schedule is a run of a plan with the stuck set at its end.
+    fn run_of(&self, plan: &Plan) -> Result<(), String> {
+        let Answer { a, b, .. } = self.verdict.answer;
+        let entries = self.verdict.buffer.chunks_exact(2).take(b as usize);
+        let entries: Vec<u16> = entries.map(|entry| u16::from_le_bytes([entry[0], entry[1]])).collect();
+        if b > plan.size_of_threads() || b > entries.len() as u64 {
+            return Err(format!("{b} entries, more than {}", plan.size_of_threads()));
+        }
+        let state = replay(plan, &entries).map_err(|index| format!("entry {index} is not permitted"))?;
+        match u64::from(state.largest_stuck(plan)) == a {
+            true => Ok(()),
+            false => Err(format!("stuck set {a:#b}, not the largest")),
+        }
+    }
 }
 
 /// The texts that are compared with each other.
@@ -87,6 +125,9 @@ pub struct Twins {
     /// Couples of accepted texts of one plan and of two.
     pub equal: u64,
     pub different: u64,
+    /// Plans compared with themselves in another order, accepted and refused ones.
+    pub shuffled: u64,
+    pub shuffled_refused: u64,
 }
 
 impl Twins {
@@ -103,6 +144,8 @@ impl Twins {
         let twin = indent(text, random);
         told.same(&tell(calls, &twin.text), |line| twin.moved(line))
             .map_err(|message| format!("the text indented: {message}"))?;
+        self.shuffled(calls, text, &told, plan, random)
+            .map_err(|message| format!("the procedures shuffled: {message}"))?;
         let (Ok(plan), Some(copy)) = (plan, told.tidy()?) else {
             return Ok(());
         };
@@ -120,6 +163,41 @@ impl Twins {
         }
         self.previous = Some(own);
         Ok(())
+    }
+
+    /// Compares what is said of a text that keeps rules 2 to 8 with what is said of its
+    /// plan in another order. The rules behind them are about some procedure, so that
+    /// the same one refuses both, if any; the reference says at which line.
+    fn shuffled(
+        &mut self,
+        calls: Calls,
+        text: &[u8],
+        told: &Told,
+        plan: &Result<Plan, Refusal>,
+        random: &mut Random,
+    ) -> Result<(), String> {
+        let own = match named(text) {
+            Ok(plan) if plan.procs.len() > 1 => tree(&plan),
+            _ => return Ok(()),
+        };
+        let mut numbers = random.permutation(own.procs.len());
+        if numbers.is_sorted() {
+            numbers.reverse();
+        }
+        let bare = own.permuted(&numbers).text();
+        let twin = if random.chance(50) { indent(&bare, random).text } else { bare.clone() };
+        let other = tell(calls, &twin);
+        let Ok(plan) = plan else {
+            self.shuffled_refused += 1;
+            let line = read(&twin).map_or_else(|refusal| refusal.line, |_| 0);
+            return told.same(&other, |_| line);
+        };
+        self.shuffled += 1;
+        told.same_shuffled(&other, plan, &numbers)?;
+        match other.tidy()? == Some(&bare) {
+            true => Ok(()),
+            false => Err("another tidy copy".into()),
+        }
     }
 
     /// Two accepted texts: their copies are equal exactly where their plans are.

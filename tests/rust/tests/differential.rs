@@ -19,7 +19,7 @@ mod differential {
     use std::path::{Path, PathBuf};
     use std::time::Instant;
 
-    use lockplan_tests::compare::{outcome, shorten, Bench};
+    use lockplan_tests::compare::{outcome, shorten, Bench, Outcome};
     use lockplan_tests::generate::{beginnings, beginnings_indented, generate, Case};
     use lockplan_tests::library::CALLS;
     use lockplan_tests::random::Random;
@@ -108,14 +108,20 @@ mod differential {
         let mut random = Random::new(0);
         let (mut outcomes, mut kinds) = (BTreeMap::new(), BTreeMap::new());
         let (mut texts, mut bytes, mut differences) = (0_u64, 0_usize, 0);
+        let (mut generated, mut accepted) = (0_u64, 0_u64);
         for index in numbers {
             let case = case(&fixed, options.seed, index, &mut random);
             guard::now(options.seed, index);
             texts += 1;
             bytes += case.text.len();
             *kinds.entry(case.kind).or_insert(0_u64) += 1;
+            let by_seed = index / LENT >= fixed.len() as u64;
+            generated += u64::from(by_seed);
             match bench.check(CALLS, &case.text, &mut random) {
-                Ok(outcome) => *outcomes.entry(format!("{outcome:?}")).or_insert(0_u64) += 1,
+                Ok(outcome) => {
+                    accepted += u64::from(by_seed && !matches!(outcome, Outcome::Refused(_)));
+                    *outcomes.entry(format!("{outcome:?}")).or_insert(0_u64) += 1;
+                }
                 Err(message) => {
                     differences += 1;
                     println!(
@@ -144,10 +150,15 @@ mod differential {
         );
         println!("  kinds: {kinds:?}");
         println!("  results: {outcomes:?}");
+        println!("  {accepted} of {generated} generated texts accepted");
         println!("  {:?}", bench.counts);
         println!(
             "  couples of accepted texts: {} of one plan, {} of two",
             bench.twins.equal, bench.twins.different
+        );
+        println!(
+            "  plans with their procedures shuffled: {} accepted, {} refused",
+            bench.twins.shuffled, bench.twins.shuffled_refused
         );
         println!("differential: {differences} differences");
         differences

@@ -1,21 +1,23 @@
 //! The reference against itself and against the statements of the rules.
 //! LOCKPLAN_FACTOR multiplies the numbers of texts.
 
-use std::collections::HashSet;
+use std::collections::{BTreeMap, BTreeSet, HashSet};
 
 use lockplan_tests::compare::{Bench, Calls, Outcome};
-use lockplan_tests::families::{self, Draft};
+use lockplan_tests::families::{self, Draft, Tree};
 use lockplan_tests::gateway::{replay, Automaton, State};
 use lockplan_tests::generate::{self, generate};
 use lockplan_tests::indent::{self, indent, over, padded, Padding};
-use lockplan_tests::pairs::{by_execution, Pair};
+use lockplan_tests::pairs::{by_execution, compositional, Pair};
 use lockplan_tests::random::Random;
 use lockplan_tests::reference::{
-    bare, form, lines, passed_over, proc_text, read, structure, Form, Lines, Plan, Refusal, MAX_BYTES,
+    bare, form, lines, named, passed_over, proc_text, read, sizes, structure, Form, Lines, Plan, Refusal,
+    MAX_BYTES, MAX_PAIRS, MAX_SIZE,
 };
 use lockplan_tests::report::{check, report};
-use lockplan_tests::shelf::{all, all_indented, shelf, Gives};
+use lockplan_tests::shelf::{self, all, all_indented, shelf, Gives};
 use lockplan_tests::tidy::{printed, tidy, tree};
+use lockplan_tests::twins::Twins;
 use lockplan_tests::verdict::{
     conflict, conflict_by_choice, conflicting, explore, judge, pairs_of_threads, schedule, schedule_told,
     Verdict,
@@ -36,13 +38,14 @@ fn right(plan: &Plan, schedule: &[u16], stuck: u32) {
 }
 
 fn small_plan(random: &mut Random) -> Draft {
-    match random.below(8) {
+    match random.below(9) {
         0 | 1 => generate::plan(random, &generate::TINY),
         2 => generate::plan(random, &generate::SMALL),
         3 => generate::plan(random, &generate::NESTED),
         4 | 5 => generate::crossings(random),
         6 => generate::cycles(random),
-        _ => generate::rings(random),
+        7 => generate::rings(random),
+        _ => generate::plan(random, &generate::CALLING),
     }
 }
 
@@ -113,15 +116,21 @@ fn shelf_indented_gives_the_same() {
 
 #[test]
 fn shelf_sizes_and_counts() {
-    let plan = read(&generate::doubling(8).text()).unwrap();
-    assert_eq!(plan.sizes[8], 766);
-    let tree = structure(&lines(&generate::doubling(63).text()).unwrap()).unwrap();
-    let sizes = lockplan_tests::reference::sizes(&tree);
-    assert_eq!(sizes[9], 1_534);
-    assert_eq!(sizes[62], 3 * (1 << 62) - 2);
-    assert_eq!(sizes[63], u64::MAX);
-    let plan = read(&Draft::each(vec![lockplan_tests::shelf::couples(96)]).text()).unwrap();
+    let sizes_of = |draft: Draft| sizes(&named(&draft.text()).unwrap());
+    assert_eq!(sizes_of(generate::doubling(8))[8], 766);
+    let doubled = sizes_of(generate::doubling(63));
+    assert_eq!((doubled[9], doubled[62], doubled[63]), (1_534, 3 * (1 << 62) - 2, u64::MAX));
+    let mut reversed = sizes_of(generate::doubling(63).reversed());
+    reversed.reverse();
+    assert_eq!(reversed, doubled);
+    assert_eq!(sizes_of(shelf::calls_of_all_behind(11))[..2], [1_535, 767]);
+    let plan = read(&Draft::each(vec![shelf::couples(96)]).text()).unwrap();
     assert_eq!(plan.pairs[0].len(), 128);
+    let plan = read(&shelf::calls_all_different(1_023).text()).unwrap();
+    let calls = |plan: &Plan| -> Vec<(usize, usize)> {
+        (0..64).flat_map(|caller| plan.callees(caller).map(move |callee| (caller, callee))).collect()
+    };
+    assert_eq!(calls(&plan).into_iter().collect::<HashSet<_>>().len(), 1_023);
 }
 
 #[test]
@@ -155,6 +164,9 @@ fn text_of_a_procedure() {
     assert_eq!(proc_text(text, 1), b"(proc\n(hold 3\n(call 0)\n)\n)\n");
     assert_eq!(proc_text(text, 2), b"");
     assert_eq!(proc_text(&text[..text.len() - 1], 0), b"");
+    let text = b"(plan\n(proc\n(call 1)\n)\n(proc\n(skip)\n)\n(thread 0)\n)\n";
+    assert_eq!(proc_text(text, 0), b"(proc\n(call 1)\n)\n");
+    assert_eq!(proc_text(b"(plan\n(proc\n(call 0)\n)\n(thread 0)\n)\n", 0), b"");
     let text = b"(plan\n;a\n  (proc\n\n (skip)\n ;b\n    )\n;c\n\n  (proc\n(skip)\n)\n  ;d\n(thread 1)\n)\n";
     assert_eq!(proc_text(text, 0), b"  (proc\n\n (skip)\n ;b\n    )\n");
     assert_eq!(proc_text(text, 1), b"  (proc\n(skip)\n)\n");
@@ -218,6 +230,7 @@ fn a_refused_text_has_no_copy() {
     assert_eq!(printed(b";x\n"), b"(refused 4 2)\n");
     assert_eq!(printed(&[10; 32_769]), b"(refused 2 0)\n");
     assert_eq!(printed(b" (plan\n\t\n"), b"(refused 3 2)\n");
+    assert_eq!(printed(b"(plan\n;\n(proc\n(call 0)\n)\n(thread 0)\n)\n"), b"(refused 12 3)\n");
 }
 
 /// What is passed over alters nothing but the lines that are named.
@@ -481,6 +494,17 @@ fn structure_of_all_short_texts() {
     println!("{} short texts, {accepted} accepted", texts.len());
 }
 
+/// The size of a block, each call written out where it stands.
+fn written_out(draft: &Draft, block: &[Tree]) -> u64 {
+    let size = |tree: &Tree| match tree {
+        Tree::Skip => 1,
+        Tree::Call(callee) => 1 + written_out(draft, &draft.procs[*callee]),
+        Tree::Hold(_, body) | Tree::Loop(body) => 2 + written_out(draft, body),
+        Tree::Either(one, two) => 1 + written_out(draft, one) + written_out(draft, two),
+    };
+    block.iter().map(size).sum()
+}
+
 #[test]
 fn reading_is_the_inverse_of_printing() {
     for index in 0..texts(10_000) {
@@ -491,15 +515,105 @@ fn reading_is_the_inverse_of_printing() {
         match read(&text) {
             Ok(plan) => {
                 assert_eq!(tree(&plan), draft);
-                let mut sizes = Vec::new();
-                for (proc, block) in draft.procs.iter().enumerate() {
-                    sizes.push(generate::size(block, &sizes));
-                    assert_eq!(sizes[proc], plan.sizes[proc]);
+                for (block, size) in draft.procs.iter().zip(&plan.sizes) {
+                    assert_eq!(written_out(&draft, block), *size);
                 }
             }
             Err(refusal) => assert!([9, 10].contains(&refusal.rule), "{refusal:?}"),
         }
     }
+}
+
+/// The procedures that reach themselves a second time: where a way of so many calls
+/// leads back, for every number of calls. From the lines and not from the tree.
+fn by_ways(lines: &Lines) -> Vec<usize> {
+    let mut calls: Vec<BTreeSet<usize>> = Vec::new();
+    for line in &lines.forms {
+        match line.form {
+            Form::Proc => calls.push(BTreeSet::new()),
+            Form::Call(callee) => drop(calls.last_mut().unwrap().insert(callee as usize)),
+            _ => {}
+        }
+    }
+    let mut found = BTreeSet::new();
+    let mut ends = calls.clone();
+    for _ in 0..calls.len() {
+        found.extend((0..calls.len()).filter(|proc| ends[*proc].contains(proc)));
+        let one_more = |ends: &BTreeSet<usize>| ends.iter().flat_map(|end| calls[*end].clone()).collect();
+        ends = ends.iter().map(one_more).collect();
+    }
+    found.into_iter().collect()
+}
+
+/// Rule 12, and the order in which sizes and pairs are found.
+#[test]
+fn recursive_procedures_are_those_of_ways() {
+    let (mut none, mut some) = (0, 0);
+    for index in 0..texts(20_000) {
+        let case = generate(&mut Random::of_text(35, index));
+        let Ok(plan) = named(&case.text) else {
+            continue;
+        };
+        let recursive = plan.recursive();
+        assert_eq!(recursive, by_ways(&lines(&case.text).unwrap()), "{}", case.kind);
+        if !recursive.is_empty() {
+            some += 1;
+            continue;
+        }
+        none += 1;
+        let order = plan.callees_first();
+        assert_eq!(order.len(), plan.procs.len());
+        let place = |proc: usize| order.iter().position(|other| *other == proc).unwrap();
+        for proc in 0..plan.procs.len() {
+            assert!(plan.callees(proc).all(|callee| place(callee) < place(proc)));
+        }
+    }
+    println!("{none} plans without a recursive procedure, {some} with");
+    assert!(some > 500);
+}
+
+/// The order of the procedures alters nothing but their numbers.
+#[test]
+fn shuffling_alters_nothing() {
+    let (mut accepted, mut refused, mut deadlocks) = (0, 0, 0);
+    for index in 0..texts(10_000) {
+        let random = &mut Random::of_text(36, index);
+        let Ok(one) = named(&generate(random).text) else {
+            continue;
+        };
+        let numbers = random.permutation(one.procs.len());
+        let text = tree(&one).permuted(&numbers).text();
+        let two = named(&text).expect("the same procedures");
+        let moved: BTreeSet<usize> = one.recursive().iter().map(|proc| numbers[*proc]).collect();
+        assert_eq!(moved, two.recursive().into_iter().collect());
+        assert_eq!(tree(&two).permuted(&inverse(&numbers)), tree(&one));
+        match (read(&tidy(&one)), read(&text)) {
+            (Ok(one), Ok(two)) => {
+                for (proc, number) in numbers.iter().enumerate() {
+                    assert_eq!(one.sizes[proc], two.sizes[*number]);
+                    assert_eq!(one.pairs[proc], two.pairs[*number]);
+                }
+                // A schedule of the one is one of the other.
+                if let Verdict::Deadlock { schedule, stuck } = judge(&one) {
+                    right(&two, &schedule, stuck);
+                    deadlocks += 1;
+                }
+                assert_eq!(judge(&one) == Verdict::Free, judge(&two) == Verdict::Free);
+                accepted += 1;
+            }
+            (Err(one), Err(two)) => {
+                assert_eq!(one.rule, two.rule);
+                refused += 1;
+            }
+            (one, two) => panic!("{:?}, {:?}", one.err(), two.err()),
+        }
+    }
+    println!("{accepted} accepted, {deadlocks} of them deadlocks, {refused} refused");
+    assert!(accepted > 3_000 && deadlocks > 1_000 && refused > 300);
+}
+
+fn inverse(numbers: &[usize]) -> Vec<usize> {
+    (0..numbers.len()).map(|number| numbers.iter().position(|other| *other == number).unwrap()).collect()
 }
 
 #[test]
@@ -710,11 +824,12 @@ fn every_deadlock_has_a_schedule() {
 /// Every rule is met, every kind generated, often enough.
 #[test]
 fn generator_meets_everything() {
-    let mut outcomes = std::collections::BTreeMap::new();
-    let mut kinds = std::collections::BTreeMap::new();
-    let mut over = Over::default();
-    for index in 0..20_000 {
-        let case = generate(&mut Random::of_text(1, index));
+    const TEXTS: usize = 20_000;
+    let mut outcomes = BTreeMap::new();
+    let mut kinds = BTreeMap::new();
+    let (mut over, mut called) = (Over::default(), Called::default());
+    for index in 0..TEXTS {
+        let case = generate(&mut Random::of_text(1, index as u64));
         let outcome = match read(&case.text) {
             Err(refusal) => Outcome::Refused(refusal.rule),
             Ok(plan) if conflict(&pairs_of_threads(&plan)).is_some() => Outcome::Deadlock,
@@ -723,13 +838,98 @@ fn generator_meets_everything() {
         *outcomes.entry(outcome).or_insert(0) += 1;
         *kinds.entry(case.kind).or_insert(0) += 1;
         over.count(&case.text);
+        called.count(&case.text);
     }
-    println!("{outcomes:?}\n{kinds:?}\n{over:?}");
+    let accepted = outcomes[&Outcome::Free] + outcomes[&Outcome::Deadlock];
+    println!("{outcomes:?}\n{kinds:?}\n{over:?}\n{called:?}");
+    println!("{accepted} of {TEXTS} accepted");
     over.enough();
-    for rule in 2..=10 {
+    called.enough();
+    for rule in RULES {
         assert!(outcomes[&Outcome::Refused(rule)] >= 30, "rule {rule}");
     }
     assert!(outcomes[&Outcome::Free] > 3_000 && outcomes[&Outcome::Deadlock] > 3_000);
+    assert!(3 * accepted > TEXTS);
+}
+
+/// The rules that a plan can break.
+const RULES: [u8; 10] = [2, 3, 4, 5, 6, 7, 8, 12, 9, 10];
+
+/// What there is of calls.
+#[derive(Debug, Default)]
+struct Called {
+    /// Accepted texts with calls of later procedures, and with calls of both kinds.
+    later: usize,
+    both: usize,
+    /// Recursive texts by the number of procedures in the shortest circle.
+    circles: BTreeMap<usize, usize>,
+    /// Of these, where the procedure that is named is not the lowest that reaches a circle.
+    reaching_before: usize,
+    /// Recursive and refused by 7 or 8; refused by 12 and too large, or with too many pairs.
+    absent_call: usize,
+    absent_thread: usize,
+    too_large: usize,
+    too_many_pairs: usize,
+}
+
+impl Called {
+    fn count(&mut self, text: &[u8]) {
+        let Ok(plan) = lines(text).and_then(|lines| structure(&lines)) else {
+            return;
+        };
+        let count = plan.procs.len();
+        let calls = || (0..count).flat_map(|proc| plan.callees(proc).map(move |callee| (proc, callee)));
+        let (later, earlier) = (calls().any(|(a, b)| b > a), calls().any(|(a, b)| b < a));
+        let part = |kept: &dyn Fn(usize) -> bool| {
+            let statement = |_, callee| if kept(callee) { Tree::Call(callee) } else { Tree::Skip };
+            structure(&lines(&tree(&plan).with_calls(statement).text()).unwrap()).unwrap()
+        };
+        match read(text) {
+            Ok(_) => {
+                self.later += usize::from(later);
+                self.both += usize::from(later && earlier);
+            }
+            Err(Refusal { rule: 7, .. }) => {
+                self.absent_call += usize::from(!part(&|callee| callee < count).recursive().is_empty());
+            }
+            Err(Refusal { rule: 8, .. }) => self.absent_thread += usize::from(!plan.recursive().is_empty()),
+            Err(Refusal { rule: 12, .. }) => {
+                let recursive = plan.recursive();
+                let rest = part(&|callee| !recursive.contains(&callee));
+                self.too_large += usize::from(sizes(&rest).iter().any(|size| *size > MAX_SIZE));
+                let pairs = compositional(&rest);
+                self.too_many_pairs += usize::from(pairs.iter().any(|pairs| pairs.len() > MAX_PAIRS));
+                let reaches = |proc: usize| plan.reached(proc).iter().any(|other| recursive.contains(other));
+                self.reaching_before += usize::from((0..recursive[0]).any(reaches));
+                *self.circles.entry(shortest_circle(&plan)).or_default() += 1;
+            }
+            Err(_) => {}
+        }
+    }
+
+    /// Of 20,000 texts.
+    fn enough(&self) {
+        assert!(self.later > 3_000 && self.both > 2_000);
+        assert!([1, 2, 3].iter().all(|length| self.circles[length] >= 50));
+        assert!(self.circles.range(4..13).map(|(_, count)| count).sum::<usize>() >= 50);
+        assert!(self.circles.range(13..).map(|(_, count)| count).sum::<usize>() >= 20);
+        assert!(self.reaching_before >= 100);
+        assert!(self.absent_call >= 20 && self.absent_thread >= 20);
+        assert!(self.too_large >= 20 && self.too_many_pairs >= 20);
+    }
+}
+
+/// The number of procedures in a shortest circle of calls.
+fn shortest_circle(plan: &Plan) -> usize {
+    let around = |proc: usize| {
+        let mut ends: BTreeSet<usize> = plan.callees(proc).collect();
+        (1..=plan.procs.len()).find(|_| {
+            let back = ends.contains(&proc);
+            ends = ends.iter().flat_map(|end| plan.callees(*end)).collect();
+            back
+        })
+    };
+    (0..plan.procs.len()).filter_map(around).min().expect("a circle")
 }
 
 /// What there is of texts with something that is passed over.
@@ -738,7 +938,7 @@ struct Over {
     texts: usize,
     accepted: usize,
     /// By rule, with a line that is passed over before the one that is named.
-    before: [usize; 11],
+    before: [usize; 13],
     /// A remark or blank line that is not ended.
     not_ended: usize,
     /// Too long, and nothing else is broken.
@@ -770,7 +970,7 @@ impl Over {
     /// Of 20,000 texts.
     fn enough(&self) {
         assert!(self.texts > 6_700 && self.accepted > 3_000);
-        assert!(self.before[3..].iter().all(|count| *count >= 30));
+        assert!(RULES[1..].iter().all(|rule| self.before[*rule as usize] >= 30));
         assert!(self.not_ended >= 100 && self.too_long >= 30 && self.longest >= 100);
     }
 }
@@ -795,29 +995,51 @@ fn comparison_accepts_the_stand_in() {
     let bench = run(standin::CALLS, texts(4_000), true)
         .unwrap_or_else(|(index, message)| panic!("{index}: {message}"));
     println!("{:?}", bench.counts);
-    println!("{} couples of one plan, {} of two", bench.twins.equal, bench.twins.different);
+    let twins = bench.twins;
+    println!("{} couples of one plan, {} of two", twins.equal, twins.different);
+    println!("{} accepted plans shuffled, {} refused ones", twins.shuffled, twins.shuffled_refused);
+    assert!(twins.shuffled > 1_000 && twins.shuffled_refused > 150);
 }
 
 /// The comparison finds each fault of the stand-in, and soon.
 #[test]
 fn comparison_finds_every_fault() {
-    for (name, pairs) in standin::FAULTY_PAIRS {
-        let calls = Calls { pairs, ..standin::CALLS };
+    let found = |what: &str, name: &str, calls: Calls| {
         let (index, message) =
             run(calls, 4_000, false).err().unwrap_or_else(|| panic!("{name} is not found"));
-        println!("pairs, {name}: text {index}, {message}");
+        println!("{what}, {name}: text {index}, {message}");
+    };
+    for (name, pairs) in standin::FAULTY_PAIRS {
+        found("pairs", name, Calls { pairs, ..standin::CALLS });
     }
     for (name, verdict) in standin::FAULTY_VERDICTS {
-        let calls = Calls { verdict, ..standin::CALLS };
-        let (index, message) =
-            run(calls, 4_000, false).err().unwrap_or_else(|| panic!("{name} is not found"));
-        println!("verdict, {name}: text {index}, {message}");
+        found("verdict", name, Calls { verdict, ..standin::CALLS });
     }
     for (name, tidy) in standin::FAULTY_TIDIES {
-        let calls = Calls { tidy, ..standin::CALLS };
-        let (index, message) =
-            run(calls, 4_000, false).err().unwrap_or_else(|| panic!("{name} is not found"));
-        println!("tidy, {name}: text {index}, {message}");
+        found("tidy", name, Calls { tidy, ..standin::CALLS });
+    }
+    for (name, calls) in standin::FAULTY_READINGS {
+        found("reading", name, calls);
+    }
+}
+
+/// What is said of the procedures in another order finds each fault of a reading that
+/// concerns texts of right names, without what the reference says of the text itself.
+#[test]
+fn shuffled_procedures_find_faults() {
+    let names =
+        ["absent from 64 on", "six bits of a callee", "rule 12 before rule 7", "rule 12 before rule 8"];
+    let fixed: Vec<Vec<u8>> = shelf::calls().into_iter().map(|entry| entry.text).collect();
+    for (name, calls) in standin::FAULTY_READINGS.into_iter().filter(|(name, _)| !names.contains(name)) {
+        let mut twins = Twins::default();
+        // Each fixed text in twenty orders.
+        let found = (0..20 * fixed.len()).find_map(|index| {
+            let (text, random) = (&fixed[index % fixed.len()], &mut Random::of_text(113, index as u64));
+            twins.check(calls, text, &read(text), random).err().map(|message| (index, message))
+        });
+        let (index, message) = found.unwrap_or_else(|| panic!("{name} is not found"));
+        println!("{name}: text {index}, {message}");
+        assert!(message.starts_with("the procedures shuffled"), "{name}: {message}");
     }
 }
 

@@ -14,7 +14,8 @@ use Rattle.limits.specs.Limits.{lockCount}
 use Rattle.laws.specs.Bytes.{equal}
 use Rattle.laws.proofs.Tests.{same-test, T-and, T-or, T-true, lt-or-le}
 use Rattle.laws.proofs.Bytes.{equal-is}
-use Rattle.semantics.specs.Plan.{Block, done, skip, call, hold, loop, either, end, bodyIn, Written, WellFormed, Sound, LockPlan}
+use Rattle.semantics.specs.Plan.{Block, done, skip, call, hold, loop, either, end, bodyIn, Written, WellFormed, Ranks, LockPlan}
+use Rattle.semantics.specs.CallMasks.{reaches}
 use Rattle.semantics.specs.Sizes.{threadSizes}
 use Rattle.semantics.specs.Run.{ThreadState, run, start}
 use Rattle.semantics.specs.Stuck.{Largest, Schedule}
@@ -22,6 +23,8 @@ use Rattle.semantics.specs.Pairs.{pairList}
 use Rattle.semantics.specs.Cases.{Expected, free, deadlock, setOf, Holds, CaseFacts}
 use Rattle.semantics.specs.Conflict.{any, conflicting}
 use Rattle.semantics.proofs.Thread.Remainders.{plain-body}
+use Rattle.semantics.proofs.Calls.Closure.{reacher-present, reaches-is}
+use Rattle.semantics.proofs.Calls.Ranks.{acyclic-ranks}
 use Rattle.semantics.proofs.Gateway.Invariant.{run-invariant, run-length, start-length, start-invariant}
 use Rattle.semantics.proofs.Critical.PairList.{pair-list-critical}
 use Rattle.semantics.proofs.Stuck.LargestStuck.{rounds, rounds-largest, rounds-in}
@@ -30,19 +33,20 @@ use Rattle.semantics.proofs.Conflicts.Characterisation.{Ranked, plan-ch
 
 -- ---- the test
 
--- whether a block is Written, with calls below p, and WellFormed
+-- whether a block is Written, with calls below n, and WellFormed
 unfoldable pub written : ℕ → Bool → Block → Bool
-written p empty done = empty
-written p empty (skip r) = written p true r
-written p empty (call q r) = ltb q p && written p true r
-written p empty (hold l b r) = ltb l lockCount && (written p false b && written p true r)
-written p empty (loop b r) = written p false b && written p true r
-written p empty (either a b r) = written p false a && (written p false b && written p true r)
-written p empty (end l r) = false
+written n empty done = empty
+written n empty (skip r) = written n true r
+written n empty (call q r) = ltb q n && written n true r
+written n empty (hold l b r) = ltb l lockCount && (written n false b && written n true r)
+written n empty (loop b r) = written n false b && written n true r
+written n empty (either a b r) = written n false a && (written n false b && written n true r)
+written n empty (end l r) = false
 
-unfoldable pub soundFrom : ℕ → List Block → Bool
-soundFrom p [] = true
-soundFrom p (b ∷ bs) = written p false b && soundFrom (suc p) bs
+-- whether each block is, with calls below n
+unfoldable pub allWritten : ℕ → List Block → Bool
+allWritten n [] = true
+allWritten n (b ∷ bs) = written n false b && allWritten n bs
 
 unfoldable pub all : (ℕ → Bool) → List ℕ → Bool
 all f [] = true
@@ -76,52 +80,50 @@ unfoldable pub passes : LockPlan → List (List ℕ) → Expected → Bool
 passes plan pairs a =
     let ps = plan .procs in
     let ns = plan .threads in
-    soundFrom 0 ps && (all (λ n. ltb n (length ps)) ns && (leb (length ns) 8 && (pairsFrom ps 0 pairs && answers plan a)))
+    allWritten (length ps) ps
+    && (sameBelow (length ps) (λ p. reaches ps p p) (λ p. false)
+    && (all (λ n. ltb n (length ps)) ns && (leb (length ns) 8 && (pairsFrom ps 0 pairs && answers plan a))))
 
 -- ---- what it implies
 
-written-of : (p : ℕ) (e : Bool) (b : Block) → T (written p e b) → Written (λ q. q < p) b × WellFormed e b
+written-of : (n : ℕ) (e : Bool) (b : Block) → T (written n e b) → Written (λ q. q < n) b × WellFormed e b
 unfolding written Written WellFormed
-written-of p e done t = (tt, t)
-written-of p e (skip r) t = written-of p true r t
-written-of p e (call q r) t =
-    let (x, y) = T-and (ltb q p) (written p true r) t in
-    let (w, f) = written-of p true r y in
-    ((ltb→lt q p x, w), f)
-written-of p e (hold l b r) t =
-    let (x, y) = T-and (ltb l lockCount) (written p false b && written p true r) t in
-    let (y₁, y₂) = T-and (written p false b) (written p true r) y in
-    let (w₁, f₁) = written-of p false b y₁ in
-    let (w₂, f₂) = written-of p true r y₂ in
+written-of n e done t = (tt, t)
+written-of n e (skip r) t = written-of n true r t
+written-of n e (call q r) t =
+    let (x, y) = T-and (ltb q n) (written n true r) t in
+    let (w, f) = written-of n true r y in
+    ((ltb→lt q n x, w), f)
+written-of n e (hold l b r) t =
+    let (x, y) = T-and (ltb l lockCount) (written n false b && written n true r) t in
+    let (y₁, y₂) = T-and (written n false b) (written n true r) y in
+    let (w₁, f₁) = written-of n false b y₁ in
+    let (w₂, f₂) = written-of n true r y₂ in
     ((ltb→lt l lockCount x, w₁, w₂), (f₁, f₂))
-written-of p e (loop b r) t =
-    let (y₁, y₂) = T-and (written p false b) (written p true r) t in
-    let (w₁, f₁) = written-of p false b y₁ in
-    let (w₂, f₂) = written-of p true r y₂ in
+written-of n e (loop b r) t =
+    let (y₁, y₂) = T-and (written n false b) (written n true r) t in
+    let (w₁, f₁) = written-of n false b y₁ in
+    let (w₂, f₂) = written-of n true r y₂ in
     ((w₁, w₂), (f₁, f₂))
-written-of p e (either a b r) t =
-    let (x, y) = T-and (written p false a) (written p false b && written p true r) t in
-    let (y₁, y₂) = T-and (written p false b) (written p true r) y in
-    let (w₀, f₀) = written-of p false a x in
-    let (w₁, f₁) = written-of p false b y₁ in
-    let (w₂, f₂) = written-of p true r y₂ in
+written-of n e (either a b r) t =
+    let (x, y) = T-and (written n false a) (written n false b && written n true r) t in
+    let (y₁, y₂) = T-and (written n false b) (written n true r) y in
+    let (w₀, f₀) = written-of n false a x in
+    let (w₁, f₁) = written-of n false b y₁ in
+    let (w₂, f₂) = written-of n true r y₂ in
     ((w₀, w₁, w₂), (f₀, f₁, f₂))
-written-of p e (end l r) t = absurd t
+written-of n e (end l r) t = absurd t
 
-sound-from : (k : ℕ) (bs : List Block) → T (soundFrom k bs) → (p : ℕ)
-    → Written (λ q. q < k + p) (bodyIn bs p) × (p < length bs → WellFormed false (bodyIn bs p))
-unfolding soundFrom bodyIn Written
-sound-from k [] t p = (tt, λ h. absurd (omega arith))
-sound-from k (b ∷ bs) t zero =
-    let (w, f) = written-of k false b (T-and (written k false b) (soundFrom (suc k) bs) t .0) in
-    (rw add-zero w, λ _. f)
-sound-from k (b ∷ bs) t (suc p) =
-    let (r, f) = sound-from (suc k) bs (T-and (written k false b) (soundFrom (suc k) bs) t .1) p in
-    let e : suc k + p ≡ k + suc p = omega arith in
-    (subst (λ n. Written (λ q. q < n) (bodyIn bs p)) e r, λ h. f (omega arith))
-
-plan-sound : (ps : List Block) → T (soundFrom 0 ps) → Sound ps (λ p. p)
-plan-sound ps t = record { body = λ p. rw zero-add at ((sound-from 0 ps t p) .0); filled = λ p. (sound-from 0 ps t p) .1 }
+all-written : (n : ℕ) (bs : List Block) → T (allWritten n bs) → (p : ℕ)
+    → Written (λ q. q < n) (bodyIn bs p) × (p < length bs → WellFormed false (bodyIn bs p))
+unfolding allWritten bodyIn Written
+all-written n [] t p = (tt, λ h. absurd (omega arith))
+all-written n (b ∷ bs) t zero =
+    let (w, f) = written-of n false b (T-and (written n false b) (allWritten n bs) t .0) in
+    (w, λ _. f)
+all-written n (b ∷ bs) t (suc p) =
+    let (w, f) = all-written n bs (T-and (written n false b) (allWritten n bs) t .1) p in
+    (w, λ h. f (omega arith))
 
 all-at : (f : ℕ → Bool) (ns : List ℕ) → T (all f ns) → (t : ℕ) → t < length ns → T (f (getD ns t 0))
 unfolding all
@@ -167,7 +169,14 @@ same-below (suc n) S R h t b =
     let (x, y) = T-and (agree (S n) (R n)) (sameBelow n S R) h in
     ⊎-elim (λ (e : t ≡ n). rw e (agree-is (S n) (R n) x)) (λ (l : t < n). same-below n S R y t l) (eq-or-lt-of-le (omega arith))
 
-module _ (plan : LockPlan) (ranked : Ranked plan (λ p. p)) where
+-- no procedure reaches itself
+plan-ranks : (ps : List Block) → T (allWritten (length ps) ps) → T (sameBelow (length ps) (λ p. reaches ps p p) (λ p. false)) → Ranks ps
+plan-ranks ps w h =
+    acyclic-ranks ps
+    (λ p x. subst T (same-below (length ps) (λ p. reaches ps p p) (λ p. false) h p (reacher-present ps x)) (reaches-is ps p p .1 x))
+    (λ p. all-written (length ps) ps w p .0) (λ p. all-written (length ps) ps w p .1)
+
+module _ (plan : LockPlan) (ranked : Ranked plan) where
   abbrev ps : List Block
   ps = plan .procs
 
@@ -182,7 +191,7 @@ module _ (plan : LockPlan) (ranked : Ranked plan (λ p. p)) where
     where
       go : (o : Option (List ThreadState)) → run ps (start ps (plan .threads)) es ≡ o → T (stuckAre n ps us o) → Schedule plan es (setOf us)
       go (some ts) e h =
-          let bodies = plain-body (ranked .sound) in
+          let bodies = plain-body (ranked .ranks .sound) in
           let (same, one) = T-and (sameBelow n (rounds n ps ts) (setOf us)) (any (rounds n ps ts) us) h in
           let m = run-invariant ps bodies (start ps (plan .threads)) ts es e (start-invariant ps bodies (plan .threads)) in
           let len : length ts ≡ n = run-length ps (start ps (plan .threads)) ts es e ∙ start-length ps (plan .threads) in
@@ -197,7 +206,7 @@ module _ (plan : LockPlan) (ranked : Ranked plan (λ p. p)) where
 
   expected-holds : (a : Expected) → T (answers plan a) → Holds plan a
   unfolding answers
-  expected-holds free h = plan-characterisation plan (λ p. p) ranked .free .0 (T-not (conflicting (map (pairList ps) (plan .threads))) h)
+  expected-holds free h = plan-characterisation plan ranked .free .0 (T-not (conflicting (map (pairList ps) (plan .threads))) h)
   expected-holds (deadlock es us) h =
       let test = stuckAre n ps us (run ps (start ps (plan .threads)) es) in
       let (short, y) = T-and (leb (length es) (threadSizes plan)) (all (λ t. ltb t n) us && test) h in
@@ -214,13 +223,15 @@ passes-facts plan pairs a h =
     let t₃ = pairsFrom ps 0 pairs && t₄ in
     let t₂ = leb (length ns) 8 && t₃ in
     let t₁ = all (λ n. ltb n (length ps)) ns && t₂ in
-    let (h₀, k₁) = T-and (soundFrom 0 ps) t₁ h in
+    let none = sameBelow (length ps) (λ p. reaches ps p p) (λ p. false) in
+    let (w, k) = T-and (allWritten (length ps) ps) (none && t₁) h in
+    let (h₀, k₁) = T-and none t₁ k in
     let (h₁, k₂) = T-and (all (λ n. ltb n (length ps)) ns) t₂ k₁ in
     let (h₂, k₃) = T-and (leb (length ns) 8) t₃ k₂ in
     let (h₃, h₄) = T-and (pairsFrom ps 0 pairs) t₄ k₃ in
-    let ranked : Ranked plan (λ p. p) = record {
-      sound = plan-sound ps h₀;
-      ranks = λ p b. b;
+    let ranks = plan-ranks ps w h₀ in
+    let ranked : Ranked plan = record {
+      ranks = ranks;
       there = λ t b. ltb→lt (getD ns t 0) (length ps) (all-at (λ n. ltb n (length ps)) ns h₁ t b);
       few = leb→le (length ns) 8 h₂;
     } in
@@ -228,6 +239,6 @@ passes-facts plan pairs a h =
     λ p b. rw zero-add at (pairs-from ps 0 pairs h₃ p b) in
     record {
       listed = λ p b. sym (same p b .1);
-      critical = λ p b w. rw (← same p b .1) (pair-list-critical ps (λ p. p) (ranked .sound) p (same p b .0) w);
+      critical = λ p b w. rw (← same p b .1) (pair-list-critical ps (ranks .rank) (ranks .sound) p (ranks .below p (same p b .0)) w);
       expected = expected-holds plan ranked a h₄;
     }

@@ -1,6 +1,6 @@
 -- Blocks as read and remainders of threads. A remainder is a block as read in which holds have begun, so that `end`s stand at its top level alone.
 use Prim.Native.Nat.{ℕ, zero, suc, _+_, _-_, _<_, _≤_}
-use mathlib.Core.List.{List, [], _∷_}
+use mathlib.Core.List.{List, [], _∷_, map}
 use mathlib.Core.Path.{_≡_, refl, ap}
 use native.Mathlib.Omega.{arith}
 use native.Mathlib.Decide.{decLt}
@@ -25,6 +25,13 @@ unfolding bodyIn
 absent-body [] p h = refl
 absent-body (b ∷ ps) zero h = absurd (omega arith)
 absent-body (b ∷ ps) (suc p) h = absent-body ps p (omega arith)
+
+-- a table of the procedures' blocks, by f
+pub map-bodies : {A : Type 0} (f : Block → A) (ps : List Block) (p : ℕ) → getD (map f ps) p (f done) ≡ f (bodyIn ps p)
+unfolding bodyIn
+map-bodies f [] p = refl
+map-bodies f (b ∷ ps) zero = refl
+map-bodies f (b ∷ ps) (suc p) = map-bodies f ps p
 
 -- to end what was begun leaves the counts as they were
 pub down-up : (l : ℕ) (cs : List ℕ) → down l (up l cs) ≡ cs

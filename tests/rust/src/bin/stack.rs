@@ -205,7 +205,7 @@ impl Around {
 /// Procedure 0 holds lock 0 around lock 1, and each other one calls that before
 /// it from inside brackets. One thread runs the last of them. The other takes the
 /// locks in the other order: a deadlock. Skips stand at the beginning of the
-/// blocks.
+/// blocks. Measured as it stands and with its procedures from the last to the first.
 #[derive(Clone, Copy)]
 struct Tower {
     calls: usize,
@@ -324,6 +324,17 @@ impl Row {
         verdict.take(painted, Call::Verdict, text, plan)
     }
 
+    /// The tower in both orders.
+    fn take_tower(&mut self, painted: &mut Painted, tower: Tower) {
+        for (order, draft) in [("backward", tower.draft()), ("forward", tower.draft().reversed())] {
+            let all: usize = draft.procs.iter().map(|body| statements(body)).sum();
+            let (calls, brackets, skips) = (tower.calls, tower.brackets(), tower.skips);
+            let plan = format!("{calls} calls {order}, {brackets} brackets, {skips} skips, {all} statements");
+            let answer = self.take(painted, draft.threads[0], &draft.text(), &plan);
+            assert_eq!(answer.kind, DEADLOCK, "{plan}");
+        }
+    }
+
     fn print(&self, name: &str) {
         let [verdict, pairs, tidy] = &self.0;
         let mut plans = verdict.plan.clone();
@@ -358,16 +369,7 @@ fn main() {
     );
     for (name, towers) in towers() {
         let mut row = Row::new();
-        for tower in towers {
-            let (draft, brackets) = (tower.draft(), tower.brackets());
-            let all: usize = draft.procs.iter().map(|body| statements(body)).sum();
-            let plan = format!(
-                "{} calls, {brackets} brackets, {} skips, {all} statements",
-                tower.calls, tower.skips
-            );
-            let answer = row.take(&mut painted, tower.calls, &draft.text(), &plan);
-            assert_eq!(answer.kind, DEADLOCK, "{plan}");
-        }
+        towers.into_iter().for_each(|tower| row.take_tower(&mut painted, tower));
         row.print(&name);
     }
     for (name, plans) in others_of(texts, seed) {

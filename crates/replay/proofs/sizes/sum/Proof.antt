@@ -1,46 +1,26 @@
--- The table keeps its length, and each turn passes a line.
+-- The table keeps its length, and there is a limit of passes.
 use borrow.Author.Needs.{needs}
 use Prim.Native.Nat.{_-_, _≤_}
 use lib.ListN.{length}
 use mathlib.Core.Path.{_≡_}
+use Rattle.limits.specs.Limits.{maxProcs}
 use Rattle.replay.proofs.sizes.sum.Statement.{statement}
 use Rattle.replay.proofs.sizes.sum.Tie as tie
 
 abbrev Inv-loop : tie.InvT-loop
-Inv-loop text sizes₀ entry₀ at₀ sizes entry at = (at ≤ length text) × (length sizes ≡ length sizes₀)
+Inv-loop text sizes₀ passes₀ sizes passes = (passes ≤ maxProcs) × (length sizes ≡ length sizes₀)
 
 abbrev μ-loop : tie.MeasureT-loop
-μ-loop text sizes₀ entry₀ at₀ sizes entry at = length text - at
+μ-loop text sizes₀ passes₀ sizes passes = maxProcs - passes
 
 loop-holds : tie.Need-loop-holds Inv-loop μ-loop
 loop-holds c = search needs
 
-letter-requires : tie.Need-letter-requires Inv-loop μ-loop
-letter-requires c κs = search needs
+pass-requires : tie.Need-pass-requires Inv-loop μ-loop
+pass-requires c κs = search needs
 
-next-entry-requires : tie.Need-next-entry-requires Inv-loop μ-loop
-next-entry-requires c κs = search needs
-
-cost-requires : tie.Need-cost-requires Inv-loop μ-loop
-cost-requires c κs = search needs
-
-mul-wrapping-add-usize : tie.Need-mul-wrapping-add-usize Inv-loop μ-loop
-mul-wrapping-add-usize c = search needs
-
-slice-read-wrapping-add-usize : tie.Need-slice-read-wrapping-add-usize Inv-loop μ-loop
-slice-read-wrapping-add-usize c = search needs
-
-wrapping-add-usize-requires : tie.Need-wrapping-add-usize-requires Inv-loop μ-loop
-wrapping-add-usize-requires c κs = search needs
-
-mul-sizes : tie.Need-mul-sizes Inv-loop μ-loop
-mul-sizes c = search needs
-
-slice-write-sizes : tie.Need-slice-write-sizes Inv-loop μ-loop
-slice-write-sizes c = search needs
-
-next-line-requires : tie.Need-next-line-requires Inv-loop μ-loop
-next-line-requires c κs = search needs
+add-passes : tie.Need-add-passes Inv-loop μ-loop
+add-passes c = search needs
 
 loop-less : tie.Need-loop-less Inv-loop μ-loop
 loop-less c = search needs
@@ -64,15 +44,8 @@ sum-spec =
     Inv-loop
     μ-loop
     loop-holds
-    letter-requires
-    next-entry-requires
-    cost-requires
-    mul-wrapping-add-usize
-    slice-read-wrapping-add-usize
-    wrapping-add-usize-requires
-    mul-sizes
-    slice-write-sizes
-    next-line-requires
+    pass-requires
+    add-passes
     loop-less
     loop-again
     slice-read-result

@@ -1,0 +1,204 @@
+//! Readings of a text with a fault each in the rules about calls.
+
+use crate::pairs::compositional;
+use crate::reference::{
+    bare, lines, read, sizes, structure, Form, Plan, Refusal, MAX_PAIRS, MAX_PROCS, MAX_SIZE,
+};
+
+type Reading = Result<Plan, Refusal>;
+
+/// The plan of a text of right structure, whatever else it breaks.
+fn plan(text: &[u8]) -> Reading {
+    structure(&lines(text)?)
+}
+
+/// A text of right structure with other callees, by caller and callee, or skips where
+/// there are none. Its lines stay where they are.
+fn with_callees(text: &[u8], other: impl Fn(usize, usize) -> Option<usize>) -> Vec<u8> {
+    let (mut changed, mut begun) = (Vec::new(), 0);
+    let mut kept = 0;
+    for line in lines(text).expect("lines that are read").forms {
+        begun += usize::from(line.form == Form::Proc);
+        if let Form::Call(callee) = line.form {
+            let form = match other(begun - 1, callee as usize) {
+                Some(callee) => format!("(call {callee})\n"),
+                None => "(skip)\n".into(),
+            };
+            changed.extend_from_slice(&text[kept..line.end - bare(&text[line.start..line.end]).len()]);
+            changed.extend(form.into_bytes());
+            kept = line.end;
+        }
+    }
+    changed.extend_from_slice(&text[kept..]);
+    changed
+}
+
+/// A text without the calls that are told.
+fn without(text: &[u8], told: impl Fn(usize, usize) -> bool) -> Vec<u8> {
+    with_callees(text, |caller, callee| (!told(caller, callee)).then_some(callee))
+}
+
+/// The text of a plan without the calls of recursive procedures.
+fn without_recursion(text: &[u8], plan: &Plan) -> Vec<u8> {
+    let recursive = plan.recursive();
+    without(text, |_, callee| recursive.contains(&callee))
+}
+
+/// The reading of a text, or another where a rule refuses it.
+fn instead(text: &[u8], rule: u8, other: impl FnOnce(Plan) -> Option<Reading>) -> Reading {
+    match read(text) {
+        Err(refusal) if refusal.rule == rule => other(plan(text)?).unwrap_or(Err(refusal)),
+        said => said,
+    }
+}
+
+/// A refusal that names a procedure.
+fn refused(rule: u8, plan: &Plan, proc: usize) -> Reading {
+    Err(Refusal { rule, line: plan.procs[proc].line })
+}
+
+/// Rule 7 as it was: no call of the caller itself or of one behind it.
+pub fn calls_of_earlier_ones_alone(text: &[u8]) -> Reading {
+    let said = read(text);
+    if matches!(said, Err(Refusal { rule: 2..=6, .. })) {
+        return said;
+    }
+    let mut begun = 0;
+    let mut forms = lines(text)?.forms.into_iter();
+    let later = forms.find(|line| {
+        begun += usize::from(line.form == Form::Proc);
+        matches!(line.form, Form::Call(callee) if callee as usize + 1 >= begun)
+    });
+    later.map_or(said, |line| Err(Refusal { rule: 7, line: line.number }))
+}
+
+/// Rule 7 from 64 on, whatever the number of procedures.
+pub fn absent_from_64_on(text: &[u8]) -> Reading {
+    instead(text, 7, |plan| {
+        let absent = plan.procs.len()..MAX_PROCS;
+        Some(read(&without(text, |_, callee| absent.contains(&callee))))
+    })
+}
+
+/// Six bits for the number of a callee.
+pub fn six_bits_of_a_callee(text: &[u8]) -> Reading {
+    instead(text, 7, |_| Some(read(&with_callees(text, |_, callee| Some(callee % MAX_PROCS)))))
+}
+
+/// Where rule 12 refuses, it names the lowest procedure that is told.
+fn named_instead(text: &[u8], told: impl Fn(&Plan, usize) -> bool) -> Reading {
+    instead(text, 12, |plan| {
+        let proc = (0..plan.procs.len()).find(|proc| told(&plan, *proc))?;
+        Some(refused(12, &plan, proc))
+    })
+}
+
+/// Whether a procedure reaches a circle.
+fn reaches_a_circle(plan: &Plan, proc: usize) -> bool {
+    plan.recursive().iter().any(|other| plan.reached(proc).contains(other))
+}
+
+/// Rule 12 names the lowest procedure that reaches a circle.
+pub fn lowest_that_reaches_a_circle(text: &[u8]) -> Reading {
+    named_instead(text, reaches_a_circle)
+}
+
+/// Rule 12 names the lowest procedure that reaches a circle and is reached by one.
+pub fn lowest_between_circles(text: &[u8]) -> Reading {
+    named_instead(text, |plan, proc| {
+        let reached = plan.recursive().iter().any(|other| plan.reached(*other).contains(&proc));
+        reached && reaches_a_circle(plan, proc)
+    })
+}
+
+/// Rule 12 names the highest recursive procedure.
+pub fn highest_of_a_circle(text: &[u8]) -> Reading {
+    named_instead(text, |plan, proc| plan.recursive().last() == Some(&proc))
+}
+
+/// Rule 12 is for a procedure that calls itself; one of a longer circle is too large.
+pub fn calls_of_itself_alone(text: &[u8]) -> Reading {
+    instead(text, 12, |plan| {
+        let itself = (0..plan.procs.len()).find(|proc| plan.callees(*proc).any(|callee| callee == *proc));
+        Some(itself.map_or_else(|| refused(9, &plan, plan.recursive()[0]), |proc| refused(12, &plan, proc)))
+    })
+}
+
+/// Rule 12 is for the procedures that threads reach.
+pub fn circles_of_threads_alone(text: &[u8]) -> Reading {
+    instead(text, 12, |plan| {
+        let reaches = plan.threads.iter().any(|proc| reaches_a_circle(&plan, *proc));
+        (!reaches).then(|| read(&without_recursion(text, &plan)))
+    })
+}
+
+/// Rule 12 refuses an accepted plan too, for the lowest procedure that is told.
+fn also_refused(text: &[u8], told: impl Fn(&Plan, usize) -> bool) -> Reading {
+    let plan = read(text)?;
+    match (0..plan.procs.len()).find(|proc| told(&plan, *proc)) {
+        Some(proc) => refused(12, &plan, proc),
+        None => Ok(plan),
+    }
+}
+
+/// Rule 12 is also for a procedure with two ways to another.
+pub fn two_ways_for_a_circle(text: &[u8]) -> Reading {
+    also_refused(text, |plan, proc| {
+        let reached = plan.reached(proc);
+        let callers = reached.iter().chain([&proc]);
+        callers.map(|caller| plan.callees(*caller).count()).sum::<usize>() > reached.len()
+    })
+}
+
+/// Rule 12 is also for a procedure that reaches 63 others.
+pub fn all_others_for_a_circle(text: &[u8]) -> Reading {
+    also_refused(text, |plan, proc| plan.reached(proc).len() == MAX_PROCS - 1)
+}
+
+/// Rule 12 before another.
+fn recursion_before(rule: u8, text: &[u8]) -> Reading {
+    instead(text, rule, |whole| {
+        let present = plan(&without(text, |_, callee| callee >= whole.procs.len())).ok()?;
+        Some(refused(12, &whole, *present.recursive().first()?))
+    })
+}
+
+/// Rule 12 before rule 7.
+pub fn recursion_before_calls(text: &[u8]) -> Reading {
+    recursion_before(7, text)
+}
+
+/// Rule 12 before rule 8.
+pub fn recursion_before_threads(text: &[u8]) -> Reading {
+    recursion_before(8, text)
+}
+
+/// Rule 9 before rule 12.
+pub fn size_before_recursion(text: &[u8]) -> Reading {
+    instead(text, 12, |whole| {
+        let rest = plan(&without_recursion(text, &whole)).ok()?;
+        let proc = sizes(&rest).iter().position(|size| *size > MAX_SIZE)?;
+        Some(refused(9, &whole, proc))
+    })
+}
+
+/// Rule 10 before rule 12.
+pub fn pairs_before_recursion(text: &[u8]) -> Reading {
+    instead(text, 12, |whole| {
+        let rest = plan(&without_recursion(text, &whole)).ok()?;
+        let proc = compositional(&rest).iter().position(|pairs| pairs.len() > MAX_PAIRS)?;
+        Some(refused(10, &whole, proc))
+    })
+}
+
+/// Sizes in text order: a callee that stands later has none yet.
+pub fn sizes_in_text_order(text: &[u8]) -> Reading {
+    instead(text, 9, |_| Some(read(&without(text, |caller, callee| callee > caller))))
+}
+
+/// Pairs in text order: a callee that stands later has none yet.
+pub fn pairs_in_text_order(text: &[u8]) -> Reading {
+    let plan = read(text)?;
+    let pairs = read(&without(text, |caller, callee| callee > caller))?.pairs;
+    Ok(Plan { pairs, ..plan })
+}
