@@ -216,3 +216,6 @@ module _ (table : List ℕ) (procs : ℕ) (c : procs ≡ length (tablePlan table
 
   pub procs-few : PlanTable table → procs ≤ maxProcs
   procs-few t = omega (arith, t .settled .few-procs)
+
+  pub proc-few : (p : ℕ) → PlanTable table → p < procs → p < maxProcs
+  proc-few p t h = omega (arith, t .settled .few-procs)

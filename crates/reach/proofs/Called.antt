@@ -10,11 +10,13 @@ use denote.Enum.Declared.{tagOf}
 use types.Run.{OneOf}
 use borrow.Author.Tests.{lt-ltb, le-ltb}
 use lib.Bits.{bitOr, or-zero-r}
+use lib.Dec.{eqb}
 use lib.ListN.{length, drop, getD, drop-of-length-le}
 use lib.Seq.{drop-cons}
 use Rattle.limits.specs.Limits.{maxProcs}
+use Rattle.laws.specs.Mask.{inMask}
 use Rattle.laws.proofs.Bits.{or-assoc}
-use Rattle.laws.proofs.Masks.{shl-one}
+use Rattle.laws.proofs.Masks.{shl-one, in-power}
 use Rattle.text.specs.declared.Form.{Form}
 use Rattle.text.specs.declared.Form.the-variants.{Call, Close, Two}
 use Rattle.text.specs.Forms.{numberIn, kindIn, beginsOther}
@@ -38,6 +40,11 @@ bit-below p r h e = rw (lt-ltb p maxProcs h) (e ∙ shl-one 64 p (omega arith))
 pub bit-above : (p r : ℕ) → maxProcs ≤ p → r ≡ 0 → r ≡ procBit p
 unfolding procBit
 bit-above p r h e = rw (le-ltb p maxProcs h) e
+
+-- its one member
+pub in-proc-bit : (p b k : ℕ) → p < maxProcs → b ≡ procBit p → inMask b k ≡ eqb k p
+unfolding procBit
+in-proc-bit p b k h e = rw (e, lt-ltb p maxProcs h) (in-power p k)
 
 pub called-call : (f : Form) (p r : ℕ) → f ≡ Call p → r ≡ procBit p → r ≡ calledBy f
 unfolding calledBy kindIn numberIn

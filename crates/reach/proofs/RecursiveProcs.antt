@@ -5,7 +5,6 @@ use mathlib.Core.Path.{_≡_, sym, _∙_}
 use mathlib.Core.Bool.{Bool, true, false}
 use mathlib.Core.List.{List}
 use lib.ListN.{length, getD}
-use Rattle.limits.specs.Limits.{maxProcs}
 use Rattle.laws.specs.Mask.{inMask}
 use Rattle.text.specs.Lines.{refusal}
 use Rattle.laws.proofs.Tests.{same-test}
@@ -13,7 +12,7 @@ use Rattle.semantics.specs.CallMasks.{reaches}
 use Rattle.semantics.proofs.Calls.Closure.{reaches-is}
 use Rattle.plan.specs.declared.Reading.the-variants.{Accepted, Refused}
 use Rattle.plan.specs.Table.{tableForms}
-use Rattle.plan.specs.Settled.{PlanTable, tablePlan}
+use Rattle.plan.specs.Settled.{tablePlan}
 use Rattle.plan.specs.Starts.{Starts}
 use Rattle.plan.specs.Rules.{lowestFrom, recursive, readingOf}
 use Rattle.plan.proofs.Lowest.{lowest-more, lowest-found, lowest-end}
@@ -26,9 +25,6 @@ recurs table p = reaches (tablePlan table .procs) p p
 module _ (table masks : List ℕ) (procs p : ℕ) (c : procs ≡ length (tablePlan table .procs)) (h : p < procs) where
   pub mask-room : ReachTable table masks → p < length masks
   mask-room s = omega (arith, s .room)
-
-  pub proc-few : PlanTable table → p < maxProcs
-  proc-few t = omega (arith, t .settled .few-procs)
 
   module _ (q : Bool) (s : ReachTable table masks) (e : lowestFrom (recurs table) p (procs - p) ≡ lowestFrom (recurs table) 0 procs) (g : q ≡ inMask (getD masks p 0) p) where
     tested : q ≡ recurs table p

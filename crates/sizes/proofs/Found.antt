@@ -11,10 +11,9 @@ use lib.Bits.{bitOr}
 use lib.Dec.{T, eqb, eqb→eq}
 use lib.ListN.{length, getD, set, length-set}
 use lib.Seq.{getD-set-same, getD-set-other}
-use borrow.Author.Tests.{lt-ltb}
 use Rattle.limits.specs.Limits.{maxProcs, sizeRoom}
 use Rattle.laws.specs.Mask.{inMask}
-use Rattle.laws.proofs.Masks.{in-none, in-power, in-or, within-or, or-within}
+use Rattle.laws.proofs.Masks.{in-none, in-or, within-or, or-within}
 use Rattle.laws.proofs.Tests.{T-or, or-T, eq→eqb, eq-or-ne}
 use Rattle.semantics.specs.Plan.{Block}
 use Rattle.semantics.specs.Calls.{Reaches, directly}
@@ -22,28 +21,12 @@ use Rattle.semantics.specs.Sizes.{sizeOf}
 use Rattle.semantics.proofs.Calls.Ranks.{reach-falls, reached-present}
 use Rattle.semantics.proofs.Analysis.CutOffSizes.{size-by-callees}
 use Rattle.plan.specs.Settled.{PlanTable, tablePlan}
+use Rattle.procs.proofs.Places.{proc-few}
 use Rattle.reach.specs.Passes.{procBit}
+use Rattle.reach.proofs.Called.{in-proc-bit}
 use Rattle.sizes.specs.Passes.{knownSize, sizeFrom}
 use Rattle.sizes.specs.Sized.{Sized, SizesAsked, SizesFound, FoundAt, FoundRound}
 use Rattle.sizes.proofs.Costs.{start-cost}
-
--- ---- what is asked
-
-module _ (ws starts masks : List ℕ) (p : ℕ) (a : SizesAsked ws starts masks) (h : p < length (tablePlan ws .procs)) where
-  pub proc-few : p < maxProcs
-  proc-few = omega (arith, a .plan .settled .few-procs)
-
-  pub mask-room : p < length masks
-  mask-room = omega (arith, a .reach .room)
-
-  pub start-room : p < length starts
-  start-room = omega (arith, a .begins .room)
-
-  pub start-within : getD starts p 0 ≤ length ws
-  start-within = a .begins .stands p h .within
-
-  pub size-room : (sizes : List ℕ) (found : ℕ) → SizesFound ws sizes found → p < length sizes
-  size-room sizes found f = omega (arith, f .room)
 
 -- ---- a procedure
 
@@ -55,13 +38,10 @@ module _ (mask p before : ℕ) where
   not-found z = record { kept = λ k t. t; here = λ c. absurd (z (within-or mask before c)) }
 
   pub found-now : (b : ℕ) → p < maxProcs → b ≡ procBit p → FoundAt mask p before (bitOr before b)
-  unfolding procBit
-  found-now b h e =
-      let in-b : (k : ℕ) → inMask b k ≡ eqb k p = λ k. rw (e, lt-ltb p maxProcs h) (in-power p k) in
-      record {
-        kept = λ k t. subst T (sym (in-or before b k)) (or-T (inMask before k) (inMask b k) (inl t));
-        here = λ _. subst T (sym (in-or before b p)) (or-T (inMask before p) (inMask b p) (inr (subst T (sym (in-b p)) (eq→eqb p p refl))));
-      }
+  found-now b h e = record {
+    kept = λ k t. subst T (sym (in-or before b k)) (or-T (inMask before k) (inMask b k) (inl t));
+    here = λ _. subst T (sym (in-or before b p)) (or-T (inMask before p) (inMask b p) (inr (subst T (sym (in-proc-bit p b p h e)) (eq→eqb p p refl))));
+  }
 
 module _ (ws starts masks sizes : List ℕ) (p found v b : ℕ) (a : SizesAsked ws starts masks) (f : SizesFound ws sizes found) (h : p < length (tablePlan ws .procs)) where
   abbrev ps : List Block
@@ -77,19 +57,18 @@ module _ (ws starts masks sizes : List ℕ) (p found v b : ℕ) (a : SizesAsked 
       f .entries q (reached-present ps (a .plan .settled .callees-present) x) (or-within (getD masks p 0) found q e (a .reach .exact p h q .1 x)))
 
   pub size-put : (bitOr (getD masks p 0) found ≡ found) → v ≡ sizeFrom ws sizes (getD starts p 0) → b ≡ procBit p → SizesFound ws (set sizes p v) (bitOr found b)
-  unfolding procBit
   size-put e g k = record {
     room = omega (arith, f .room, length-set sizes p v);
     entries = λ q l t. ⊎-elim
         (λ (z : q ≡ p). rw z (getD-set-same sizes p v 0 (omega (arith, f .room)) ∙ size-now e g))
         (λ (d : q ≢ p).
         getD-set-other sizes p q v 0 d
-        ∙ f .entries q l (⊎-elim (λ x. x) (λ x. absurd (d (eqb→eq q p (subst T (in-b q) x)))) (T-or (inMask found q) (inMask b q) (subst T (in-or found b q) t))))
+        ∙ f .entries q l (⊎-elim (λ x. x) (λ x. absurd (d (eqb→eq q p (subst T (in-proc-bit p b q few k) x)))) (T-or (inMask found q) (inMask b q) (subst T (in-or found b q) t))))
         (eq-or-ne q p);
   }
     where
-      in-b : (q : ℕ) → inMask b q ≡ eqb q p
-      in-b q = rw (k, lt-ltb p maxProcs (omega (arith, a .plan .settled .few-procs))) (in-power p q)
+      few : p < maxProcs
+      few = proc-few ws (length ps) refl p (a .plan) h
 
 -- ---- a round
 

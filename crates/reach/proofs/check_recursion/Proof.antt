@@ -7,8 +7,9 @@ use Rattle.plan.specs.Settled.{PlanTable, tablePlan}
 use Rattle.plan.specs.Rules.{lowestFrom}
 use Rattle.plan.proofs.Lowest.{lowest-first}
 use Rattle.procs.specs.Laid.{Laid}
+use Rattle.procs.proofs.Places.{proc-few}
 use Rattle.reach.specs.Reached.{ReachTable}
-use Rattle.reach.proofs.RecursiveProcs.{recurs, mask-room, proc-few, recursion-more, recursion-found, recursion-none}
+use Rattle.reach.proofs.RecursiveProcs.{recurs, mask-room, recursion-more, recursion-found, recursion-none}
 use Rattle.reach.proofs.check_recursion.Statement.{statement}
 use Rattle.reach.proofs.check_recursion.Tie as tie
 

@@ -1,6 +1,7 @@
 -- The procedure is found already, or not all that it reaches are, or its size follows from those of its callees.
 use borrow.Author.Needs.{needs}
-use Rattle.sizes.proofs.Found.{proc-few, mask-room, start-room, start-within, size-room, found-already, not-found, found-now, size-put}
+use Rattle.procs.proofs.Places.{start-within, proc-few}
+use Rattle.sizes.proofs.Found.{found-already, not-found, found-now, size-put}
 use Rattle.sizes.proofs.find_size.Statement.{statement}
 use Rattle.sizes.proofs.find_size.Tie as tie
 
@@ -26,7 +27,7 @@ shared-slice-read-size-from : tie.Need-shared-slice-read-size-from
 shared-slice-read-size-from c = search needs
 
 size-from-requires : tie.Need-size-from-requires
-size-from-requires c κs = search (proc-few, mask-room, start-room, start-within, size-room, needs)
+size-from-requires c κs = search (start-within, needs)
 
 mul-sizes : tie.Need-mul-sizes
 mul-sizes c = search needs
