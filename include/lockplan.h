@@ -105,7 +105,7 @@ static inline unsigned lockplan_choice(unsigned entry)
 }
 
 /* Word k of a pair list: the locks held as a set of bits, times 32, plus the
- * lock wanted. */
+ * lock wanted. docs/WIRING.md has the bit of each lock. */
 
 static inline uint64_t lockplan_word(const uint8_t *out, size_t k)
 {

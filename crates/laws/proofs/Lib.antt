@@ -1,5 +1,6 @@
--- Tests and what they say; choices, folds and writes in the shape of a function's needs; equal lists; masks; ascending lists; the pigeonhole.
+-- Tests and what they say; tables that pass one; choices, folds and writes in the shape of a function's needs; equal lists; masks; ascending lists; the pigeonhole.
 pub mod Tests
+pub mod Tables
 pub mod Bytes
 pub mod Choices
 pub mod Folds

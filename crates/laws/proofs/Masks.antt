@@ -132,6 +132,11 @@ pub and-power : (m k : ℕ) → bitAnd m (2 ^ k) ≡ bit m k * 2 ^ k
 unfolding bit
 and-power m k = let e : 2 ^ k ≡ 2 ^ (1 + k) - 2 ^ k = rw one-add (omega arith) in ap (λ x. bitAnd m x) e ∙ and-high m 1 k
 
+-- the meet with a power is 0 just where the mask has not its exponent
+pub test-power : (m k : ℕ) → not (eqb (bitAnd m (2 ^ k)) 0) ≡ inMask m k
+test-power m k = rw and-power
+    (on-digit (λ d. not (eqb (d * 2 ^ k) 0) ≡ eqb d 1) (rw zero-mul) (rw (one-mul, ne-eqb (2 ^ k) 0 (λ e. omega (arith, pow-pos k)))) (bit m k) (bit-lt m k))
+
 module _ (width : ℕ) where
   -- `1 << k`
   pub shl-one : (k : ℕ) → k < width → 1 * 2 ^ k % 2 ^ width ≡ 2 ^ k
@@ -143,9 +148,7 @@ module _ (width : ℕ) where
 
   -- `m & 1 << k != 0`
   pub test-bit : (m k : ℕ) → k < width → not (eqb (bitAnd m (1 * 2 ^ k % 2 ^ width)) 0) ≡ inMask m k
-  test-bit m k h = rw (shl-one k h, and-power)
-      (on-digit (λ d. not (eqb (d * 2 ^ k) 0) ≡ eqb d 1) (rw zero-mul) (rw (one-mul, ne-eqb (2 ^ k) 0 (λ e. omega (arith, pow-pos k)))) (bit m k)
-      (bit-lt m k))
+  test-bit m k h = rw (shl-one k h) (test-power m k)
 
   -- `m << s | k`: k in the s lowest digits, m above them
   pub or-below : (s m k : ℕ) → m * 2 ^ s < 2 ^ width → k < 2 ^ s → bitOr (m * 2 ^ s % 2 ^ width) k ≡ m * 2 ^ s + k

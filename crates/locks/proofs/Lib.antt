@@ -1,2 +1,3 @@
--- The test of a lock's bit in a mask.
+-- The rule of the wiring table, and the test of a lock's bit in a mask.
+pub mod Powers
 pub mod Tested

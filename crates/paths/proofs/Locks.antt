@@ -6,15 +6,16 @@ use mathlib.Core.Bool.{false}
 use mathlib.Core.Path.{_≡_, refl, sym, ap, _∙_}
 use lib.Bits.{bitAnd, bitOr, or-lt}
 use lib.Dec.{eqb}
-use lib.Pow.{pow-pos, pow-lt}
+use lib.Pow.{pow-pos}
 use borrow.Author.Tests.{ne-eqb, eq-eqb}
 use Rattle.limits.specs.Limits.{lockCount, maskSize}
 use Rattle.laws.specs.Mask.{bit}
 use Rattle.laws.proofs.Masks.{and-power}
+use Rattle.locks.proofs.Powers.{bit-small}
 use Rattle.semantics.specs.Paths.{gives, holding}
 
-pub bit-small : (l b : ℕ) → l < lockCount → b ≡ 2 ^ l → (b < maskSize) × (l < lockCount → b ≡ 2 ^ l)
-bit-small l b h e = (rw e (pow-lt h), λ k. e)
+pub mask-of-lock : (l b : ℕ) → l < lockCount → b ≡ 2 ^ l → (b < maskSize) × (l < lockCount → b ≡ 2 ^ l)
+mask-of-lock l b h e = (bit-small l b h e, λ k. e)
 
 module _ (m l b w : ℕ) (is : l < lockCount → b ≡ 2 ^ l) where
   pub bit-joined : m < maskSize → b < maskSize → (bitOr m b < maskSize) × (l < lockCount → bitOr m b ≡ holding m l)

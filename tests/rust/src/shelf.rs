@@ -212,6 +212,7 @@ pub fn others() -> Vec<Entry> {
             Draft::each(vec![skips(1), chain(&[31]), chain(&[5, 31, 9]), chain(&[9, 5])]),
             Deadlock(0b1110),
         ),
+        every_lock(),
     ];
     let loops = |depth: usize, closes: usize| {
         let mut text = b"(plan\n(proc\n".to_vec();
@@ -250,6 +251,15 @@ pub fn others() -> Vec<Entry> {
     all.push(entry("1,024 statements", statements(1_024), Free));
     all.push(entry("1,025 statements", statements(1_025), Refused(5, 2 + 512 + 2 + 513)));
     all
+}
+
+/// Each lock alone around the next, the last around the first: the bit of every lock
+/// is in a word. A second thread has 0 around 31, which crosses the last.
+fn every_lock() -> Entry {
+    let wanted = |held: u32| u64::from((held + 1) % 32);
+    let words = (0..32).chain((0..32).map(|held| 2_u64.pow(held) * 32 + wanted(held))).collect();
+    let draft = Draft::each(vec![couples(32), chain(&[0, 31])]);
+    Entry { words: vec![words, vec![0, 63]], ..entry("every lock", draft, Gives::Deadlock(3)) }
 }
 
 /// Fixed texts of calls.

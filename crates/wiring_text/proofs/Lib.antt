@@ -1,0 +1,2 @@
+-- The rows of the wiring table.
+pub mod Rows

@@ -1,0 +1,2 @@
+-- The wiring table as text.
+pub mod Wiring
