@@ -1,11 +1,13 @@
-/* Lock plans: the verdict, the pair list and the tidy copy, on the caller's own
- * buffers.
+/* Lock plans: the verdict, the space that it needs, the pair list and the tidy copy,
+ * on the caller's own buffers.
  *
  * A call answers with one 64-bit number, kind + 256 * a + 65536 * b:
  *
  *   call      kind                    a            b
  *   verdict   0 LOCKPLAN_FREE         0            0
  *             1 LOCKPLAN_DEADLOCK     stuck set    number of schedule entries
+ *             2 LOCKPLAN_REFUSED      rule         line (0 where none is named)
+ *   space     0 LOCKPLAN_NEEDED       0            number of entries to lend
  *             2 LOCKPLAN_REFUSED      rule         line (0 where none is named)
  *   pairs     0 LOCKPLAN_LISTED       0            number of pairs
  *             2 LOCKPLAN_REFUSED      rule         line (0 where none is named)
@@ -15,9 +17,19 @@
  * The stuck set has bit t for thread t. The tidy copy is the plan without what is
  * passed over: one form a line, each line ended, nothing else. An answer fills the
  * buffer's start, each entry or word lowest byte first, and keeps the rest; free
- * and refused keep the whole buffer. Lengths are in bytes. A buffer of fewer whole
- * entries, words or bytes than the constants below is refused with rule 1. No
- * pointer is null, also where its length is 0, and the two buffers do not overlap.
+ * and refused keep the whole buffer. Lengths are in bytes. No pointer is null, also
+ * where its length is 0, and the two buffers do not overlap.
+ *
+ * How much to lend to the verdict: ask lockplan_space, which needs no buffer. It
+ * answers with the sum of the sizes of the plan's threads, and a buffer of so many
+ * whole entries, two bytes each, always suffices; one of fewer is refused with rule
+ * 1, also where the answer would be free, but only if no rule of the plan is broken.
+ * LOCKPLAN_ENTRIES suffice for every plan. lockplan_space refuses by the rules up to
+ * and with 9 in checking order: a text that it refuses the verdict refuses alike,
+ * whatever is lent, and one that breaks rule 10 alone has its sum.
+ *
+ * A buffer of fewer words or bytes than the constants below is refused with rule 1
+ * by the pair list and the tidy copy, before the plan is looked at.
  *
  * For the stack that a call needs see docs/ANSWERS.md.
  */
@@ -31,7 +43,7 @@
 extern "C" {
 #endif
 
-/* Least number of 16-bit entries in the buffer of a verdict. */
+/* A number of 16-bit entries that suffices for the verdict on every plan. */
 #define LOCKPLAN_ENTRIES 6144
 /* Least number of 64-bit words in the buffer of a pair list. */
 #define LOCKPLAN_WORDS 128
@@ -44,11 +56,14 @@ extern "C" {
 #define LOCKPLAN_FREE 0
 #define LOCKPLAN_LISTED 0
 #define LOCKPLAN_COPIED 0
+#define LOCKPLAN_NEEDED 0
 #define LOCKPLAN_DEADLOCK 1
 #define LOCKPLAN_REFUSED 2
 
 uint64_t lockplan_verdict(const uint8_t *text, size_t text_len,
                           uint8_t *out, size_t out_len);
+
+uint64_t lockplan_space(const uint8_t *text, size_t text_len);
 
 uint64_t lockplan_pairs(const uint8_t *text, size_t text_len, uint64_t proc,
                         uint8_t *out, size_t out_len);

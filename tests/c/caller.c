@@ -1,6 +1,7 @@
 /* Reads a plan from standard input and prints its report by the C calls: the
- * pairs of each procedure and the verdict. With --tidy it prints the plan's tidy
- * copy instead, or the line of its refusal.
+ * pairs of each procedure and the verdict, in a buffer of just the entries that the
+ * plan needs. With --tidy it prints the plan's tidy copy instead, and with --space
+ * the sum of its threads' sizes, or the line of its refusal.
  *
  *   cc -std=c99 -I ../../include caller.c \
  *      -L ../../target/staticlib -llockplan -o caller
@@ -8,6 +9,7 @@
  * For the stack that a call needs see docs/ANSWERS.md.
  */
 #include <stdio.h>
+#include <stdlib.h>
 #include <string.h>
 
 #include "lockplan.h"
@@ -16,9 +18,9 @@
 static uint8_t text[32768 + 1];
 
 /* Each buffer with some bytes behind it, which the calls keep. */
-static uint8_t words[LOCKPLAN_WORD_BYTES + 8];
-static uint8_t entries[LOCKPLAN_ENTRY_BYTES + 8];
-static uint8_t copy[LOCKPLAN_COPY_BYTES + 8];
+#define BEHIND 8
+static uint8_t words[LOCKPLAN_WORD_BYTES + BEHIND];
+static uint8_t copy[LOCKPLAN_COPY_BYTES + BEHIND];
 
 static void print_refused(uint64_t answer)
 {
@@ -47,7 +49,7 @@ static void print_pairs(uint64_t count)
     }
 }
 
-static void print_verdict(uint64_t answer)
+static void print_verdict(uint64_t answer, const uint8_t *entries)
 {
     uint64_t k;
     unsigned thread;
@@ -92,9 +94,46 @@ static int tidy(size_t length)
     return 0;
 }
 
+static int space(size_t length)
+{
+    uint64_t answer = lockplan_space(text, length);
+    if (lockplan_kind(answer) == LOCKPLAN_REFUSED)
+        print_refused(answer);
+    else
+        printf("(sum %llu)\n", (unsigned long long)lockplan_count(answer));
+    return 0;
+}
+
+/* Prints the verdict. It is lent the entries that the space call tells, or none
+ * where that is refused: the verdict then is too. */
+static int verdict(size_t length)
+{
+    uint64_t answer = lockplan_space(text, length);
+    size_t lent = 0, filled = 0;
+    uint8_t *entries;
+    int right;
+    if (lockplan_kind(answer) == LOCKPLAN_NEEDED)
+        lent = 2 * (size_t)lockplan_count(answer);
+    entries = malloc(lent + BEHIND);
+    if (entries == NULL)
+        return 2;
+    memset(entries, 0xa5, lent + BEHIND);
+    answer = lockplan_verdict(text, length, entries, lent);
+    if (lockplan_kind(answer) == LOCKPLAN_DEADLOCK)
+        filled = 2 * (size_t)lockplan_count(answer);
+    right = filled <= lent && kept(entries, filled, lent + BEHIND);
+    if (right && lockplan_kind(answer) == LOCKPLAN_REFUSED)
+        print_refused(answer);
+    else if (right)
+        print_verdict(answer, entries);
+    free(entries);
+    return right ? 0 : 3;
+}
+
 static int report(size_t length)
 {
     uint64_t answer, proc;
+    int status;
     printf("(report\n");
     for (proc = 0;; proc++) {
         memset(words, 0xa5, sizeof words);
@@ -113,15 +152,9 @@ static int report(size_t length)
         print_pairs(lockplan_count(answer));
         printf(")\n");
     }
-    memset(entries, 0xa5, sizeof entries);
-    answer = lockplan_verdict(text, length, entries, LOCKPLAN_ENTRY_BYTES);
-    if (lockplan_kind(answer) == LOCKPLAN_REFUSED)
-        return refused(answer);
-    if (!kept(entries, 2 * (size_t)lockplan_count(answer), sizeof entries))
-        return 3;
-    print_verdict(answer);
+    status = verdict(length);
     printf(")\n");
-    return 0;
+    return status;
 }
 
 int main(int count, char **arguments)
@@ -134,5 +167,7 @@ int main(int count, char **arguments)
     }
     if (count > 1 && strcmp(arguments[1], "--tidy") == 0)
         return tidy(length);
+    if (count > 1 && strcmp(arguments[1], "--space") == 0)
+        return space(length);
     return report(length);
 }

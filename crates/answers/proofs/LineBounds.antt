@@ -8,7 +8,7 @@ use mathlib.Core.List.{List, [], _∷_}
 use mathlib.Core.Option.{Option, none, some, Option·none-ne-some, Option·some-injective, orElse}
 use lib.ListN.{length}
 use lib.Dec.{ltb, eqb, leb}
-use Rattle.limits.specs.Limits.{maxBytes, maxPairs, maxEntries}
+use Rattle.limits.specs.Limits.{maxBytes, maxPairs}
 use Rattle.laws.specs.Choice.{pick}
 use Rattle.text.specs.declared.Form.{Form}
 use Rattle.text.specs.declared.Kind.{Kind}
@@ -17,12 +17,13 @@ use Rattle.text.specs.declared.Refusal.{Refusal}
 use Rattle.text.specs.Kinds.{kindOf}
 use Rattle.text.specs.Lines.{refusal, pushByte, split, unindented, passedOver, formsOf, unknownOr, unreadable, unreadableLine, lineOf}
 use Rattle.text.proofs.FormLines.{line-of-most}
+use Rattle.semantics.specs.Sizes.{threadSizes}
 use Rattle.plan.specs.Grammar.{planIn}
 use Rattle.plan.specs.Structure.{misplacedForm}
 use Rattle.plan.specs.Limits.{pastLimitForm, breakingForm}
 use Rattle.plan.specs.Rules.{refusedAt, refusedIf, tooLong, linesRefusal, referencesRefusal, grammarRefusal, procForm, lowestFrom, procRefusal, recursive, tooLarge, tooManyPairs}
-use Rattle.plan.specs.Rules.{formsRefusal, inFile, planOf, planRefusal, verdictRefusal, pairsRefusal, tidyRefusal}
-use Rattle.plan.proofs.AcceptedTable.{short-enough, lines-short}
+use Rattle.plan.specs.Rules.{formsRefusal, inFile, planOf, sizesRefusal, planRefusal, tooFewEntries, verdictRefusal, pairsRefusal, tidyRefusal}
+use Rattle.plan.proofs.AcceptedTable.{short-enough, lines-short, sizes-rules}
 
 -- ---- lines
 
@@ -106,13 +107,17 @@ module _ (fs : List Form) where
   small-proc rule test h = small-at rule (procForm fs (lowestFrom test 0 (length (planIn fs .procs)))) h
 
   forms-small : If SmallRule (formsRefusal fs)
-  unfolding formsRefusal grammarRefusal referencesRefusal recursive tooLarge tooManyPairs
+  unfolding formsRefusal grammarRefusal referencesRefusal recursive tooLarge
   forms-small =
       let by : (rule : ℕ) → rule < 256 → If SmallRule (refusedAt rule (breakingForm rule fs)) = λ rule h. small-at rule (breakingForm rule fs) h in
       if-or _ _
       (if-or _ _ (small-at 4 (misplacedForm fs) (omega arith))
       (λ _. if-or _ _ (small-at 5 (pastLimitForm fs) (omega arith)) (λ _. if-or _ _ (by 6 (omega arith)) (λ _. if-or _ _ (by 7 (omega arith)) (λ _. by 8 (omega arith))))))
-      (λ _. if-or _ _ (small-proc 12 _ (omega arith)) (λ _. if-or _ _ (small-proc 9 _ (omega arith)) (λ _. small-proc 10 _ (omega arith))))
+      (λ _. if-or _ _ (small-proc 12 _ (omega arith)) (λ _. small-proc 9 _ (omega arith)))
+
+  pairs-small : If SmallRule (tooManyPairs fs)
+  unfolding tooManyPairs
+  pairs-small = small-proc 10 _ (omega arith)
 
 module _ (text : List ℕ) where
   lines-bounded : length text ≤ maxBytes → If Numbers (refusedAt 3 (unreadableLine text))
@@ -125,11 +130,15 @@ module _ (text : List ℕ) where
   bounded-file short (some x) s = if-some Numbers (x .rule) (lineOf text (x .line))
       (record { rule = s x refl; line = omega (arith, line-of-most text (x .line), lines-few text) })
 
-  pub plan-bounded : (w : Refusal) → planRefusal text ≡ some w → Numbers w
-  unfolding planRefusal linesRefusal tooLong
-  plan-bounded =
+  pub sizes-bounded : (w : Refusal) → sizesRefusal text ≡ some w → Numbers w
+  unfolding sizesRefusal linesRefusal tooLong
+  sizes-bounded =
       if-or _ _ (if-or _ _ (bounded-if 2 (ltb maxBytes (length text)) (omega arith)) (λ e. lines-bounded (short-enough text e)))
       (λ e. bounded-file (lines-short text e) (formsRefusal (formsOf text)) (forms-small (formsOf text)))
+
+  pub plan-bounded : (w : Refusal) → planRefusal text ≡ some w → Numbers w
+  unfolding planRefusal
+  plan-bounded = if-or _ _ sizes-bounded (λ e. bounded-file (sizes-rules text e .short) (tooManyPairs (formsOf text)) (pairs-small (formsOf text)))
 
 pub pairs-bounded : (text : List ℕ) (p lent : ℕ) (w : Refusal) → pairsRefusal text p lent ≡ some w → Numbers w
 unfolding pairsRefusal
@@ -138,8 +147,8 @@ pairs-bounded text p lent =
     (λ _. if-or _ _ (plan-bounded text) (λ _. bounded-if 11 (leb (length (planOf text .procs)) p) (omega arith)))
 
 pub verdict-bounded : (text : List ℕ) (lent : ℕ) (w : Refusal) → verdictRefusal text lent ≡ some w → Numbers w
-unfolding verdictRefusal
-verdict-bounded text lent = if-or _ _ (bounded-if 1 (ltb lent maxEntries) (omega arith)) (λ _. plan-bounded text)
+unfolding verdictRefusal tooFewEntries
+verdict-bounded text lent = if-or _ _ (plan-bounded text) (λ _. bounded-if 1 (ltb lent (threadSizes (planOf text))) (omega arith))
 
 pub copy-bounded : (text : List ℕ) (lent : ℕ) (w : Refusal) → tidyRefusal text lent ≡ some w → Numbers w
 unfolding tidyRefusal

@@ -1,12 +1,12 @@
 // The answers of the calls, and the 64-bit numbers that carry them to C.
 ghost use mathlib.Core.Path.{_≡_};
 ghost use Prim.Native.Nat.{_^_, _<_};
-ghost use Rattle.answers.specs.Answers.{answerNumber, listingNumber, listingHigh, verdictNumber, verdictHigh, copiedNumber, copiedHigh};
+ghost use Rattle.answers.specs.Answers.{answerNumber, countedNumber, countedHigh, verdictNumber, verdictHigh};
 use text::Refusal;
 
-// What listing the pairs of a procedure gives: how many there are, or the refusal.
-pub enum Listing {
-    Pairs(usize),
+// How much a call found or wrote, or the refusal: the pairs of a list, the bytes of a copy, the entries that a schedule needs.
+pub enum Counted {
+    Count(usize),
     Refused(Refusal),
 }
 
@@ -14,12 +14,6 @@ pub enum Listing {
 pub enum Verdict {
     Free,
     Deadlock { entries: usize, stuck: u8 },
-    Refused(Refusal),
-}
-
-// What writing a copy of a plan text gives: how many bytes it has, or the refusal.
-pub enum Copied {
-    Bytes(usize),
     Refused(Refusal),
 }
 
@@ -32,13 +26,13 @@ fn number_of(kind: u8, a: u8, b: usize) -> u64
 }
 
 // The answer as one number.
-pub fn listing_number(listing: Listing) -> u64
-    requires { ⌜ listingHigh listing < 2 ^ 40 ⌝ }
-    ensures { λ r. ⌜ r ≡ listingNumber listing ⌝ }
+pub fn counted_number(counted: Counted) -> u64
+    requires { ⌜ countedHigh counted < 2 ^ 40 ⌝ }
+    ensures { λ r. ⌜ r ≡ countedNumber counted ⌝ }
 {
-    match listing {
-        Listing::Pairs(n) => number_of(0, 0, n),
-        Listing::Refused(refusal) => number_of(2, refusal.rule, refusal.line),
+    match counted {
+        Counted::Count(n) => number_of(0, 0, n),
+        Counted::Refused(refusal) => number_of(2, refusal.rule, refusal.line),
     }
 }
 
@@ -51,16 +45,5 @@ pub fn verdict_number(verdict: Verdict) -> u64
         Verdict::Free => number_of(0, 0, 0),
         Verdict::Deadlock { entries, stuck } => number_of(1, stuck, entries),
         Verdict::Refused(refusal) => number_of(2, refusal.rule, refusal.line),
-    }
-}
-
-// The answer as one number.
-pub fn copied_number(copied: Copied) -> u64
-    requires { ⌜ copiedHigh copied < 2 ^ 40 ⌝ }
-    ensures { λ r. ⌜ r ≡ copiedNumber copied ⌝ }
-{
-    match copied {
-        Copied::Bytes(n) => number_of(0, 0, n),
-        Copied::Refused(refusal) => number_of(2, refusal.rule, refusal.line),
     }
 }

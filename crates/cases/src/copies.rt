@@ -2,7 +2,7 @@
 use super::REPORTED;
 use super::print_number;
 use limits::MAX_BYTES;
-use lockplan::Copied;
+use lockplan::Counted;
 
 // A copy of n bytes at the start of a buffer: how many, and whether it is the text itself. One that is not is printed.
 fn print_copy(text: &[u8], n: usize, out: &[u8]) {
@@ -25,8 +25,8 @@ fn print_copy(text: &[u8], n: usize, out: &[u8]) {
 pub fn show_tidy(text: &[u8]) {
     let mut out = [0u8; MAX_BYTES];
     match lockplan::tidy(text, &mut out) {
-        Copied::Bytes(n) => print_copy(text, n, &out),
-        Copied::Refused(refusal) => {
+        Counted::Count(n) => print_copy(text, n, &out),
+        Counted::Refused(refusal) => {
             print_number(b"  tidy refused ", refusal.rule as u64);
             print_number(b" ", refusal.line as u64);
             io::write_all(1, b"\n");

@@ -1,8 +1,9 @@
-// The reference plans of document 01 and some more, from the files that `index` names beside the program: for each the critical pairs of its procedures, the verdict or the
-// refusal, the texts of its procedures, the tidy copy and the report. A schedule is replayed by a second gateway, crate `replay`, which reads the plan's text by itself.
+// The reference plans of document 01 and some more, from the files that `index` names beside the program: for each the critical pairs of its procedures, the slip of the
+// space that it needs, the verdict or the refusal, the texts of its procedures, the tidy copy and the report. A schedule is replayed by a second gateway, crate `replay`, which reads the plan's text by itself.
 mod copies;
 mod procs;
 mod schedules;
+mod spaces;
 
 ghost use Prim.Native.Nat.{_≤_};
 ghost use lib.ListN.{length};
@@ -22,7 +23,7 @@ pub fn print_number(pair: &[u8], x: u64) {
     io::print_decimal(1, x);
 }
 
-fn show_verdict(text: &[u8], out: &mut [u16]) {
+pub fn show_verdict(text: &[u8], out: &mut [u16]) {
     match lockplan::judge(text, out) {
         Verdict::Free => {
             io::write_all(1, b"  free\n");
@@ -49,7 +50,7 @@ fn show_plan(text: &[u8], list: &mut [u64], out: &mut [u16]) {
     print_number(b"  bytes ", text.len() as u64);
     io::write_all(1, b"\n");
     procs::show_procs(text, Shown::Pairs, list);
-    show_verdict(text, out);
+    spaces::show_space(text, out);
     procs::show_procs(text, Shown::Text, list);
     copies::show_tidy(text);
     show_report(text);

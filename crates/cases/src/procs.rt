@@ -1,7 +1,7 @@
 // The procedures of a plan: their critical pairs, and their texts.
 use super::print_number;
 use limits::MAX_PROCS;
-use lockplan::Listing;
+use lockplan::Counted;
 
 // Of the pairs of a procedure so many are printed.
 const PAIRS: usize = 8;
@@ -39,11 +39,11 @@ fn print_pairs(p: usize, n: usize, list: &[u64]) {
 // The pairs of procedure p: whether there is one.
 fn show_pairs(text: &[u8], p: usize, list: &mut [u64]) -> bool {
     match lockplan::pair_list(text, p, list) {
-        Listing::Pairs(n) => {
+        Counted::Count(n) => {
             print_pairs(p, n, list);
             true
         }
-        Listing::Refused(refusal) => {
+        Counted::Refused(refusal) => {
             if refusal.rule == 11 {
                 return false;
             }

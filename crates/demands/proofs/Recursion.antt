@@ -19,7 +19,7 @@ use Rattle.semantics.specs.Pairs.{pairList}
 use Rattle.semantics.proofs.Calls.Closure.{reaches-is}
 use Rattle.plan.specs.Grammar.{planIn}
 use Rattle.plan.specs.Rules.{refusedAt, linesRefusal, grammarRefusal, procFormFrom, procForm, lowestFrom, procRefusal, recursive, tooLarge, tooManyPairs}
-use Rattle.plan.specs.Rules.{formsRefusal, inFile, planOf, planRefusal}
+use Rattle.plan.specs.Rules.{formsRefusal, inFile, planOf, sizesRefusal, planRefusal}
 use Rattle.plan.proofs.Lowest.{Lowest, lowest}
 use Rattle.plan.proofs.Ranked.{recursive-exactly}
 use Rattle.demands.proofs.Firsts.{Decides, holds-where, decides-iff, decides-itself}
@@ -29,7 +29,7 @@ reaches-itself ps p = decides-iff (reaches ps p p) _ _ (reaches-is ps p p) (deci
 
 module _ (text : List ℕ) where
   -- the rules behind it
-  not-later : (large many : Option ℕ) (l : ℕ) → inFile text (orElse (refusedAt 9 large) (refusedAt 10 many)) ≡ some (refusal 12 l) → ⊥
+  not-later : (large many : Option ℕ) (l : ℕ) → orElse (inFile text (refusedAt 9 large)) (inFile text (refusedAt 10 many)) ≡ some (refusal 12 l) → ⊥
   unfolding orElse
   not-later none none l e = Option·none-ne-some _ e
   not-later none (some n) l e = omega (arith, ap (λ w. w .rule) (Option·some-injective (refusal 10 (lineOf text n)) (refusal 12 l) e))
@@ -45,7 +45,7 @@ module _ (text : List ℕ) where
     -- by the procedure that the rule finds, or none
     from-search : (o : Option ℕ) → Lowest (λ p. reaches ps p p) 0 (length ps) o → recursive fs ≡ refusedAt 12 (procForm fs o)
         → ((l : ℕ) × (planRefusal text ≡ some (refusal 12 l))) ↔ ((p : ℕ) × Recursive ps p)
-    unfolding planRefusal formsRefusal tooLarge tooManyPairs procRefusal orElse
+    unfolding planRefusal sizesRefusal formsRefusal tooLarge tooManyPairs procRefusal orElse
     from-search none x e =
         let large = procForm fs (lowestFrom (λ p. ltb maxSize (sizeOf ps p)) 0 (length ps)) in
         let many = procForm fs (lowestFrom (λ p. ltb maxPairs (length (pairList ps p))) 0 (length ps)) in

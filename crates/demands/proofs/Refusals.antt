@@ -1,5 +1,5 @@
--- The refusals are those by the first rule broken: the plan's (`refused-exactly`), the verdict's, the pair list's and the tidy copy's. Rule by rule, those from 4 on first over
--- the forms (`forms-refuses`), then in the file.
+-- The refusals are those by the first rule broken: those up to and with 9, the plan's (`refused-exactly`), the verdict's, the pair list's and the tidy copy's. Rule by rule, those
+-- from 4 on first over the forms (`forms-refuses`), then in the file.
 use Prim.Native.Nat.{ℕ, _<_, _≤_}
 use mathlib.Core.Bool.{Bool, true, false, cond}
 use mathlib.Core.List.{List, [], _∷_, _++_}
@@ -8,7 +8,7 @@ use mathlib.Core.Option.{Option, none, some, Option·none-ne-some, Option·some-
 use mathlib.Core.Path.{_≡_, sym, ap, subst, _∙_}
 use lib.Dec.{ltb, leb}
 use lib.ListN.{length}
-use Rattle.limits.specs.Limits.{maxBytes, maxSize, maxPairs, maxEntries}
+use Rattle.limits.specs.Limits.{maxBytes, maxSize, maxPairs}
 use Rattle.laws.proofs.Tests.{first-none}
 use Rattle.text.specs.declared.Form.{Form}
 use Rattle.text.specs.Lines.{refusal, formsOf, unreadableLine, IsText}
@@ -16,24 +16,24 @@ use Rattle.text.proofs.Splits.{readable-written, text-written}
 use Rattle.semantics.specs.Plan.{Block, LockPlan}
 use Rattle.semantics.specs.Calls.{Recursive}
 use Rattle.semantics.specs.CallMasks.{reaches}
-use Rattle.semantics.specs.Sizes.{sizeOf}
+use Rattle.semantics.specs.Sizes.{sizeOf, threadSizes}
 use Rattle.semantics.specs.Pairs.{pairList}
 use Rattle.plan.specs.Grammar.{forms, planIn}
 use Rattle.plan.specs.Structure.{misplacedForm}
 use Rattle.plan.specs.Limits.{pastLimitForm, breakingForm}
 use Rattle.plan.specs.Rules.{refusedAt, refusedIf, tooLong, linesRefusal, referencesRefusal, grammarRefusal, procForm, lowestFrom, procRefusal, recursive, tooLarge, tooManyPairs}
-use Rattle.plan.specs.Rules.{formsRefusal, planOf, planRefusal, verdictRefusal, pairsRefusal, tidyRefusal}
+use Rattle.plan.specs.Rules.{formsRefusal, planOf, sizesRefusal, planRefusal, tooFewEntries, verdictRefusal, pairsRefusal, tidyRefusal}
 use Rattle.plan.proofs.Trees.{plan-of-forms}
 use Rattle.plan.proofs.Denotes.{accepted-denotes}
 use Rattle.plan.proofs.FirstMisplaced.{structure-first}
 use Rattle.plan.proofs.Kept.{kept, no-line}
 use Rattle.plan.proofs.Sound.{forms-settled}
 use Rattle.plan.proofs.Ranked.{rules-ranks}
-use Rattle.plan.proofs.AcceptedTable.{accepted-rules}
+use Rattle.plan.proofs.AcceptedTable.{sizes-rules, plan-within}
 use Rattle.demands.specs.Lines.{First, FormWhere}
 use Rattle.demands.specs.Broken.{TooShort, TooLong, Unreadable, OfForms, FirstForm, Misplaced, PastLimit, HighLock, AbsentCallee, AbsentProc}
-use Rattle.demands.specs.Broken.{OfPlan, LowestProc, TooLarge, TooManyPairs, AbsentRequest}
-use Rattle.demands.specs.Broken.{Rule, rule, formRules, planRules, verdictRules, pairsRules, tidyRules, FirstBroken}
+use Rattle.demands.specs.Broken.{OfPlan, LowestProc, TooLarge, TooManyPairs, TooFewEntries, AbsentRequest}
+use Rattle.demands.specs.Broken.{Rule, rule, formRules, sizesRules, planRules, verdictRules, pairsRules, tidyRules, FirstBroken}
 use Rattle.demands.proofs.Order.{Names, RefusesBy, by-rule, then}
 use Rattle.demands.proofs.InFile.{refuses-in-file}
 use Rattle.demands.proofs.Firsts.{Decides, below, at-most}
@@ -125,12 +125,18 @@ module _ (text : List ℕ) where
         let ranks = rules-ranks (formsOf text) (forms-settled (formsOf text) formed) acyclic in
         by-proc 10 TooManyPairs (λ p. ltb maxPairs (length (pairList (plan .procs) p))) (many-pairs (plan .procs) ranks)
 
+    -- that names no line
+    of-plan-if : (number : ℕ) (P : LockPlan → Type 0) (b : Bool) → Decides b (P plan) → RefusesBy (rule number (OfPlan (λ q n. P q × (n ≡ 0)) text) ∷ []) (refusedIf number b)
+    of-plan-if number P b d =
+        by-flag (rule number (OfPlan (λ q n. P q × (n ≡ 0)) text)) b (of-plan (λ q n. P q × (n ≡ 0)) (cond b (some 0) none) (flag-names b (P plan) d))
+
+    rule-1-entries : (lent : ℕ) → RefusesBy (rule 1 (OfPlan (TooFewEntries lent) text) ∷ []) (tooFewEntries (planOf text) lent)
+    unfolding planOf plan tooFewEntries
+    rule-1-entries lent = of-plan-if 1 (λ q. lent < threadSizes q) (ltb lent (threadSizes plan)) (below lent (threadSizes plan))
+
     rule-11 : (p : ℕ) → RefusesBy (rule 11 (OfPlan (AbsentRequest p) text) ∷ []) (refusedIf 11 (leb (length (planOf text .procs)) p))
     unfolding planOf plan
-    rule-11 p =
-        let n = length (plan .procs) in
-        by-flag (rule 11 (OfPlan (AbsentRequest p) text)) (leb n p)
-        (of-plan (AbsentRequest p) (cond (leb n p) (some 0) none) (flag-names (leb n p) (n ≤ p) (at-most n p)))
+    rule-11 p = of-plan-if 11 (λ q. length (q .procs) ≤ p) (leb (length (plan .procs)) p) (at-most (length (plan .procs)) p)
 
 -- ---- the rules, one after the other
 
@@ -146,23 +152,25 @@ module _ (text : List ℕ) where
         (λ _. then (by-form text readable 6 (λ fs before f. HighLock f) (breakingForm 6 fs) (locks-names fs))
         (λ _. then (by-form text readable 7 (λ fs before f. AbsentCallee fs f) (breakingForm 7 fs) (calls-names fs))
         (λ _. by-form text readable 8 (λ fs before f. AbsentProc fs f) (breakingForm 8 fs) (threads-names fs))))))
-        (λ formed. then (rule-12 text readable formed)
-        (λ acyclic. then (rule-9 text readable formed)
-        (λ _. rule-10 text readable formed acyclic)))
+        (λ formed. then (rule-12 text readable formed) (λ _. rule-9 text readable formed))
 
-  pub plan-refuses : RefusesBy (planRules text) (planRefusal text)
-  unfolding planRules planRefusal linesRefusal
-  plan-refuses =
+  pub sizes-refuses : RefusesBy (sizesRules text) (sizesRefusal text)
+  unfolding sizesRules sizesRefusal linesRefusal
+  sizes-refuses =
       then (then (rule-2 text) (λ _. rule-3 text))
       (λ e. refuses-in-file text (forms-refuses (no-line 3 (unreadableLine text) (first-none (tooLong text) _ e .1))))
 
+  pub plan-refuses : RefusesBy (planRules text) (planRefusal text)
+  unfolding planRules planRefusal
+  plan-refuses = then sizes-refuses (λ e. let r = sizes-rules text e in refuses-in-file text (rule-10 text (r .readable) (r .formed) (r .acyclic)))
+
   pub verdict-refuses : (lent : ℕ) → RefusesBy (verdictRules text lent) (verdictRefusal text lent)
   unfolding verdictRules verdictRefusal
-  verdict-refuses lent = then (rule-1 maxEntries lent) (λ _. plan-refuses)
+  verdict-refuses lent = then plan-refuses (λ e. let r = sizes-rules text (plan-within text e) in rule-1-entries text (r .readable) (r .formed) lent)
 
   pub pairs-refuses : (p lent : ℕ) → RefusesBy (pairsRules text p lent) (pairsRefusal text p lent)
   unfolding pairsRules pairsRefusal
-  pairs-refuses p lent = then (rule-1 maxPairs lent) (λ _. then plan-refuses (λ e. let r = accepted-rules text e in rule-11 text (r .readable) (r .formed) p))
+  pairs-refuses p lent = then (rule-1 maxPairs lent) (λ _. then plan-refuses (λ e. let r = sizes-rules text (plan-within text e) in rule-11 text (r .readable) (r .formed) p))
 
   pub tidy-refuses : (lent : ℕ) → RefusesBy (tidyRules text lent) (tidyRefusal text lent)
   unfolding tidyRules tidyRefusal
@@ -170,6 +178,9 @@ module _ (text : List ℕ) where
 
 -- (r, l) is the refusal exactly when rule r is the first one broken, at line l
 module _ (text : List ℕ) (r l : ℕ) where
+  pub sizes-refused-exactly : (sizesRefusal text ≡ some (refusal r l)) ↔ FirstBroken (sizesRules text) r l
+  sizes-refused-exactly = sizes-refuses text .refused r l
+
   pub refused-exactly : (planRefusal text ≡ some (refusal r l)) ↔ FirstBroken (planRules text) r l
   refused-exactly = plan-refuses text .refused r l
 

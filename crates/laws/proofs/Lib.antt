@@ -1,4 +1,4 @@
--- Tests and what they say; tables that pass one; choices, folds and writes in the shape of a function's needs; equal lists; masks; ascending lists; the pigeonhole.
+-- Tests and what they say; tables that pass one; choices, folds and writes in the shape of a function's needs; equal lists; masks; ascending lists; sums; the pigeonhole.
 pub mod Tests
 pub mod Tables
 pub mod Bytes
@@ -9,4 +9,5 @@ pub mod Wrote
 pub mod Bits
 pub mod Masks
 pub mod Ascending
+pub mod Sums
 pub mod Pigeonhole

@@ -51,6 +51,6 @@ maxListed = maxThreads * maxPairs
 abbrev pub listRoom : ℕ
 listRoom = maxListed + 1
 
--- 1: "shorter than 6,144 entries for a schedule", which is "never longer than the sum of its threads' sizes"
+-- a schedule is "never longer than the sum of its threads' sizes", which by 5 and 9 is never above 01's 6,144
 abbrev pub maxEntries : ℕ
 maxEntries = maxThreads * maxSize

@@ -24,11 +24,12 @@ use Rattle.plan.specs.Rules.{refusedIf, planOf, planRefusal, pairsRefusal, tooM
 use Rattle.buffers.specs.LittleEndian.{listBytes}
 use Rattle.pairs.specs.Promises.{PairsCollected}
 use Rattle.pairs.proofs.Lists.{few-pairs}
-use Rattle.answers.specs.declared.Listing.{Listing}
-use Rattle.answers.specs.declared.Listing.the-variants.{Pairs, Refused}
-use Rattle.answers.specs.Answers.{listingOf, listingNumber, listingHigh, written}
+use Rattle.answers.specs.declared.Counted.{Counted}
+use Rattle.answers.specs.declared.Counted.the-variants.{Count, Refused}
+use Rattle.answers.specs.Answers.{countedOf, countedNumber, countedHigh, written}
 use Rattle.listing.specs.Listed.{TablePairs, PairsFound, pairsOf, Exact, Listed, ListedBytes}
-use Rattle.answers.proofs.LineBounds.{Numbers, pairs-bounded}
+use Rattle.answers.proofs.LineBounds.{pairs-bounded}
+use Rattle.answers.proofs.Counts.{counted-refused, counted-kept, counted-carried}
 use Rattle.plan.proofs.AcceptedTable.{accepted-ranks, plan-kept, plan-forms}
 use Rattle.plan.proofs.Filling.{refused-is}
 use Rattle.plan.proofs.Kept.{unflagged}
@@ -40,18 +41,18 @@ refused-some h = Option·none-ne-some _ (sym h)
 
 module _ (ws : List ℕ) (p procs : ℕ) (list : List ℕ) (c : procs ≡ length (tablePlan ws .procs)) where
   pub table-absent : procs ≤ p → TablePairs ws p (Refused (refusal 11 0)) list
-  unfolding listingOf
+  unfolding countedOf
   table-absent h = rw (le-leb (length (tablePlan ws .procs)) p (omega arith))
       (record { answer = refl; listed = λ e. absurd (refused-some e); few = λ e. absurd (refused-some e) })
 
   pub table-listed : (n : ℕ) (before : List ℕ) → p < procs → tooManyPairs (tableForms ws) ≡ none → PairsCollected (tablePlan ws .procs) p before n list
-      → TablePairs ws p (Pairs n) list
-  unfolding listingOf
+      → TablePairs ws p (Count n) list
+  unfolding countedOf
   table-listed n before h e w =
       let few : length (pairList (tablePlan ws .procs) p) ≤ maxPairs = few-pairs ws p e (omega arith) in
       let m : n ≡ length (pairList (tablePlan ws .procs) p) = omega (arith, w .count) in
       rw (lt-leb (length (tablePlan ws .procs)) p (omega arith)) (record {
-        answer = ap Pairs m;
+        answer = ap Count m;
         listed = λ _. ap (λ k. take k list) (sym m) ∙ wrote-start before list 0 n (pairList (tablePlan ws .procs) p) (w .listed few) refl;
         few = λ _. omega arith;
       })
@@ -59,7 +60,7 @@ module _ (ws : List ℕ) (p procs : ℕ) (list : List ℕ) (c : procs ≡ length
 -- ---- in a text
 
 pub text-short : (text : List ℕ) (p lent : ℕ) (list : List ℕ) → lent < maxPairs → PairsFound text p lent (Refused (refusal 1 0)) list
-unfolding listingOf pairsRefusal orElse
+unfolding countedOf pairsRefusal orElse
 text-short text p lent list h = rw (lt-ltb lent maxPairs h) (record { answer = refl; listed = λ e. absurd (refused-some e); few = λ e. absurd (refused-some e) })
 
 -- enough is lent: the plan's rules come next, then 11
@@ -69,12 +70,12 @@ pairs-refusal text p lent h = rw (le-ltb lent maxPairs h)
 
 pub text-refused : (text : List ℕ) (p lent : ℕ) (table list : List ℕ) (q : Reading) (x : Refusal) → maxPairs ≤ lent → Tabled (planRefusal text) text q table
     → q ≡ plan.Refused x → PairsFound text p lent (Refused x) list
-unfolding listingOf orElse
+unfolding countedOf orElse
 text-refused text p lent table list q x h t g =
     rw (pairs-refusal text p lent h, refused-is (planRefusal text) (length (formsOf text)) x (sym (t .answer) ∙ g))
     (record { answer = refl; listed = λ e. absurd (refused-some e); few = λ e. absurd (refused-some e) })
 
-pub text-listed : (text : List ℕ) (p lent n : ℕ) (table list : List ℕ) (q : Reading) (r : Listing) → maxPairs ≤ lent → Tabled (planRefusal text) text q table → q ≡ Accepted n
+pub text-listed : (text : List ℕ) (p lent n : ℕ) (table list : List ℕ) (q : Reading) (r : Counted) → maxPairs ≤ lent → Tabled (planRefusal text) text q table → q ≡ Accepted n
     → TablePairs (take (n - 0) table) p r list → PairsFound text p lent r list
 unfolding planOf orElse
 text-listed text p lent n table list q r h t g w =
@@ -95,25 +96,17 @@ exact-pairs text p lent e =
 -- ---- into the caller's buffer
 
 -- a refusal writes nothing
-untouched : (a : Option Refusal) (r : Listing) (n : ℕ) (x : Refusal) (given before : List ℕ) → r ≡ listingOf a n → r ≡ Refused x → before ≡ written a given before
-unfolding listingOf
-untouched none r n x given before e h = let z : _≡_ {A = ℕ} 0 1 = cc in absurd (omega arith)
-untouched (some w) r n x given before e h = refl
+untouched : (a : Option Refusal) (r : Counted) (n : ℕ) (x : Refusal) (given before : List ℕ) → r ≡ countedOf a n → r ≡ Refused x → before ≡ written a given before
+untouched a r n x given before e h = rw (counted-refused a r n x e h)
 
--- otherwise there are as many as the answer says
-answered : (a : Option Refusal) (r : Listing) (n m : ℕ) → r ≡ listingOf a n → r ≡ Pairs m → (a ≡ none) × (m ≡ n)
-unfolding listingOf
-answered none r n m e h = (refl, cc)
-answered (some w) r n m e h = let z : _≡_ {A = ℕ} 0 1 = cc in absurd (omega arith)
-
-module _ (text : List ℕ) (p lent : ℕ) (list : List ℕ) (r : Listing) (f : PairsFound text p lent r list) where
+module _ (text : List ℕ) (p lent : ℕ) (list : List ℕ) (r : Counted) (f : PairsFound text p lent r list) where
   -- the pairs that were found, by the answer
-  module _ (n : ℕ) (g : r ≡ Pairs n) where
+  module _ (n : ℕ) (g : r ≡ Count n) where
     accepted : pairsRefusal text p lent ≡ none
-    accepted = answered (pairsRefusal text p lent) r (length (pairsOf text p)) n (f .answer) g .0
+    accepted = counted-kept (pairsRefusal text p lent) r (length (pairsOf text p)) n (f .answer) g .0
 
     count : n ≡ length (pairsOf text p)
-    count = answered (pairsRefusal text p lent) r (length (pairsOf text p)) n (f .answer) g .1
+    count = counted-kept (pairsRefusal text p lent) r (length (pairsOf text p)) n (f .answer) g .1
 
     pairs : take (n - 0) list ≡ pairsOf text p
     pairs = let e : n - 0 ≡ length (pairsOf text p) = omega (arith, count) in rw e (f .listed accepted)
@@ -129,11 +122,11 @@ module _ (text : List ℕ) (p lent : ℕ) (list : List ℕ) (r : Listing) (f : P
     few-lent = rw pairs (omega (arith, f .few accepted, lent-enough))
 
 -- as pairs
-module _ (text : List ℕ) (p : ℕ) (before list : List ℕ) (r : Listing) (f : PairsFound text p (length before) r list) where
-  pub pairs-room : (n : ℕ) → r ≡ Pairs n → length (take (n - 0) list) ≤ length before
+module _ (text : List ℕ) (p : ℕ) (before list : List ℕ) (r : Counted) (f : PairsFound text p (length before) r list) where
+  pub pairs-room : (n : ℕ) → r ≡ Count n → length (take (n - 0) list) ≤ length before
   pairs-room n g = few-lent text p (length before) list r f n g
 
-  pub pairs-listed : (n : ℕ) (after : List ℕ) → r ≡ Pairs n → Wrote before after 0 (length (take (n - 0) list)) (take (n - 0) list) → Listed text p before (Pairs n) after
+  pub pairs-listed : (n : ℕ) (after : List ℕ) → r ≡ Count n → Wrote before after 0 (length (take (n - 0) list)) (take (n - 0) list) → Listed text p before (Count n) after
   pairs-listed n after g k = record {
     answer = sym g ∙ f .answer;
     buffer = rw (accepted text p (length before) list r f n g) (wrote-filled before after 0 _ _ k refl ∙ ap (λ ws. filled ws before) (pairs text p (length before) list r f n g));
@@ -148,36 +141,32 @@ module _ (text : List ℕ) (p : ℕ) (before list : List ℕ) (r : Listing) (f :
   }
 
 -- as bytes
-module _ (text : List ℕ) (p : ℕ) (before list : List ℕ) (r : Listing) (f : PairsFound text p (length before / 8) r list) where
-  pub bytes-room : (n : ℕ) → r ≡ Pairs n → length (take (n - 0) list) * 8 ≤ length before
+module _ (text : List ℕ) (p : ℕ) (before list : List ℕ) (r : Counted) (f : PairsFound text p (length before / 8) r list) where
+  pub bytes-room : (n : ℕ) → r ≡ Count n → length (take (n - 0) list) * 8 ≤ length before
   bytes-room n g = omega (arith, few-lent text p (length before / 8) list r f n g)
 
-  pub bytes-listed : (n v : ℕ) (after : List ℕ) → r ≡ Pairs n → Wrote before after 0 (length (take (n - 0) list) * 8) (listBytes 8 (take (n - 0) list)) → v ≡ listingNumber (Pairs n)
+  pub bytes-listed : (n v : ℕ) (after : List ℕ) → r ≡ Count n → Wrote before after 0 (length (take (n - 0) list) * 8) (listBytes 8 (take (n - 0) list)) → v ≡ countedNumber (Count n)
       → ListedBytes text p before v after
   bytes-listed n v after g k m = record {
-    answer = m ∙ ap listingNumber (sym g ∙ f .answer);
+    answer = m ∙ ap countedNumber (sym g ∙ f .answer);
     buffer = rw (accepted text p (length before / 8) list r f n g)
         (wrote-filled before after 0 _ _ k refl ∙ ap (λ ws. filled (listBytes 8 ws) before) (pairs text p (length before / 8) list r f n g));
     exact = exact-pairs text p (length before / 8);
   }
 
-  pub bytes-refused : (x : Refusal) (v : ℕ) → r ≡ Refused x → v ≡ listingNumber r → ListedBytes text p before v before
+  pub bytes-refused : (x : Refusal) (v : ℕ) → r ≡ Refused x → v ≡ countedNumber r → ListedBytes text p before v before
   bytes-refused x v g k = record {
-    answer = k ∙ ap listingNumber (f .answer);
+    answer = k ∙ ap countedNumber (f .answer);
     buffer = untouched (pairsRefusal text p (length before / 8)) r (length (pairsOf text p)) x (listBytes 8 (pairsOf text p)) before (f .answer) g;
     exact = exact-pairs text p (length before / 8);
   }
 
 -- ---- the answer as a number
 
-carried : (a : Option Refusal) (r : Listing) (n : ℕ) → r ≡ listingOf a n → (a ≡ none → n < pairRoom) → ((w : Refusal) → a ≡ some w → Numbers w) → listingHigh r < 2 ^ 40
-unfolding listingOf listingHigh
-carried none r n e h k = rw e (omega (arith, h refl))
-carried (some w) r n e h k = rw e (k w refl .line)
-
 -- the pairs are few, and a refusal's line is a line of the text or 0
-pub found-carried : (text : List ℕ) (p lent : ℕ) (list : List ℕ) (r : Listing) → PairsFound text p lent r list → listingHigh r < 2 ^ 40
-found-carried text p lent list r f = carried (pairsRefusal text p lent) r (length (pairsOf text p)) (f .answer) (f .few) (pairs-bounded text p lent)
+pub found-carried : (text : List ℕ) (p lent : ℕ) (list : List ℕ) (r : Counted) → PairsFound text p lent r list → countedHigh r < 2 ^ 40
+found-carried text p lent list r f =
+    counted-carried (pairsRefusal text p lent) r (length (pairsOf text p)) (f .answer) (λ e. omega (arith, f .few e)) (pairs-bounded text p lent)
 
-pub pairs-carried : (text : List ℕ) (p lent n : ℕ) (list : List ℕ) (r : Listing) → PairsFound text p lent r list → r ≡ Pairs n → listingHigh (Pairs n) < 2 ^ 40
+pub pairs-carried : (text : List ℕ) (p lent n : ℕ) (list : List ℕ) (r : Counted) → PairsFound text p lent r list → r ≡ Count n → countedHigh (Count n) < 2 ^ 40
 pairs-carried text p lent n list r f g = rw (← g) (found-carried text p lent list r f)

@@ -13,8 +13,8 @@ use Rattle.text.specs.declared.Refusal.{Refusal}
 use Rattle.plan.specs.Settled.{tablePlan}
 use Rattle.plan.specs.Rules.{refusedIf, planOf, pairsRefusal}
 use Rattle.buffers.specs.LittleEndian.{listBytes}
-use Rattle.answers.specs.declared.Listing.{Listing}
-use Rattle.answers.specs.Answers.{listingOf, listingNumber, written}
+use Rattle.answers.specs.declared.Counted.{Counted}
+use Rattle.answers.specs.Answers.{countedOf, countedNumber, written}
 
 -- the critical pairs of procedure p of a text's plan
 abbrev pub pairsOf : List ℕ → ℕ → List ℕ
@@ -27,29 +27,29 @@ pub record Exact (text : List ℕ) (p : ℕ) : Type 0 where
   pub ascending : Ascends (pairsOf text p)
 
 -- The pair list of procedure p: the answer and the buffer of words, and where it is given, that it is exact.
-pub record Listed (text : List ℕ) (p : ℕ) (before : List ℕ) (r : Listing) (after : List ℕ) : Type 0 where
-  pub answer : r ≡ listingOf (pairsRefusal text p (length before)) (length (pairsOf text p))
+pub record Listed (text : List ℕ) (p : ℕ) (before : List ℕ) (r : Counted) (after : List ℕ) : Type 0 where
+  pub answer : r ≡ countedOf (pairsRefusal text p (length before)) (length (pairsOf text p))
   pub buffer : after ≡ written (pairsRefusal text p (length before)) (pairsOf text p) before
   pub exact : pairsRefusal text p (length before) ≡ none → Exact text p
 
 -- The same on a buffer of bytes, "each entry or word lowest byte first, the lengths of rule 1 counted in whole ones".
 pub record ListedBytes (text : List ℕ) (p : ℕ) (before : List ℕ) (r : ℕ) (after : List ℕ) : Type 0 where
-  pub answer : r ≡ listingNumber (listingOf (pairsRefusal text p (length before / 8)) (length (pairsOf text p)))
+  pub answer : r ≡ countedNumber (countedOf (pairsRefusal text p (length before / 8)) (length (pairsOf text p)))
   pub buffer : after ≡ written (pairsRefusal text p (length before / 8)) (listBytes 8 (pairsOf text p)) before
   pub exact : pairsRefusal text p (length before / 8) ≡ none → Exact text p
 
 -- ---- the steps
 
 -- the answer, and where nothing is refused the pairs at the start of the list
-pub record ListFound (refused : Option Refusal) (pairs : List ℕ) (r : Listing) (list : List ℕ) : Type 0 where
-  pub answer : r ≡ listingOf refused (length pairs)
+pub record ListFound (refused : Option Refusal) (pairs : List ℕ) (r : Counted) (list : List ℕ) : Type 0 where
+  pub answer : r ≡ countedOf refused (length pairs)
   pub listed : refused ≡ none → take (length pairs) list ≡ pairs
   pub few : refused ≡ none → length pairs < pairRoom
 
 -- of a procedure of a table: rule 11 where it is not there
-abbrev pub TablePairs : List ℕ → ℕ → Listing → List ℕ → Type 0
+abbrev pub TablePairs : List ℕ → ℕ → Counted → List ℕ → Type 0
 TablePairs ws p r list = ListFound (refusedIf 11 (leb (length (tablePlan ws .procs)) p)) (pairList (tablePlan ws .procs) p) r list
 
 -- of a procedure of a text, where `lent` words are lent for them
-abbrev pub PairsFound : List ℕ → ℕ → ℕ → Listing → List ℕ → Type 0
+abbrev pub PairsFound : List ℕ → ℕ → ℕ → Counted → List ℕ → Type 0
 PairsFound text p lent r list = ListFound (pairsRefusal text p lent) (pairsOf text p) r list

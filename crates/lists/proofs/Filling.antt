@@ -17,7 +17,7 @@ use Rattle.candidates.specs.Candidates.{listsBelow, row, rows}
 use Rattle.procs.specs.declared.Layout.{Layout}
 use Rattle.procs.specs.Laid.{Laid}
 use Rattle.pairs.proofs.Lists.{few-pairs}
-use Rattle.lists.specs.Lists.{PairTable, ListsAsked, ThreadLists}
+use Rattle.lists.specs.Lists.{ListsAsked, ThreadLists}
 use Rattle.lists.proofs.Pairs.{pair-small, listed-there, kept-before}
 
 -- the list of thread u is the pair list of procedure p
@@ -58,9 +58,6 @@ module _ (table : List ℕ) (l : Layout) (lists₀ counts₀ lists counts : List
   present u h =
       let e : getD (tablePlan table .threads) u 0 ≡ getD (l .runs) u 0 = ap (λ x. getD x u 0) (sym (laid .runs-are)) ∙ getD-take (l .threads) (l .runs) u 0 h in
       rw (← e) (s .asked .forms .plan .settled .threads-present u (omega (arith, laid .threads-all)))
-
-  pub forms-there : PairTable table l
-  forms-there = s .asked .forms
 
   module _ (n : ℕ) (c : n ≡ l .threads) (h : t < n) where
     pub proc-there : getD (l .runs) t 0 < l .procs

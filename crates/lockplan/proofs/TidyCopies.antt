@@ -13,17 +13,18 @@ use Rattle.laws.proofs.Wrote.{filled-equal}
 use Rattle.text.specs.declared.Refusal.{Refusal}
 use Rattle.text.specs.Lines.{textOf}
 use Rattle.plan.specs.Grammar.{forms}
-use Rattle.plan.specs.Rules.{planRefusal, planOf, verdictRefusal, pairsRefusal, tidyRefusal}
+use Rattle.plan.specs.Rules.{planRefusal, planOf, sizesRefusal, verdictRefusal, pairsRefusal, tidyRefusal}
+use Rattle.plan.proofs.AcceptedTable.{plan-within}
 use Rattle.demands.specs.Broken.{AcceptedText}
 use Rattle.demands.proofs.Accepted.{accepted-plan, accepted-exactly, tidy-accepted-exactly}
 use Rattle.answers.specs.declared.Verdict.{Verdict}
-use Rattle.answers.specs.declared.Listing.{Listing}
-use Rattle.answers.specs.declared.Copied.{Copied}
-use Rattle.answers.specs.declared.Copied.the-variants.{Bytes}
-use Rattle.answers.specs.Answers.{copiedOf, written}
+use Rattle.answers.specs.declared.Counted.{Counted}
+use Rattle.answers.specs.declared.Counted.the-variants.{Count}
+use Rattle.answers.specs.Answers.{countedOf, countedNumber, written}
 use Rattle.listing.specs.Listed.{Exact, Listed, ListedBytes}
 use Rattle.verdict.specs.Judged.{Judged, JudgedBytes}
 use Rattle.tidy_text.specs.Tidy.{bareText, tidyOf, Tidied}
+use Rattle.space.specs.Slip.{neededEntries, printedSlip}
 use Rattle.tidy_text.proofs.Tidy.{tidy-fits, tidy-plan, tidy-accepted, tidy-twice, tidy-same}
 use Rattle.lockplan.specs.TidyCopies.{TidyCopy, TidyCopies}
 use Rattle.lockplan.proofs.Demands.{copied-carried}
@@ -46,7 +47,7 @@ module _ (s t : List ℕ) (refused : planRefusal s ≡ planRefusal t) (plans : p
       let e : Exact s p = exact (rw (refused, plans) o) in
       record { critical = rw plans at (e .critical); ascending = rw plans at (e .ascending) }
 
-  same-pairs : (p : ℕ) (before : List ℕ) (r : Listing) (after : List ℕ) → Listed s p before r after → Listed t p before r after
+  same-pairs : (p : ℕ) (before : List ℕ) (r : Counted) (after : List ℕ) → Listed s p before r after → Listed t p before r after
   unfolding pairsRefusal
   same-pairs p before r after d =
       record { answer = rw (refused, plans) at (d .answer); buffer = rw (refused, plans) at (d .buffer); exact = same-exact p (length before) (d .exact) }
@@ -62,20 +63,20 @@ module _ (text : List ℕ) (x : AcceptedText text) where
   kept : planRefusal text ≡ none
   kept = accepted-exactly text .1 x
 
-  written-copy : (before : List ℕ) (r : Copied) (after : List ℕ) → Tidied text before r after → maxBytes ≤ length before
-      → (r ≡ Bytes (length (tidyOf text))) × (after ≡ filled (tidyOf text) before)
-  unfolding copiedOf
+  written-copy : (before : List ℕ) (r : Counted) (after : List ℕ) → Tidied text before r after → maxBytes ≤ length before
+      → (r ≡ Count (length (tidyOf text))) × (after ≡ filled (tidyOf text) before)
+  unfolding countedOf
   written-copy before r after d h =
       let e = tidy-accepted-exactly text (length before) .1 (h, x) in
       (d .answer ∙ rw e, rw e at (d .output))
 
 -- what a call wrote of an accepted text, where it answers that it wrote so many bytes
-written-is : (text : List ℕ) (x : AcceptedText text) (before : List ℕ) (r : Copied) (after copy : List ℕ) → Tidied text before r after → r ≡ Bytes (length copy)
+written-is : (text : List ℕ) (x : AcceptedText text) (before : List ℕ) (r : Counted) (after copy : List ℕ) → Tidied text before r after → r ≡ Count (length copy)
     → after ≡ filled copy before → copy ≡ tidyOf text
-unfolding copiedOf
+unfolding countedOf
 written-is text x before r after copy d e f = go (tidyRefusal text (length before)) (d .answer) (d .output)
   where
-    go : (o : Option Refusal) → r ≡ copiedOf o (length (tidyOf text)) → after ≡ written o (tidyOf text) before → copy ≡ tidyOf text
+    go : (o : Option Refusal) → r ≡ countedOf o (length (tidyOf text)) → after ≡ written o (tidyOf text) before → copy ≡ tidyOf text
     go none a w =
         let n : length copy ≡ length (tidyOf text) = cc (e, a) in
         filled-equal copy (tidyOf text) before n (sym f ∙ w)
@@ -91,7 +92,7 @@ module _ (text : List ℕ) (x : AcceptedText text) where
   copy-accepted : AcceptedText copy
   copy-accepted = accepted-exactly copy .0 accepted-copy
 
-  bare-copy : copy ≡ textOf (forms (x .plan))
+  bare-copy : copy ≡ textOf (forms (x .sized .plan))
   unfolding tidyOf bareText
   bare-copy = ap (λ p. textOf (forms p)) (accepted-plan text x)
 
@@ -101,7 +102,18 @@ module _ (text : List ℕ) (x : AcceptedText text) where
   same-plans : planOf text ≡ planOf copy
   same-plans = sym (tidy-plan text (kept text x))
 
-  equal-copies : (text′ : List ℕ) (x′ : AcceptedText text′) (copy′ : List ℕ) → copy′ ≡ tidyOf text′ → (copy ≡ copy′) ↔ (x .plan ≡ x′ .plan)
+  same-sizes-refusal : sizesRefusal text ≡ sizesRefusal copy
+  same-sizes-refusal = plan-within text (kept text x) ∙ sym (plan-within copy accepted-copy)
+
+  same-needed : neededEntries text ≡ neededEntries copy
+  unfolding neededEntries
+  same-needed = rw (same-sizes-refusal, same-plans)
+
+  same-slip : printedSlip text ≡ printedSlip copy
+  unfolding printedSlip
+  same-slip = rw (same-sizes-refusal, same-plans)
+
+  equal-copies : (text′ : List ℕ) (x′ : AcceptedText text′) (copy′ : List ℕ) → copy′ ≡ tidyOf text′ → (copy ≡ copy′) ↔ (x .sized .plan ≡ x′ .sized .plan)
   equal-copies text′ x′ copy′ is =
       let same = tidy-same text text′ (kept text x) (kept text′ x′) in
       let a = accepted-plan text x in
@@ -122,6 +134,9 @@ module _ (text : List ℕ) (x : AcceptedText text) where
     pairs = λ p before r after. (same-pairs text copy same-refusal same-plans p before r after, same-pairs copy text (sym same-refusal) (sym same-plans) p before r after);
     lockplan-pairs = λ p before n after.
         (same-pairs-bytes text copy same-refusal same-plans p before n after, same-pairs-bytes copy text (sym same-refusal) (sym same-plans) p before n after);
+    spaces = λ r. (λ e. e ∙ same-needed, λ e. e ∙ sym same-needed);
+    lockplan-spaces = λ n. (λ e. e ∙ ap countedNumber same-needed, λ e. e ∙ ap countedNumber (sym same-needed));
+    slips = same-slip;
   }
 
 pub tidy-copies : (text before after : List ℕ) → TidyCopies text before after

@@ -7,71 +7,82 @@ use mathlib.Core.Logic.{_↔_}
 use mathlib.Core.Option.{some}
 use mathlib.Core.Path.{_≡_}
 use lib.ListN.{length}
-use Rattle.limits.specs.Limits.{maxBytes, maxPairs, maxEntries}
+use Rattle.limits.specs.Limits.{maxBytes, maxPairs}
 use Rattle.laws.specs.Mask.{inMask}
 use Rattle.laws.specs.Ascending.{Ascends}
 use Rattle.text.specs.declared.Refusal.{Refusal}
 use Rattle.text.specs.Lines.{refusal}
 use Rattle.semantics.specs.Plan.{Block, LockPlan}
+use Rattle.semantics.specs.Sizes.{threadSizes}
 use Rattle.semantics.specs.Run.{ThreadState, run, start}
 use Rattle.semantics.specs.Stuck.{Stuck, DeadlockFree, Schedule}
 use Rattle.semantics.specs.Language.{PublishedCritical}
 use Rattle.buffers.specs.LittleEndian.{listBytes}
-use Rattle.demands.specs.Broken.{Rule, FirstBroken, verdictRules, pairsRules, tidyRules, AcceptedText}
+use Rattle.demands.specs.Broken.{Rule, FirstBroken, sizesRules, verdictRules, pairsRules, tidyRules, SizedText, AcceptedText}
 use Rattle.answers.specs.declared.Verdict.{Verdict}
 use Rattle.answers.specs.declared.Verdict.the-variants.{Free, Deadlock, Refused}
-use Rattle.answers.specs.declared.Listing.{Listing}
-use Rattle.answers.specs.declared.Listing.the-variants.{Pairs}
-use Rattle.answers.specs.declared.Listing.the-variants as listing
-use Rattle.answers.specs.declared.Copied.{Copied}
-use Rattle.answers.specs.declared.Copied.the-variants as copied
+use Rattle.answers.specs.declared.Counted.{Counted}
+use Rattle.answers.specs.declared.Counted.the-variants.{Count}
+use Rattle.answers.specs.declared.Counted.the-variants as counted
 use Rattle.laws.specs.Wrote.{filled}
-use Rattle.answers.specs.Answers.{readListing, readVerdict, readCopied}
+use Rattle.answers.specs.Answers.{readCounted, readVerdict}
 use Rattle.listing.specs.Listed.{Listed, ListedBytes}
 use Rattle.verdict.specs.Judged.{Judged, JudgedBytes}
 use Rattle.tidy_text.specs.Tidy.{Tidied, TidiedNumber}
+use Rattle.space.specs.Slip.{Needs, NeedsNumber}
 
--- the answer is a refusal exactly by the first rule broken, in checking order, and by its line; it is none exactly where the rules are kept; a refusal writes nothing.
--- `Refuses x` says that the answer is the refusal x, `Kept` that the rules are kept
-pub record RefusesExactly (rules : List Rule) (Kept : Type 0) (Refuses : Refusal → Type 0) (before after : List ℕ) : Type 0 where
+-- the answer is a refusal exactly by the first rule broken, in checking order, and by its line; it is none exactly where the rules are kept. `Refuses x` says that the answer
+-- is the refusal x, `Kept` that the rules are kept
+pub record RefusesExactly (rules : List Rule) (Kept : Type 0) (Refuses : Refusal → Type 0) : Type 0 where
   pub first-broken : (r l : ℕ) → Refuses (refusal r l) ↔ FirstBroken rules r l
   pub accepted : ((x : Refusal) → Refuses x → ⊥) ↔ Kept
+
+-- the same of a call that is lent a buffer: a refusal writes nothing into it
+pub record RefusesUnwritten (rules : List Rule) (Kept : Type 0) (Refuses : Refusal → Type 0) (before after : List ℕ) : Type 0 where
+  pub exactly : RefusesExactly rules Kept Refuses
   pub nothing-written : (x : Refusal) → Refuses x → after ≡ before
 
 -- of the verdict, where so many entries are lent
 abbrev pub VerdictRefuses : List ℕ → ℕ → Verdict → List ℕ → List ℕ → Type 0
-VerdictRefuses text lent v before after = RefusesExactly (verdictRules text lent) ((maxEntries ≤ lent) × AcceptedText text) (λ x. v ≡ Refused x) before after
+VerdictRefuses text lent v before after =
+    RefusesUnwritten (verdictRules text lent) ((x : AcceptedText text) × (threadSizes (x .sized .plan) ≤ lent)) (λ x. v ≡ Refused x) before after
 
 -- of the pair list of procedure p, where so many words are lent
-abbrev pub PairsRefuse : List ℕ → ℕ → ℕ → Listing → List ℕ → List ℕ → Type 0
+abbrev pub PairsRefuse : List ℕ → ℕ → ℕ → Counted → List ℕ → List ℕ → Type 0
 PairsRefuse text p lent r before after =
-    RefusesExactly (pairsRules text p lent) ((maxPairs ≤ lent) × (x : AcceptedText text) × (p < length (x .plan .procs))) (λ x. r ≡ listing.Refused x) before after
+    RefusesUnwritten (pairsRules text p lent) ((maxPairs ≤ lent) × (x : AcceptedText text) × (p < length (x .sized .plan .procs))) (λ x. r ≡ counted.Refused x) before after
 
 -- of the tidy copy, where so many bytes are lent
-abbrev pub TidyRefuses : List ℕ → ℕ → Copied → List ℕ → List ℕ → Type 0
-TidyRefuses text lent r before after = RefusesExactly (tidyRules text lent) ((maxBytes ≤ lent) × AcceptedText text) (λ x. r ≡ copied.Refused x) before after
+abbrev pub TidyRefuses : List ℕ → ℕ → Counted → List ℕ → List ℕ → Type 0
+TidyRefuses text lent r before after = RefusesUnwritten (tidyRules text lent) ((maxBytes ≤ lent) × AcceptedText text) (λ x. r ≡ counted.Refused x) before after
+
+-- of the space that a schedule needs, for which no buffer is lent
+abbrev pub SpaceRefuses : List ℕ → Counted → Type 0
+SpaceRefuses text r = RefusesExactly (sizesRules text) (SizedText text) (λ x. r ≡ counted.Refused x)
 
 -- Demand 1: each text that keeps the rules is accepted, and each other is refused with the number of the first rule broken and its line, and nothing is written.
 pub record Demand1 (text before after : List ℕ) : Type 0 where
   pub judge : (v : Verdict) → Judged text before v after → VerdictRefuses text (length before) v before after
   pub lockplan-verdict : (n : ℕ) → JudgedBytes text before n after → VerdictRefuses text (length before / 2) (readVerdict n) before after
-  pub pair-list : (p : ℕ) (r : Listing) → Listed text p before r after → PairsRefuse text p (length before) r before after
-  pub lockplan-pairs : (p n : ℕ) → ListedBytes text p before n after → PairsRefuse text p (length before / 8) (readListing n) before after
-  pub tidy : (r : Copied) → Tidied text before r after → TidyRefuses text (length before) r before after
-  pub lockplan-tidy : (n : ℕ) → TidiedNumber text before n after → TidyRefuses text (length before) (readCopied n) before after
+  pub pair-list : (p : ℕ) (r : Counted) → Listed text p before r after → PairsRefuse text p (length before) r before after
+  pub lockplan-pairs : (p n : ℕ) → ListedBytes text p before n after → PairsRefuse text p (length before / 8) (readCounted n) before after
+  pub tidy : (r : Counted) → Tidied text before r after → TidyRefuses text (length before) r before after
+  pub lockplan-tidy : (n : ℕ) → TidiedNumber text before n after → TidyRefuses text (length before) (readCounted n) before after
+  pub space : (r : Counted) → Needs text r → SpaceRefuses text r
+  pub lockplan-space : (n : ℕ) → NeedsNumber text n → SpaceRefuses text (readCounted n)
 
 -- so many pairs are listed, ascending without repeats, and a pair is listed exactly when it is a critical pair of procedure p by source 000's Definition 4.1
-pub record ListsExactly (ps : List Block) (p : ℕ) (r : Listing) (pairs : List ℕ) : Type 0 where
-  pub number : r ≡ Pairs (length pairs)
+pub record ListsExactly (ps : List Block) (p : ℕ) (r : Counted) (pairs : List ℕ) : Type 0 where
+  pub number : r ≡ Count (length pairs)
   pub exact : (w : ℕ) → List·Memᴰ w pairs ↔ PublishedCritical ps p w
   pub ascending : Ascends pairs
 
 -- Demand 2: for each procedure of an accepted text the listed pairs are exactly its critical pairs, none missing and none added; they fill the buffer's start.
 pub record Demand2 (text before after : List ℕ) : Type 0 where
-  pub pair-list : (p : ℕ) (r : Listing) → Listed text p before r after → (x : AcceptedText text) → p < length (x .plan .procs) → maxPairs ≤ length before
-      → (pairs : List ℕ) × ListsExactly (x .plan .procs) p r pairs × (after ≡ filled pairs before)
-  pub lockplan-pairs : (p n : ℕ) → ListedBytes text p before n after → (x : AcceptedText text) → p < length (x .plan .procs) → maxPairs ≤ length before / 8
-      → (pairs : List ℕ) × ListsExactly (x .plan .procs) p (readListing n) pairs × (after ≡ filled (listBytes 8 pairs) before)
+  pub pair-list : (p : ℕ) (r : Counted) → Listed text p before r after → (x : AcceptedText text) → p < length (x .sized .plan .procs) → maxPairs ≤ length before
+      → (pairs : List ℕ) × ListsExactly (x .sized .plan .procs) p r pairs × (after ≡ filled pairs before)
+  pub lockplan-pairs : (p n : ℕ) → ListedBytes text p before n after → (x : AcceptedText text) → p < length (x .sized .plan .procs) → maxPairs ≤ length before / 8
+      → (pairs : List ℕ) × ListsExactly (x .sized .plan .procs) p (readCounted n) pairs × (after ≡ filled (listBytes 8 pairs) before)
 
 -- some run of the plan's gateway reaches a stuck set
 pub record StuckReached (plan : LockPlan) : Type 0 where
@@ -87,9 +98,10 @@ pub record JudgesExactly (plan : LockPlan) (v : Verdict) (schedule : List ℕ) :
   pub deadlock : ((n : ℕ) × (S : ℕ) × (v ≡ Deadlock n S)) ↔ StuckReached plan
   pub scheduled : (n S : ℕ) → v ≡ Deadlock n S → (length schedule ≡ n) × Schedule plan schedule (inMask S)
 
--- Demand 3: of an accepted text the verdict is exact, and the entries of its schedule fill the buffer's start.
+-- Demand 3: of an accepted text the verdict is exact, and the entries of its schedule fill the buffer's start. A buffer of as many entries as the sum of the threads' sizes
+-- suffices.
 pub record Demand3 (text before after : List ℕ) : Type 0 where
-  pub judge : (v : Verdict) → Judged text before v after → (x : AcceptedText text) → maxEntries ≤ length before
-      → (schedule : List ℕ) × JudgesExactly (x .plan) v schedule × (after ≡ filled schedule before)
-  pub lockplan-verdict : (n : ℕ) → JudgedBytes text before n after → (x : AcceptedText text) → maxEntries ≤ length before / 2
-      → (schedule : List ℕ) × JudgesExactly (x .plan) (readVerdict n) schedule × (after ≡ filled (listBytes 2 schedule) before)
+  pub judge : (v : Verdict) → Judged text before v after → (x : AcceptedText text) → threadSizes (x .sized .plan) ≤ length before
+      → (schedule : List ℕ) × JudgesExactly (x .sized .plan) v schedule × (after ≡ filled schedule before)
+  pub lockplan-verdict : (n : ℕ) → JudgedBytes text before n after → (x : AcceptedText text) → threadSizes (x .sized .plan) ≤ length before / 2
+      → (schedule : List ℕ) × JudgesExactly (x .sized .plan) (readVerdict n) schedule × (after ≡ filled (listBytes 2 schedule) before)

@@ -11,38 +11,42 @@ use Rattle.text.specs.Lines.{textOf}
 use Rattle.plan.specs.Grammar.{forms}
 use Rattle.demands.specs.Broken.{AcceptedText}
 use Rattle.answers.specs.declared.Verdict.{Verdict}
-use Rattle.answers.specs.declared.Listing.{Listing}
-use Rattle.answers.specs.declared.Copied.{Copied}
-use Rattle.answers.specs.declared.Copied.the-variants.{Bytes}
-use Rattle.answers.specs.Answers.{readCopied}
+use Rattle.answers.specs.declared.Counted.{Counted}
+use Rattle.answers.specs.declared.Counted.the-variants.{Count}
+use Rattle.answers.specs.Answers.{readCounted}
 use Rattle.listing.specs.Listed.{Listed, ListedBytes}
 use Rattle.verdict.specs.Judged.{Judged, JudgedBytes}
 use Rattle.tidy_text.specs.Tidy.{Tidied, TidiedNumber}
+use Rattle.space.specs.Slip.{Needs, NeedsNumber, printedSlip}
 
 -- a copy of the accepted text
 pub record TidyCopy (text : List ℕ) (x : AcceptedText text) (copy : List ℕ) : Type 0 where
   -- "gives any accepted plan in document 01's bare form"; it always fits
-  pub bare : copy ≡ textOf (forms (x .plan))
+  pub bare : copy ≡ textOf (forms (x .sized .plan))
   pub fits : length copy ≤ maxBytes
   -- it is accepted, and its plan is the text's
   pub accepted : AcceptedText copy
-  pub same-plan : accepted .plan ≡ x .plan
+  pub same-plan : accepted .sized .plan ≡ x .sized .plan
   -- "Two accepted texts have the same procedures, statements and thread lines in the same order exactly when their tidy copies have equal bytes": whatever other copy a call
   -- writes of an accepted text
-  pub equal : (text′ : List ℕ) (x′ : AcceptedText text′) (before : List ℕ) (r : Copied) (after copy′ : List ℕ) → Tidied text′ before r after → r ≡ Bytes (length copy′)
-      → after ≡ filled copy′ before → (copy ≡ copy′) ↔ (x .plan ≡ x′ .plan)
+  pub equal : (text′ : List ℕ) (x′ : AcceptedText text′) (before : List ℕ) (r : Counted) (after copy′ : List ℕ) → Tidied text′ before r after → r ≡ Count (length copy′)
+      → after ≡ filled copy′ before → (copy ≡ copy′) ↔ (x .sized .plan ≡ x′ .sized .plan)
   -- "tidying a tidy copy alters nothing"
-  pub unaltered : (before : List ℕ) (r : Copied) (after : List ℕ) → Tidied copy before r after → maxBytes ≤ length before
-      → (r ≡ Bytes (length copy)) × (after ≡ filled copy before)
+  pub unaltered : (before : List ℕ) (r : Counted) (after : List ℕ) → Tidied copy before r after → maxBytes ≤ length before
+      → (r ≡ Count (length copy)) × (after ≡ filled copy before)
   -- "Verdict and pairs are those of the tidy copy": what a call may answer and write for the one, it may for the other, schedules too
   pub verdicts : (before : List ℕ) (v : Verdict) (after : List ℕ) → Judged text before v after ↔ Judged copy before v after
   pub lockplan-verdicts : (before : List ℕ) (n : ℕ) (after : List ℕ) → JudgedBytes text before n after ↔ JudgedBytes copy before n after
-  pub pairs : (p : ℕ) (before : List ℕ) (r : Listing) (after : List ℕ) → Listed text p before r after ↔ Listed copy p before r after
+  pub pairs : (p : ℕ) (before : List ℕ) (r : Counted) (after : List ℕ) → Listed text p before r after ↔ Listed copy p before r after
   pub lockplan-pairs : (p : ℕ) (before : List ℕ) (n : ℕ) (after : List ℕ) → ListedBytes text p before n after ↔ ListedBytes copy p before n after
+  -- and so are the space that a schedule needs and the slip
+  pub spaces : (r : Counted) → Needs text r ↔ Needs copy r
+  pub lockplan-spaces : (n : ℕ) → NeedsNumber text n ↔ NeedsNumber copy n
+  pub slips : printedSlip text ≡ printedSlip copy
 
 -- of the calls, where the text is accepted and the output holds enough: so many bytes are written, at the output's start, and they are such a copy
 pub record TidyCopies (text before after : List ℕ) : Type 0 where
-  pub tidy : (r : Copied) → Tidied text before r after → (x : AcceptedText text) → maxBytes ≤ length before
-      → (copy : List ℕ) × (r ≡ Bytes (length copy)) × (after ≡ filled copy before) × TidyCopy text x copy
+  pub tidy : (r : Counted) → Tidied text before r after → (x : AcceptedText text) → maxBytes ≤ length before
+      → (copy : List ℕ) × (r ≡ Count (length copy)) × (after ≡ filled copy before) × TidyCopy text x copy
   pub lockplan-tidy : (n : ℕ) → TidiedNumber text before n after → (x : AcceptedText text) → maxBytes ≤ length before
-      → (copy : List ℕ) × (readCopied n ≡ Bytes (length copy)) × (after ≡ filled copy before) × TidyCopy text x copy
+      → (copy : List ℕ) × (readCounted n ≡ Count (length copy)) × (after ≡ filled copy before) × TidyCopy text x copy

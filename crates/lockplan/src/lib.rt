@@ -1,11 +1,12 @@
-// The library's calls: the verdict on a plan, the pair list of a procedure, a procedure's text, the tidy copy of a plan text; and all but the third for C.
+// The library's calls: the verdict on a plan, the space that its schedule needs, the pair list of a procedure, a procedure's text, the tidy copy of a plan text; and all but a
+// procedure's text for C.
 ghost use Rattle.parts.specs.Parts.{PartAt};
 ghost use Rattle.listing.specs.Listed.{Listed, ListedBytes};
 ghost use Rattle.procedure_text.specs.ProcText.{procText};
+ghost use Rattle.space.specs.Slip.{Needs, NeedsNumber};
 ghost use Rattle.tidy_text.specs.Tidy.{Tidied, TidiedNumber};
 ghost use Rattle.verdict.specs.Judged.{Judged, JudgedBytes};
-pub use answers::Copied;
-pub use answers::Listing;
+pub use answers::Counted;
 pub use answers::Verdict;
 use limits::MAX_ENTRIES;
 use limits::PAIR_ROOM;
@@ -17,8 +18,15 @@ pub fn judge(text: &[u8], out: &mut [u16]) -> Verdict
     verdict::judge_text(text, out)
 }
 
+// How many entries a schedule of the plan needs: the sum of its threads' sizes.
+pub fn space(text: &[u8]) -> Counted
+    ensures { λ r. ⌜ Needs (now (text .entry)) r ⌝ }
+{
+    space::needed_entries(text)
+}
+
 // The critical pairs of a procedure, as 64-bit words, ascending, at the start of `out`.
-pub fn pair_list(text: &[u8], proc: usize, out: &mut [u64]) -> Listing
+pub fn pair_list(text: &[u8], proc: usize, out: &mut [u64]) -> Counted
     ensures { λ r. ⌜ Listed (now (text .entry)) proc (now (out .entry)) r (now (out .exit)) ⌝ }
 {
     let mut list = [0u64; PAIR_ROOM];
@@ -33,7 +41,7 @@ pub fn proc_text(text: &[u8], proc: usize) -> &[u8]
 }
 
 // The tidy copy of a plan text, in 01's bare form, at the start of `out`.
-pub fn tidy(text: &[u8], out: &mut [u8]) -> Copied
+pub fn tidy(text: &[u8], out: &mut [u8]) -> Counted
     ensures { λ r. ⌜ Tidied (now (text .entry)) (now (out .entry)) r (now (out .exit)) ⌝ }
 {
     tidy_text::write_copy(text, out)
@@ -46,6 +54,14 @@ pub extern "C" fn lockplan_verdict(text: &[u8], out: &mut [u8]) -> u64
 {
     let mut entries = [0u16; MAX_ENTRIES];
     verdict::verdict_bytes(text, out, &mut entries)
+}
+
+// The space that a schedule needs, for C.
+#[no_mangle]
+pub extern "C" fn lockplan_space(text: &[u8]) -> u64
+    ensures { λ r. ⌜ NeedsNumber (now (text .entry)) r ⌝ }
+{
+    space::space_number(text)
 }
 
 // The pair list for C: pairs as eight bytes each, lowest first.

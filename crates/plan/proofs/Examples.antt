@@ -11,6 +11,7 @@ use Rattle.laws.specs.Bytes.{equal}
 use Rattle.laws.specs.Ascending.{insertOnce, ascending}
 use Rattle.laws.specs.Choice.{pick}
 use Rattle.laws.specs.Mask.{bit}
+use Rattle.laws.specs.Sums.{total}
 use Rattle.laws.proofs.Tests.{T-and}
 use Rattle.text.specs.Forms.{numberIn, kindIn}
 use Rattle.text.specs.Kinds.{kindOf, planKind, twoKind, threadKind, callKind, holdKind, numbered, keywordKind}
@@ -18,7 +19,7 @@ use Rattle.text.specs.Kinds.{betweenKeyword, afterKeyword, numberOf, appendDigi
 use Rattle.text.specs.Lines.{split, unindented, passedOver, formsIn, formsOf, unreadable, unreadableLine, lineFor, lineOf}
 use Rattle.semantics.specs.Plan.{bodyIn, _⨾_}
 use Rattle.semantics.specs.CallMasks.{callMask, joinThrough, warshallRound, reachMasks, reachMask}
-use Rattle.semantics.specs.Sizes.{sizeWith, sizeAt, sizeOf, sizes, threadSizes}
+use Rattle.semantics.specs.Sizes.{sizeWith, sizeAt, sizeOf, threadSize, threadSizes}
 use Rattle.semantics.specs.Run.{up, down, move, compatible, withAll, apart, threadAt, stepIn, step, run, start}
 use Rattle.semantics.specs.Pairs.{heldFrom, pairsWith, pairsAt, pairList}
 use Rattle.semantics.specs.Cases.{setOf}
@@ -31,7 +32,7 @@ use Rattle.plan.specs.Limits.{counted, overLimit, pastLimitFrom, pastLim
 use Rattle.text.specs.declared.Refusal.{Refusal}
 use Rattle.text.specs.Lines.{refusal}
 use Rattle.plan.specs.Rules.{tooLong, linesRefusal, referencesRefusal, grammarRefusal, formsRefusal, planOf, procFormFrom}
-use Rattle.plan.specs.Rules.{lowestFrom, procRefusal, recursive, tooLarge, tooManyPairs, planRefusal}
+use Rattle.plan.specs.Rules.{lowestFrom, procRefusal, recursive, tooLarge, tooManyPairs, sizesRefusal, planRefusal}
 use Rattle.plan.specs.Examples.{Outcome, refusedBy, accepted, Example, Gives, copies, loops, eithers}
 use Rattle.plan.specs.Examples.{rule3, rule4, rule5, rule678, laterCalls, rule9, remarks, to8, to9, reference, limits}
 
@@ -58,7 +59,7 @@ unfolding right comesOut reference limits rule3 rule4 rule5 rule678 laterCalls r
     holdKind numbered keywordKind betweenKeyword afterKeyword numberOf appendDigit leadingOf digitOf split unindented passedOver formsIn formsOf unreadable unreadableLine
     lineFor lineOf pick orElse bind equal inFront behind planIn among only closeBlock onClose advanceOf misplaced misplacedForm counted overLimit pastLimitFrom pastLimitForm testedBy leastBad
     numberIn kindIn breaks breaking countIf breakingForm tooLong linesRefusal referencesRefusal grammarRefusal formsRefusal planOf procFormFrom lowestFrom procRefusal recursive
-    callMask joinThrough warshallRound reachMasks reachMask tooLarge tooManyPairs planRefusal bodyIn _⨾_ sizeWith sizeAt sizeOf sizes threadSizes heldFrom pairsWith pairsAt pairList up down insertOnce
+    callMask joinThrough warshallRound reachMasks reachMask tooLarge tooManyPairs sizesRefusal planRefusal bodyIn _⨾_ sizeWith sizeAt sizeOf threadSize threadSizes total heldFrom pairsWith pairsAt pairList up down insertOnce
     ascending move compatible withAll apart threadAt stepIn step run start bit any unmet searchFrom atHold round rounds written
     allWritten all pairsFrom sameBelow setOf stuckAre answers passes
 examples-right = tt

@@ -1,4 +1,5 @@
--- Where rule 9 refuses nothing, no procedure's size exceeds the limit (`sizes-within`).
+-- Where rule 9 refuses nothing, no procedure's size exceeds the limit (`sizes-within`) and no thread's (`thread-within`), so that the sum over six threads at most is that of a
+-- schedule's entries at most (`sum-within`).
 use Prim.Native.Nat.{ℕ, _<_, _≤_}
 use native.Mathlib.Omega.{arith}
 use mathlib.Core.Path.{_≡_}
@@ -6,14 +7,26 @@ use mathlib.Core.List.{List}
 use mathlib.Core.Option.{none}
 use borrow.Author.Tests.{ltb-false}
 use lib.Dec.{ltb}
-use lib.ListN.{length}
-use Rattle.limits.specs.Limits.{maxSize}
+use lib.ListN.{length, getD}
+use Rattle.limits.specs.Limits.{maxSize, maxEntries}
+use Rattle.laws.proofs.Sums.{total-most}
 use Rattle.text.specs.declared.Form.{Form}
-use Rattle.semantics.specs.Sizes.{sizeOf}
+use Rattle.semantics.specs.Sizes.{sizeOf, threadSize, threadSizes}
 use Rattle.plan.specs.Grammar.{planIn}
+use Rattle.plan.specs.Settled.{Settled}
 use Rattle.plan.specs.Rules.{tooLarge}
 use Rattle.plan.proofs.Lowest.{proc-refusal-none}
 
 pub sizes-within : (fs : List Form) → tooLarge fs ≡ none → (p : ℕ) → p < length (planIn fs .procs) → sizeOf (planIn fs .procs) p ≤ maxSize
 unfolding tooLarge
 sizes-within fs e p h = omega (arith, ltb-false, proc-refusal-none 9 fs (λ q. ltb maxSize (sizeOf (planIn fs .procs) q)) e p h)
+
+pub thread-within : (fs : List Form) → Settled (planIn fs) → tooLarge fs ≡ none → (t : ℕ) → t < length (planIn fs .threads) → threadSize (planIn fs) t ≤ maxSize
+unfolding threadSize
+thread-within fs s e t h = sizes-within fs e (getD (planIn fs .threads) t 0) (s .threads-present t h)
+
+pub sum-within : (fs : List Form) → Settled (planIn fs) → tooLarge fs ≡ none → threadSizes (planIn fs) ≤ maxEntries
+unfolding threadSizes
+sum-within fs s e =
+    let plan = planIn fs in
+    omega (arith, total-most (length (plan .threads)) maxSize (threadSize plan) (thread-within fs s e), s .few-threads)

@@ -1,6 +1,6 @@
--- The rules in checking order, as four refusals: the plan's, the verdict's, the pair list's, the tidy copy's. 01, "Rules, in checking order": "A refusal returns its
--- number and a line (0 where none is named) .. Each rule is tested over the whole text before the next." The rules 4 to 10 and 12 are said of the list of forms and name a
--- form by its number, from 1; `planRefusal` names its line in the file.
+-- The rules in checking order, as five refusals: those up to and with 9, the plan's, the verdict's, the pair list's, the tidy copy's. 01, "Rules, in checking order": "A refusal
+-- returns its number and a line (0 where none is named) .. Each rule is tested over the whole text before the next." The rules 4 to 10 and 12 are said of the list of forms
+-- and name a form by its number, from 1; `inFile` names its line in the file.
 use Prim.Native.Nat.{ℕ, zero, suc, _-_}
 use mathlib.Core.Bool.{Bool, _&&_, cond}
 use mathlib.Core.List.{List, [], _∷_}
@@ -8,14 +8,14 @@ use mathlib.Core.Option.{Option, none, some, orElse}
 use mathlib.Core.Path.{_≡_}
 use lib.Dec.{ltb, leb, eqb}
 use lib.ListN.{length, take}
-use Rattle.limits.specs.Limits.{maxBytes, maxSize, maxPairs, maxEntries}
+use Rattle.limits.specs.Limits.{maxBytes, maxSize, maxPairs}
 use Rattle.text.specs.declared.Form.{Form}
 use Rattle.text.specs.declared.Refusal.{Refusal}
 use Rattle.text.specs.Forms.{isProc}
 use Rattle.text.specs.Lines.{refusal, formsOf, unreadableLine, lineOf}
 use Rattle.semantics.specs.Plan.{LockPlan}
 use Rattle.semantics.specs.CallMasks.{reaches}
-use Rattle.semantics.specs.Sizes.{sizeOf}
+use Rattle.semantics.specs.Sizes.{sizeOf, threadSizes}
 use Rattle.semantics.specs.Pairs.{pairList}
 use Rattle.plan.specs.Grammar.{planIn}
 use Rattle.plan.specs.Structure.{misplacedForm}
@@ -51,7 +51,7 @@ referencesRefusal fs = orElse (refusedAt 6 (breakingForm 6 fs)) (orElse (refused
 unfoldable pub grammarRefusal : List Form → Option Refusal
 grammarRefusal fs = orElse (refusedAt 4 (misplacedForm fs)) (orElse (refusedAt 5 (pastLimitForm fs)) (referencesRefusal fs))
 
--- the plan of a text that no rule refuses
+-- the plan of a text that the rules up to 8 let pass
 unfoldable pub planOf : List ℕ → LockPlan
 planOf text = planIn (formsOf text)
 
@@ -86,11 +86,11 @@ tooLarge fs = procRefusal 9 fs (λ p. ltb maxSize (sizeOf (planIn fs .procs) p))
 unfoldable pub tooManyPairs : List Form → Option Refusal
 tooManyPairs fs = procRefusal 10 fs (λ p. ltb maxPairs (length (pairList (planIn fs .procs) p)))
 
--- rules 12, 9 and 10, of the forms of a plan: 12 "follows rule 8"
+-- rules 12 and 9, of the forms of a plan: 12 "follows rule 8"
 abbrev pub procsRefusal : List Form → Option Refusal
-procsRefusal fs = orElse (recursive fs) (orElse (tooLarge fs) (tooManyPairs fs))
+procsRefusal fs = orElse (recursive fs) (tooLarge fs)
 
--- the rules over the forms: 4 to 8, 12, 9, 10
+-- the rules over the forms up to and with 9: 4 to 8, 12, 9
 unfoldable pub formsRefusal : List Form → Option Refusal
 formsRefusal fs = orElse (grammarRefusal fs) (procsRefusal fs)
 
@@ -103,15 +103,23 @@ abbrev pub inFile : List ℕ → Option Refusal → Option Refusal
 inFile text none = none
 inFile text (some x) = some (refusalInFile text x)
 
--- the plan's rules: 2 to 8, 12, 9, 10
+-- 02, change 4: "every rule on it up to and with 9, in checking order": 2 to 8, 12, 9
+unfoldable pub sizesRefusal : List ℕ → Option Refusal
+sizesRefusal text = orElse (linesRefusal text) (inFile text (formsRefusal (formsOf text)))
+
+-- the plan's rules: these, then 10
 unfoldable pub planRefusal : List ℕ → Option Refusal
-planRefusal text = orElse (linesRefusal text) (inFile text (formsRefusal (formsOf text)))
+planRefusal text = orElse (sizesRefusal text) (inFile text (tooManyPairs (formsOf text)))
 
--- the verdict's: 1, "The lent buffer is shorter than 6,144 entries for a schedule", then the plan's
+-- 1, by 02, change 4: "for schedules rule 1 now means fewer entries than this sum", that of the threads' sizes
+unfoldable pub tooFewEntries : LockPlan → ℕ → Option Refusal
+tooFewEntries plan lent = refusedIf 1 (ltb lent (threadSizes plan))
+
+-- the verdict's: the plan's, then 1, which "moves to just after rule 10"
 unfoldable pub verdictRefusal : List ℕ → ℕ → Option Refusal
-verdictRefusal text lent = orElse (refusedIf 1 (ltb lent maxEntries)) (planRefusal text)
+verdictRefusal text lent = orElse (planRefusal text) (tooFewEntries (planOf text) lent)
 
--- the pair list's: 1, ".. or 128 words for pairs", then the plan's, then 11, "The pairs of a procedure that is not there are requested (line 0)."
+-- the pair list's: 1, "shorter than .. 128 words for pairs", then the plan's, then 11, "The pairs of a procedure that is not there are requested (line 0)."
 unfoldable pub pairsRefusal : List ℕ → ℕ → ℕ → Option Refusal
 pairsRefusal text p lent = orElse (refusedIf 1 (ltb lent maxPairs)) (orElse (planRefusal text) (refusedIf 11 (leb (length (planOf text .procs)) p)))
 

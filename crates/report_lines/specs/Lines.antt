@@ -1,10 +1,12 @@
--- The lines of the report, byte for byte. 01, "The report".
+-- The lines of the report, byte for byte, and what the other programs print of a refused text. 01, "The report".
 use Prim.Native.Nat.{ℕ, zero, suc, _+_, _*_, _/_, _%_}
 use mathlib.Core.Bool.{cond}
 use mathlib.Core.List.{List, [], _∷_, _++_}
+use mathlib.Core.Option.{Option, none, some}
 use lib.Dec.{ltb}
 use Rattle.laws.specs.Bytes.{bytes}
 use Rattle.laws.specs.Mask.{inMask}
+use Rattle.text.specs.declared.Refusal.{Refusal}
 
 -- "Numbers in plan texts are decimal", and so are those of the report, as case B has them: the digits of n, highest first, without a leading zero, if there are no more than k
 unfoldable pub digitsIn : ℕ → ℕ → List ℕ
@@ -48,6 +50,11 @@ procOpen p = bytes "(proc " ++ digits p ++ bytes "\n"
 -- "`(refused R L)` (rule, line)"
 unfoldable pub refusedLine : ℕ → ℕ → List ℕ
 refusedLine r l = bytes "(refused " ++ digits r ++ (bytes " " ++ digits l) ++ bytes ")\n"
+
+-- what the programs `tidy` and `slip` print of a text: what is given, and of a refused text `(refused R L)` alone
+abbrev pub unlessRefused : Option Refusal → List ℕ → List ℕ
+unlessRefused none given = given
+unlessRefused (some x) given = refusedLine (x .rule) (x .line)
 
 -- "A pair line is `(pair L` with the wanted lock. The held locks follow, lowest number first": the pair has the wanted lock in its 5 lowest bits, the mask of the
 -- held locks above them

@@ -6,17 +6,20 @@ use mathlib.Core.List.{List}
 use mathlib.Core.Option.{Option, none, Option·none-ne-some}
 use lib.ListN.{length, take, length-take}
 use lib.Seq.{length-take-le, take-at}
-use Rattle.limits.specs.Limits.{maxForms}
+use Rattle.limits.specs.Limits.{maxForms, maxEntries}
 use Rattle.semantics.specs.Plan.{LockPlan}
+use Rattle.semantics.specs.Sizes.{threadSizes}
 use Rattle.plan.specs.declared.Reading.{Reading}
 use Rattle.plan.specs.declared.Reading.the-variants.{Accepted}
 use Rattle.plan.specs.declared.Reading.the-variants as plan
 use Rattle.plan.specs.Grammar.{planIn}
 use Rattle.text.specs.declared.Refusal.{Refusal}
 use Rattle.plan.specs.Rules.{planRefusal, planOf, Tabled}
-use Rattle.plan.specs.Settled.{tablePlan}
+use Rattle.plan.specs.Table.{tableForms}
+use Rattle.plan.specs.Settled.{tablePlan, RulesKept}
 use Rattle.plan.proofs.AcceptedTable.{plan-kept, plan-forms, plan-room, rules-kept}
 use Rattle.plan.proofs.Filling.{refused-is}
+use Rattle.plan.proofs.WithinSize.{sum-within}
 use Rattle.deadlock.specs.Findings.{TableJudged}
 use Rattle.report_text.specs.declared.Findings.{Findings}
 use Rattle.answers.specs.declared.Verdict.{Verdict}
@@ -32,6 +35,10 @@ unfolding Judgement scheduleIn scheduleLength
 start-taken refused plan Free schedule before d = sym (d .1)
 start-taken refused plan (Deadlock n S) schedule before d = take-at schedule _ n (d .1)
 start-taken refused plan (Refused x) schedule before d = sym (d .1)
+
+-- "The program lends enough, so it never meets rule 1."
+pub entries-enough : (ws entries : List ℕ) → RulesKept ws → maxEntries ≤ length entries → threadSizes (tablePlan ws) ≤ length entries
+entries-enough ws entries w h = omega (arith, sum-within (tableForms ws) (w .plan .settled) (w .sizes))
 
 pub found-judged : (ws before after : List ℕ) (v : Verdict) → TableJudged ws before v after → Judgement none (tablePlan ws) v (scheduleIn v after)
 found-judged ws before after v d = rw (d .buffer, start-taken none (tablePlan ws) v (d .schedule) before (d .judged)) (d .judged)

@@ -13,11 +13,12 @@ use lib.Seq.{drop-length, length-take-le, getD-take, getD-set-same, getD-set-oth
 use Rattle.limits.specs.Limits.{maxSize, maxEntries}
 use Rattle.laws.proofs.Tests.{eq-or-ne}
 use Rattle.laws.proofs.Bits.{bit-none}
+use Rattle.laws.specs.Sums.{total}
+use Rattle.laws.proofs.Sums.{total-lt, total-most, total-at}
 use Rattle.semantics.specs.Plan.{Block}
 use Rattle.semantics.specs.Run.{ThreadState}
 use Rattle.semantics.specs.Joins.{otherThan}
-use Rattle.semantics.specs.Retreat.{total, Paths, GoingBack, othersAt, scanBack, JumpTo}
-use Rattle.semantics.proofs.Ground.Tables.{total-lt, total-at}
+use Rattle.semantics.specs.Retreat.{Paths, GoingBack, othersAt, scanBack, JumpTo}
 use Rattle.semantics.proofs.Retreat.RetreatMoves.{scanned, step-back, jump-back}
 use Rattle.retreat.specs.Paths.{masksOf, choiceAt, InRows, Holding, meeting}
 use Rattle.retreat.specs.Moves.{NoneBelow, FirstBelow, hasStepped, AtStart, stepsLeft, entryOf, State, state, StateFull, OnWayBack}
@@ -131,7 +132,8 @@ falls-within steps f w i b = let le = f .none-higher i b in (omega (arith, w i b
 -- what holds at every turn of the way back, with the entries es
 pub record Going (steps begins : List ℕ) (n : ℕ) (s₀ s : State) (es : List ℕ) : Type 0 where
   pub on-way : OnWayBack steps begins n s
-  pub room : length es + stepsLeft (s .positions) n ≤ maxEntries
+  pub room : length es + stepsLeft (s .positions) n ≤ stepsLeft (s₀ .positions) n
+  pub few : stepsLeft (s₀ .positions) n ≤ maxEntries
   pub retreats : Retreats steps begins n s₀ s es
 
 stepped-at : (positions : List ℕ) (n t : ℕ) → FirstBelow (hasStepped positions) n t → t < n → 0 < getD positions t 0
@@ -162,7 +164,7 @@ module _ (steps begins : List ℕ) (n : ℕ) (s₀ : State) (positions wanted ma
   pub going-less : stepsLeft positions′ n < stepsLeft positions n
   going-less = falls-less falls
 
-  shorter : length es′ + stepsLeft (s′ .positions) n ≤ maxEntries
+  shorter : length es′ + stepsLeft (s′ .positions) n ≤ stepsLeft (s₀ .positions) n
   unfolding Turned
   shorter =
       ⊎-elim (λ (r : SteppedBack steps n s s′ es es′). let e : length es′ ≡ suc (length es) = ap length (r .entries) in omega (arith, g .room, going-less))
@@ -200,6 +202,7 @@ module _ (steps begins : List ℕ) (n : ℕ) (s₀ : State) (positions wanted ma
       record {
         on-way = record { paths = w .paths; beginnings = w .beginnings; few = w .few; in-rows = falls-within steps falls (w .in-rows); sized = sized };
         room = shorter;
+        few = g .few;
         retreats = retreats-on (omega (arith, w .few, sized .positions-full));
       }
 
@@ -208,20 +211,16 @@ pub going-room : (steps begins : List ℕ) (n : ℕ) (s₀ s : State) (entries e
     → FirstBelow (hasStepped (s .positions)) n t → t < n → maxEntries ≤ length entries₀ → length entries ≡ length entries₀ → 0 < d
 unfolding stepsLeft
 going-room steps begins n s₀ s entries entries₀ t d g f b long kept =
-    omega (arith, g .room, length-drop d entries, stepped-at (s .positions) n t f b, total-at n (λ i. getD (s .positions) i 0) t b)
+    omega (arith, g .room, g .few, length-drop d entries, stepped-at (s .positions) n t f b, total-at n (λ i. getD (s .positions) i 0) t b)
 
 -- before the first move
-total-few : (n : ℕ) (j : ℕ → ℕ) → ((t : ℕ) → t < n → j t ≤ maxSize) → total n j ≤ maxSize * n
-unfolding total
-total-few zero j h = omega arith
-total-few (suc n) j h = omega (arith, h 0 (omega arith), total-few n (λ t. j (suc t)) (λ t b. h (suc t) (omega arith)))
-
 pub going-first : (steps begins : List ℕ) (n : ℕ) (s : State) (entries : List ℕ) → OnWayBack steps begins n s → Going steps begins n s s (drop (length entries) entries)
 unfolding stepsLeft InRows
 going-first steps begins n s entries w =
     rw (drop-length entries) (record {
       on-way = w;
-      room = omega (arith, w .few, total-few n (λ t. getD (s .positions) t 0) (λ t b. w .in-rows t b .0));
+      room = omega arith;
+      few = omega (arith, w .few, total-most n maxSize (λ t. getD (s .positions) t 0) (λ t b. w .in-rows t b .0));
       retreats = record { leads = λ ps ns P x bound e chosen paths g. g };
     })
 

@@ -13,12 +13,13 @@ use Rattle.limits.specs.Limits.{maxThreads, lockCount, maskSize, maxSize, maxEn
 use Rattle.laws.specs.Mask.{inMask}
 use Rattle.laws.specs.Wrote.{Wrote}
 use Rattle.laws.proofs.Tests.{search-below}
+use Rattle.laws.specs.Sums.{total}
 use Rattle.semantics.specs.Plan.{Block, done, hold, _⨾_, bodyIn, LockPlan, Plain}
 use Rattle.semantics.specs.Run.{ThreadState, thread, initial, unlocked}
-use Rattle.semantics.specs.Sizes.{sizeOf, threadSizes}
+use Rattle.semantics.specs.Sizes.{sizeOf, threadSize, threadSizes}
 use Rattle.semantics.specs.Stuck.{Schedule}
 use Rattle.semantics.specs.Pairs.{held, heldOf, wantedOf}
-use Rattle.semantics.specs.Retreat.{total, heldMask, Paths, GoingBack}
+use Rattle.semantics.specs.Retreat.{heldMask, Paths, GoingBack}
 use Rattle.semantics.proofs.Ground.LockSets.{held-lt}
 use Rattle.semantics.proofs.Thread.Remainders.{plain-body}
 use Rattle.semantics.proofs.Thread.Balance.{balanced-plain}
@@ -30,7 +31,7 @@ use Rattle.semantics.proofs.Analysis.Paths.{stands-first, stands-last, stands-m
 use Rattle.semantics.proofs.Retreat.RetreatMoves.{paths-of, AtCycle, cycle-target, finished, finished-schedule, paths-short}
 use Rattle.retreat.specs.declared.Targets.{Targets}
 use Rattle.retreat.specs.Paths.{rowStart, pathOf, masksOf, choiceAt, Holding}
-use Rattle.retreat.specs.Moves.{AtStart, State, state, Retreats, WentBack}
+use Rattle.retreat.specs.Moves.{AtStart, stepsLeft, State, state, Retreats, WentBack}
 use Rattle.retreat.specs.Answer.{TargetsFit, Right, Scheduled}
 use Rattle.retreat.proofs.HeldLocks.{within-at}
 
@@ -83,8 +84,8 @@ leads-nowhere ps p path e =
 
 -- ---- what is right for a plan and a cycle of its threads
 
-module _ (plan : LockPlan) (vss : List (List ℕ)) (k : ℕ) (threadOf pair : ℕ → ℕ) (steps : List ℕ) (targets : Targets) (masks : List ℕ)
-    (r : Right plan vss k threadOf pair steps targets) (fit : TargetsFit steps targets) (h : Holding steps (targets .positions) masks (targets .threads)) where
+module _ (plan : LockPlan) (vss : List (List ℕ)) (k : ℕ) (threadOf pair : ℕ → ℕ) (steps : List ℕ) (targets : Targets)
+    (r : Right plan vss k threadOf pair steps targets) (fit : TargetsFit steps targets) where
   abbrev ps : List Block
   ps = plan .procs
 
@@ -172,39 +173,46 @@ module _ (plan : LockPlan) (vss : List (List ℕ)) (k : ℕ) (threadOf pair : �
   member-holds : (i : ℕ) (b : i < k) → held ((r .path i b) .count) ≡ heldOf (pair i)
   member-holds i b = let f = r .path i b in omega (arith, f .pair, f .small)
 
-  at-cycle : AtCycle n s (masksOf steps) (targets .begins) k threadOf pair first-at (targets .wanted) masks
-  unfolding Holding
-  at-cycle = record {
-    size = length-take-le n lens (omega (arith, few, fit .full .positions-full));
-    present = present;
-    stands = λ i b. let f = r .path i b in
-        (f .inside, f .following, ap (λ x. x .rest) (member-ends i b) ∙ ap (λ l. hold l (f .inside) (f .following)) (member-wants i b));
-    holds = λ i b. let c = present i b in
-        table-masks (threadOf i) (getD first-at (threadOf i) 0) c (inside (threadOf i) c) ∙ ap heldMask (member-ends i b) ∙ member-holds i b;
-    wants = r .wants;
-    others = λ t b f. let q = r .others t (below t b) f in (at t b ∙ q .0, q .1);
-    mask = λ t b. h t (below t b) ∙ ap (λ j. getD (masksOf steps t) j 0) (sym (at t b));
-  }
+  -- no path is longer than its thread's size, so that together they ask for no more steps than a schedule may have
+  within : (t : ℕ) → t < n → getD lens t 0 ≤ threadSize plan t
+  unfolding threadSize
+  within t b = ⊎-elim
+      (λ (q : (i : ℕ) × (i < k) × (threadOf i ≡ t)). subst (λ u. getD lens u 0 ≤ sizeOf ps (procAt u)) (q .2) (r .short (q .0) (q .1)))
+      (λ (q : (i : ℕ) → i < k → threadOf i ≢ t). omega (arith, r .others t (below t b) q .0))
+      (member-or t)
 
-  short : total n (λ t. getD first-at t 0) ≤ threadSizes plan
-  short = paths-short plan first-at (λ t b. ⊎-elim
-      (λ (q : (i : ℕ) × (i < k) × (threadOf i ≡ t)).
-      rw (at t b) (subst (λ u. getD lens u 0 ≤ sizeOf ps (procAt u)) (q .2) (r .short (q .0) (q .1))))
-      (λ (q : (i : ℕ) → i < k → threadOf i ≢ t). omega (arith, at t b, r .others t (below t b) q .0))
-      (member-or t))
+  pub targets-short : stepsLeft lens (targets .threads) ≤ threadSizes plan
+  unfolding stepsLeft
+  targets-short = rw (r .all) (paths-short plan lens within)
 
-  first : GoingBack ps n P s (threadSizes plan) first-at [] (targets .wanted) masks
-  first = cycle-target paths (r .cycle) at-cycle inside (threadSizes plan) short
+  -- with what the threads hold at the paths' ends
+  module _ (masks : List ℕ) (h : Holding steps lens masks (targets .threads)) where
+    at-cycle : AtCycle n s (masksOf steps) (targets .begins) k threadOf pair first-at (targets .wanted) masks
+    unfolding Holding
+    at-cycle = record {
+      size = length-take-le n lens (omega (arith, few, fit .full .positions-full));
+      present = present;
+      stands = λ i b. let f = r .path i b in
+          (f .inside, f .following, ap (λ x. x .rest) (member-ends i b) ∙ ap (λ l. hold l (f .inside) (f .following)) (member-wants i b));
+      holds = λ i b. let c = present i b in
+          table-masks (threadOf i) (getD first-at (threadOf i) 0) c (inside (threadOf i) c) ∙ ap heldMask (member-ends i b) ∙ member-holds i b;
+      wants = r .wants;
+      others = λ t b f. let q = r .others t (below t b) f in (at t b ∙ q .0, q .1);
+      mask = λ t b. h t (below t b) ∙ ap (λ j. getD (masksOf steps t) j 0) (sym (at t b));
+    }
 
-  -- what the way back to the start ends with
-  ended : (last : State) (es : List ℕ) → Retreats steps (targets .begins) (targets .threads) (state lens (targets .wanted) masks) last es
-      → AtStart (last .positions) (targets .threads) → Schedule plan es (inMask (stuckRounds (targets .threads) (targets .threads) (last .wanted) (last .masks)))
-  unfolding AtStart
-  ended last es b z =
-      let e = r .all in
-      let g = b .leads ps (plan .threads) P s (threadSizes plan) (sym e)
-      (λ t j c l. let d : t < n = omega (arith, e) in path-choice steps lens t (fit .paths) (omega (arith, few)) (in-row t d) j l) paths (rw e first) in
-      rw e (finished-schedule plan (r .ranks .rank) (r .ranks .sound) (finished paths g (λ t c. getD-take (targets .threads) (last .positions) t 0 (below t c) ∙ z t (below t c))))
+    first : GoingBack ps n P s (threadSizes plan) first-at [] (targets .wanted) masks
+    first = cycle-target paths (r .cycle) at-cycle inside (threadSizes plan) (paths-short plan first-at (λ t b. rw (at t b) (within t b)))
+
+    -- what the way back to the start ends with
+    ended : (last : State) (es : List ℕ) → Retreats steps (targets .begins) (targets .threads) (state lens (targets .wanted) masks) last es
+        → AtStart (last .positions) (targets .threads) → Schedule plan es (inMask (stuckRounds (targets .threads) (targets .threads) (last .wanted) (last .masks)))
+    unfolding AtStart
+    ended last es b z =
+        let e = r .all in
+        let g = b .leads ps (plan .threads) P s (threadSizes plan) (sym e)
+        (λ t j c l. let d : t < n = omega (arith, e) in path-choice steps lens t (fit .paths) (omega (arith, few)) (in-row t d) j l) paths (rw e first) in
+        rw e (finished-schedule plan (r .ranks .rank) (r .ranks .sound) (finished paths g (λ t c. getD-take (targets .threads) (last .positions) t 0 (below t c) ∙ z t (below t c))))
 
 -- the entries from a place on to the end, as a part of the table
 rest-of : (table : List ℕ) (d : ℕ) → take (length table - d) (drop d table) ≡ drop d table
@@ -225,6 +233,6 @@ pub scheduled : (steps : List ℕ) (targets : Targets) (masks : List ℕ) (last 
     → Scheduled steps targets before count stuck after
 scheduled steps targets masks last es before after count stuck fit h went wrote e = record {
   entries = es;
-  schedule = λ plan vss k threadOf pair r. rw e (ended plan vss k threadOf pair steps targets masks r fit h last es (went .retreats) (went .ended));
+  schedule = λ plan vss k threadOf pair r. rw e (ended plan vss k threadOf pair steps targets r fit masks h last es (went .retreats) (went .ended));
   wrote = wrote;
 }

@@ -8,9 +8,10 @@ use mathlib.Core.Path.{_≡_}
 use lib.Dec.{ltb}
 use lib.ListN.{length, getD, set, take}
 use Rattle.limits.specs.Limits.{maxThreads, maxEntries}
+use Rattle.laws.specs.Sums.{total}
 use Rattle.semantics.specs.Plan.{Block}
 use Rattle.semantics.specs.Run.{ThreadState}
-use Rattle.semantics.specs.Retreat.{total, Paths, GoingBack, othersAt, JumpTo}
+use Rattle.semantics.specs.Retreat.{Paths, GoingBack, othersAt, JumpTo}
 use Rattle.retreat.specs.Paths.{masksOf, choiceAt, InRows, Holding, mayGoBack}
 
 -- no number below k passes the test
@@ -96,8 +97,8 @@ pub record Retreats (steps begins : List ℕ) (n : ℕ) (s₀ s : State) (es : L
       → GoingBack ps (length ns) P x bound (take n (s₀ .positions)) [] (s₀ .wanted) (s₀ .masks)
       → GoingBack ps (length ns) P x bound (take n (s .positions)) es (s .wanted) (s .masks)
 
--- The way back has come to the start, and there were no more moves than a table of entries has room for.
+-- The way back has come to the start, and there are no more entries than there were steps to go back at first.
 pub record WentBack (steps begins : List ℕ) (n : ℕ) (s₀ s : State) (es : List ℕ) : Type 0 where
-  pub short : length es ≤ maxEntries
+  pub short : length es ≤ stepsLeft (s₀ .positions) n
   pub ended : AtStart (s .positions) n
   pub retreats : Retreats steps begins n s₀ s es

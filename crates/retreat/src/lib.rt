@@ -13,7 +13,7 @@ ghost use Rattle.semantics.specs.Retreat.{scanBack, JumpTo};
 ghost use Rattle.semantics.specs.StuckRounds.{heldByMembers, waitsIn, wanting, stuckRound, stuckRounds};
 ghost use Rattle.laws.specs.Wrote.{Wrote};
 ghost use Rattle.retreat.specs.Paths.{masksOf, InRows, Holding, heldByOthers, mayGoBack, NoneMayGoBack, Standing};
-ghost use Rattle.retreat.specs.Moves.{FirstBelow, hasStepped, entryOf, Landed, state, OnWayBack, Turned, WentBack};
+ghost use Rattle.retreat.specs.Moves.{FirstBelow, hasStepped, stepsLeft, entryOf, Landed, state, OnWayBack, Turned, WentBack};
 ghost use Rattle.retreat.specs.Answer.{TargetsFit, Scheduled};
 use limits::MAX_ENTRIES;
 use limits::MAX_SIZE;
@@ -435,7 +435,7 @@ fn finish(
 
 // The schedule, with the table that it is made in.
 fn schedule_with(steps: &[u64], targets: Targets, table: &mut [u16], entries: &mut [u16]) -> Outcome
-    requires { ⌜ TargetsFit (now steps) targets × (maxEntries ≤ length (now table)) × (maxEntries ≤ length (now entries)) ⌝ }
+    requires { ⌜ TargetsFit (now steps) targets × (maxEntries ≤ length (now table)) × (stepsLeft (targets .positions) (targets .threads) ≤ length (now entries)) ⌝ }
     ensures { λ r. ⌜ Scheduled (now (steps .entry)) targets (now (entries .entry)) (r .entries) (r .stuck) (now (entries .exit)) ⌝ }
 {
     let n = targets.threads;
@@ -457,9 +457,10 @@ fn schedule_with(steps: &[u64], targets: Targets, table: &mut [u16], entries: &m
 }
 
 // A schedule to a deadlock, from the paths of a cycle's threads to their pairs. The path of thread t is positions[t] numbers of `steps` from MAX_SIZE × t on,
-// each the choice of a step plus 4 × the mask of the locks held after it. The schedule fills the start of `entries`, and the rest is kept.
+// each the choice of a step plus 4 × the mask of the locks held after it. The schedule fills the start of `entries`, which has room for as many steps as
+// the paths have together, and the rest is kept.
 pub fn schedule(steps: &[u64], targets: Targets, entries: &mut [u16]) -> Outcome
-    requires { ⌜ TargetsFit (now steps) targets × (maxEntries ≤ length (now entries)) ⌝ }
+    requires { ⌜ TargetsFit (now steps) targets × (stepsLeft (targets .positions) (targets .threads) ≤ length (now entries)) ⌝ }
     ensures { λ r. ⌜ Scheduled (now (steps .entry)) targets (now (entries .entry)) (r .entries) (r .stuck) (now (entries .exit)) ⌝ }
 {
     let mut table = [0u16; MAX_ENTRIES];

@@ -9,6 +9,7 @@ use lib.ListN.{length, getD}
 use lib.Dec.{T}
 use lib.Bits.{bitAnd}
 use Rattle.laws.specs.Mask.{bit, inMask}
+use Rattle.laws.specs.Sums.{total}
 use Rattle.semantics.specs.Plan.{Plain, Block, bodyIn}
 use Rattle.semantics.specs.Run.{ThreadState, initial, apart, everyone, run}
 use Rattle.semantics.specs.Stuck.{Stuck}
@@ -21,11 +22,6 @@ use Rattle.semantics.specs.StuckRounds.{firstWanted, WantedAt}
 unfoldable pub table : ℕ → (ℕ → ThreadState) → List ThreadState
 table zero f = []
 table (suc n) f = f 0 ∷ table n (λ i. f (suc i))
-
--- the sum of j 0, j 1, .. j (n - 1)
-unfoldable pub total : ℕ → (ℕ → ℕ) → ℕ
-total zero j = 0
-total (suc n) j = j 0 + total n (λ i. j (suc i))
 
 -- the moment with thread i < n at position j i of its execution s i: "An arbitrary concurrent configuration given by an interleaving from these n executions"
 abbrev pub joint : ℕ → (ℕ → ℕ → ThreadState) → (ℕ → ℕ) → List ThreadState

@@ -1,8 +1,9 @@
 -- Sizes. 01, "The plan text": "The size of a statement is 1 for skip, 1 plus the callee's size for call, 2 plus the block for hold and loop, 1 plus both blocks for
 -- either. A block's size is the sum of its statements, a procedure's that of its block."
 use Prim.Native.Nat.{ℕ, _+_}
-use mathlib.Core.List.{List, [], _∷_}
-use lib.ListN.{length}
+use mathlib.Core.List.{List}
+use lib.ListN.{length, getD}
+use Rattle.laws.specs.Sums.{total}
 use Rattle.semantics.specs.Plan.{Block, done, skip, call, hold, loop, either, end, bodyIn, LockPlan}
 
 -- the size of a block, where s p is that of procedure p. `end`, in a remainder, is the second half of a hold
@@ -25,11 +26,10 @@ sizeAt (ℕ.suc d) ps p = sizeWith (sizeAt d ps) (bodyIn ps p)
 unfoldable pub sizeOf : List Block → ℕ → ℕ
 sizeOf ps p = sizeAt (length ps) ps p
 
--- the sum of the sizes of the procedures ns, where calls go less than d deep
-unfoldable pub sizes : ℕ → List Block → List ℕ → ℕ
-sizes d ps [] = 0
-sizes d ps (n ∷ ns) = sizeAt d ps n + sizes d ps ns
+-- the size of thread t of a plan: that of its procedure
+unfoldable pub threadSize : LockPlan → ℕ → ℕ
+threadSize plan t = sizeOf (plan .procs) (getD (plan .threads) t 0)
 
 -- "the sum of its threads' sizes", over all threads of the plan
 unfoldable pub threadSizes : LockPlan → ℕ
-threadSizes plan = sizes (length (plan .procs)) (plan .procs) (plan .threads)
+threadSizes plan = total (length (plan .threads)) (threadSize plan)

@@ -4,13 +4,16 @@ use mathlib.Core.List.{List}
 use mathlib.Core.Path.{_≡_}
 use lib.Dec.{T}
 use lib.ListN.{length, getD}
-use Rattle.limits.specs.Limits.{sizeRoom}
+use Rattle.limits.specs.Limits.{maxThreads, sizeRoom}
 use Rattle.laws.specs.Mask.{inMask}
+use Rattle.laws.specs.Sums.{total}
 use Rattle.semantics.specs.Plan.{Ranks}
 use Rattle.semantics.specs.Sizes.{sizeOf}
 use Rattle.plan.specs.Settled.{PlanTable, tablePlan}
 use Rattle.plan.specs.Starts.{Starts}
 use Rattle.reach.specs.Reached.{ReachTable}
+use Rattle.sizes.specs.declared.Space.{Space}
+use Rattle.sizes.specs.Passes.{knownSize}
 
 -- of each procedure of a table of forms the size, cut off at one more than rule 9 allows
 pub record Sized (ws sizes : List ℕ) : Type 0 where
@@ -38,3 +41,14 @@ pub record FoundAt (mask p before after : ℕ) : Type 0 where
 pub record FoundRound (masks : List ℕ) (n before after : ℕ) : Type 0 where
   pub kept : (q : ℕ) → T (inMask before q) → T (inMask after q)
   pub here : (p : ℕ) → p < n → ((q : ℕ) → T (inMask (getD masks p 0) q) → T (inMask before q)) → T (inMask after p)
+
+-- none of the sizes that a table has of n threads is above the cut
+pub record ThreadsCut (runs : List ℕ) (n : ℕ) (sizes : List ℕ) : Type 0 where
+  pub cut : (t : ℕ) → t < n → knownSize sizes (getD runs t 0) ≤ sizeRoom
+
+-- the sizes of n procedures, of which the table `runs` has the numbers, and their sum
+pub record Summed (runs : List ℕ) (n : ℕ) (sizes : List ℕ) (s : Space) : Type 0 where
+  pub full : maxThreads ≡ length (s .each)
+  pub threads : s .threads ≡ n
+  pub each : (t : ℕ) → t < n → getD (s .each) t 0 ≡ knownSize sizes (getD runs t 0)
+  pub sum : s .sum ≡ total n (λ t. knownSize sizes (getD runs t 0))

@@ -1,8 +1,8 @@
-// The sizes of a plan's procedures, and rule 9.
+// The sizes of a plan's procedures, rule 9, and the space that a schedule of the plan needs.
 ghost use mathlib.Core.Path.{_≡_};
 ghost use Prim.Native.Nat.{_+_, _≤_, _<_, min};
 ghost use lib.ListN.{length, getD};
-ghost use Rattle.limits.specs.Limits.{maxProcs, sizeRoom};
+ghost use Rattle.limits.specs.Limits.{maxProcs, maxThreads, sizeRoom};
 ghost use Rattle.semantics.specs.Plan.{Ranks};
 ghost use Rattle.plan.specs.Table.{tableForms};
 ghost use Rattle.plan.specs.Settled.{PlanTable, tablePlan};
@@ -11,9 +11,11 @@ ghost use Rattle.plan.specs.Rules.{tooLarge, readingOf};
 ghost use Rattle.procs.specs.Laid.{Laid};
 ghost use Rattle.reach.specs.Reached.{ReachTable};
 ghost use Rattle.sizes.specs.Passes.{costOf, knownSize, sizeFrom};
-ghost use Rattle.sizes.specs.Sized.{SizesAsked, SizesFound, FoundAt, FoundRound, Sized};
+ghost use Rattle.sizes.specs.Sized.{SizesAsked, SizesFound, FoundAt, FoundRound, Sized, ThreadsCut, Summed};
+ghost use Rattle.sizes.specs.Space.{ChecksSizes};
 use limits::MAX_PROCS;
 use limits::MAX_SIZE;
+use limits::MAX_THREADS;
 use limits::SIZE_ROOM;
 use plan::Reading;
 use procs::Layout;
@@ -24,6 +26,19 @@ use text::Refusal;
 const LARGEST: u64 = MAX_SIZE as u64;
 
 const CAP: u64 = SIZE_ROOM as u64;
+
+// The space that a schedule needs: how many threads there are, the size of each one's procedure, and their sum.
+pub struct Space {
+    pub threads: usize,
+    pub each: [u64; MAX_THREADS],
+    pub sum: usize,
+}
+
+// The reading by rule 9, and the space of a plan that keeps it.
+pub struct CheckedSizes {
+    pub reading: Reading,
+    pub space: Space,
+}
 
 // A sum, cut off at SIZE_ROOM.
 fn add_capped(a: u64, b: u64) -> u64
@@ -151,14 +166,36 @@ fn check_table(table: &[u64], starts: &[u64], procs: usize, sizes: &[u64]) -> Re
     Reading::Accepted(table.len())
 }
 
-// Rule 9: the `(proc` of the lowest procedure whose size exceeds MAX_SIZE, where it is known what each procedure reaches.
-pub fn check_sizes(table: &[u64], layout: Layout, masks: &[u64]) -> Reading
+// The size of each thread's procedure, by the table of sizes, and their sum.
+fn thread_space(runs: &[u64], threads: usize, sizes: &[u64]) -> Space
+    requires { ⌜ (threads ≤ maxThreads) × (maxThreads ≤ length (now runs)) × ThreadsCut (now runs) threads (now sizes) ⌝ }
+    ensures { λ r. ⌜ Summed (now (runs .entry)) threads (now (sizes .entry)) r ⌝ }
+{
+    let mut each = [0u64; MAX_THREADS];
+    let mut sum: usize = 0;
+    let mut t: usize = 0;
+    while t < threads {
+        let size = known_size(sizes, runs[t] as usize);
+        each[t] = size;
+        sum += size as usize;
+        t += 1;
+    }
+    Space { threads, each, sum }
+}
+
+// Rule 9: the `(proc` of the lowest procedure whose size exceeds MAX_SIZE, where it is known what each procedure reaches; and the space that the plan needs.
+pub fn check_sizes(table: &[u64], layout: Layout, masks: &[u64]) -> CheckedSizes
     requires { ⌜ PlanTable (now table) × Laid (now table) layout × ReachTable (now table) (now masks) × Ranks (tablePlan (now table) .procs) ⌝ }
-    ensures { λ r. ⌜ r ≡ readingOf (tooLarge (tableForms (now (table .entry)))) (length (now (table .entry))) ⌝ }
+    ensures { λ r. ⌜ ChecksSizes (now (table .entry)) r ⌝ }
 {
     let procs = layout.procs;
     let starts = layout.starts;
+    let runs = layout.runs;
     let mut sizes = [0u64; MAX_PROCS];
     find_sizes(table, &starts, masks, procs, &mut sizes);
-    check_table(table, &starts, procs, &sizes)
+    let reading = check_table(table, &starts, procs, &sizes);
+    CheckedSizes {
+        reading,
+        space: thread_space(&runs, layout.threads, &sizes),
+    }
 }

@@ -1,4 +1,5 @@
-// The standard streams of a program: a text read from standard input, and printed to standard output the report on a text, part by part, or its tidy copy.
+// The standard streams of a program: a text read from standard input, and printed to standard output the report on a text, part by part, its tidy copy, or the
+// slip of the space that it needs.
 ghost use Prim.Native.Nat.{_≤_};
 ghost use mathlib.Core.Bool.{true};
 ghost use mathlib.Core.Path.{_≡_};
@@ -13,6 +14,7 @@ use limits::MAX_FORMS;
 use report_text::Findings;
 use report_text::MOST_PARTS;
 use report_text::PART_ROOM;
+use space::SLIP_ROOM;
 
 // The room for a text that is read: rule 2 needs one byte more than its limit.
 pub const TEXT_ROOM: usize = MAX_BYTES + 1;
@@ -78,6 +80,13 @@ pub fn print_report(text: &[u8]) -> bool {
 pub fn print_tidy(text: &[u8]) -> bool {
     let mut out = [0u8; MAX_BYTES];
     let n = tidy_text::put_printed(text, &mut out);
+    io::write_all(1, &out[0..n])
+}
+
+// The slip of the space that a text's plan needs, or the line of its refusal: whether all of it was written.
+pub fn print_slip(text: &[u8]) -> bool {
+    let mut out = [0u8; SLIP_ROOM];
+    let n = space::put_slip(text, &mut out);
     io::write_all(1, &out[0..n])
 }
 

@@ -84,11 +84,7 @@ module _ (plan : LockPlan) (x : Settled plan) where
   bare-accepted h acyclic large many =
       let e : formsOf (bareText plan) ≡ forms plan = bare-read .0 in
       rules-accepted (bareText plan) (record {
-        short = h;
-        readable = bare-read .1;
-        formed = rw e (settled-accepted plan x);
-        acyclic = rw e acyclic;
-        sizes = rw e large;
+        sized = record { short = h; readable = bare-read .1; formed = rw e (settled-accepted plan x); acyclic = rw e acyclic; sizes = rw e large };
         pairs = rw e many;
       })
 

@@ -21,10 +21,11 @@ use Rattle.plan.specs.Table.{tableForms}
 use Rattle.plan.specs.Rules.{refusedIf, planRefusal, tidyRefusal, Tabled}
 use Rattle.plan.proofs.Filling.{refused-is}
 use Rattle.plan.proofs.AcceptedTable.{plan-kept, plan-forms, plan-table}
-use Rattle.answers.specs.declared.Copied.{Copied}
-use Rattle.answers.specs.declared.Copied.the-variants.{Bytes, Refused}
-use Rattle.answers.specs.Answers.{copiedOf, copiedNumber, copiedHigh}
-use Rattle.answers.proofs.LineBounds.{Numbers, copy-bounded}
+use Rattle.answers.specs.declared.Counted.{Counted}
+use Rattle.answers.specs.declared.Counted.the-variants.{Count, Refused}
+use Rattle.answers.specs.Answers.{countedOf, countedNumber, countedHigh}
+use Rattle.answers.proofs.LineBounds.{copy-bounded}
+use Rattle.answers.proofs.Counts.{counted-refused, counted-kept, counted-carried}
 use Rattle.report_lines.specs.Lines.{refusedLine}
 use Rattle.tidy_text.specs.Tidy.{tidyOf, Tidied, TidiedNumber, printedCopy}
 use Rattle.tidy_text.specs.Writing.{SmallTable}
@@ -32,7 +33,7 @@ use Rattle.tidy_text.proofs.Tidy.{tidy-forms, tidy-fits, table-small}
 
 module _ (text before : List ℕ) where
   refused-copy : (x : Refusal) → tidyRefusal text (length before) ≡ some x → Tidied text before (Refused x) before
-  unfolding copiedOf
+  unfolding countedOf
   refused-copy x e = record { answer = rw e; output = rw e }
 
   pub copy-short : length before < maxBytes → Tidied text before (Refused (refusal 1 0)) before
@@ -61,8 +62,8 @@ module _ (text before : List ℕ) where
       pub copy-room : length (textOf (tableForms (take (n - 0) table))) ≤ length before
       copy-room = omega (arith, ap length table-text, tidy-fits text accepted)
 
-      pub copy-written : (after : List ℕ) (k : ℕ) → Wrote before after 0 k (textOf (tableForms (take (n - 0) table))) → Tidied text before (Bytes k) after
-      unfolding copiedOf
+      pub copy-written : (after : List ℕ) (k : ℕ) → Wrote before after 0 k (textOf (tableForms (take (n - 0) table))) → Tidied text before (Count k) after
+      unfolding countedOf
       copy-written after k w =
           let z : tidyRefusal text (length before) ≡ none = plan-rules h ∙ accepted in
           let c : k ≡ length (tidyOf text) = omega (arith, w .place, ap length table-text) in
@@ -70,24 +71,14 @@ module _ (text before : List ℕ) where
 
 -- ---- what the program prints
 
-module _ (text before : List ℕ) (r : Copied) (after : List ℕ) (t : Tidied text before r after) (h : maxBytes ≤ length before) where
-  by-plan : r ≡ copiedOf (planRefusal text) (length (tidyOf text))
+module _ (text before : List ℕ) (r : Counted) (after : List ℕ) (t : Tidied text before r after) (h : maxBytes ≤ length before) where
+  by-plan : r ≡ countedOf (planRefusal text) (length (tidyOf text))
   by-plan = rw (plan-rules text before h) at (t .answer)
 
-  copy-kept : (o : Option Refusal) (m n : ℕ) → r ≡ copiedOf o m → r ≡ Bytes n → (o ≡ none) × (n ≡ m)
-  unfolding copiedOf
-  copy-kept none m n e g = (refl, cc)
-  copy-kept (some w) m n e g = let z : _≡_ {A = ℕ} 0 1 = cc in absurd (omega arith)
-
-  copy-refusal : (o : Option Refusal) (m : ℕ) (x : Refusal) → r ≡ copiedOf o m → r ≡ Refused x → o ≡ some x
-  unfolding copiedOf
-  copy-refusal none m x e g = let z : _≡_ {A = ℕ} 0 1 = cc in absurd (omega arith)
-  copy-refusal (some w) m x e g = let k : w ≡ x = cc in ap {B = Option Refusal} some k
-
-  pub printed-copy : (n : ℕ) → r ≡ Bytes n → Wrote before after 0 n (printedCopy text)
+  pub printed-copy : (n : ℕ) → r ≡ Count n → Wrote before after 0 n (printedCopy text)
   unfolding printedCopy
   printed-copy n g =
-      let k = copy-kept (planRefusal text) (length (tidyOf text)) n by-plan g in
+      let k = counted-kept (planRefusal text) r (length (tidyOf text)) n by-plan g in
       let given : after ≡ filled (tidyOf text) before = rw (plan-rules text before h, k .0) at (t .output) in
       let count : n ≡ length (tidyOf text) = k .1 in
       rw (k .0) (record { place = omega arith; fits = omega (arith, tidy-fits text (k .0)); written = rw count given })
@@ -96,24 +87,20 @@ module _ (text before : List ℕ) (r : Copied) (after : List ℕ) (t : Tidied te
       → Wrote before after₁ 0 n (printedCopy text)
   unfolding printedCopy
   printed-refusal x after₁ n g w =
-      let k = copy-refusal (planRefusal text) (length (tidyOf text)) x by-plan g in
+      let k = counted-refused (planRefusal text) r (length (tidyOf text)) x by-plan g in
       let same : after ≡ before = rw (plan-rules text before h, k) at (t .output) in
       rw (k, ← same) w
 
 -- ---- the answer as a number
 
 -- a copy has at most 32,768 bytes, and a refusal's line is a line of the text or 0
-pub copy-carried : (text before : List ℕ) (r : Copied) (after : List ℕ) → Tidied text before r after → copiedHigh r < 2 ^ 40
-unfolding tidyRefusal copiedOf copiedHigh
-copy-carried text before r after t = go (tidyRefusal text (length before)) (t .answer) fits (copy-bounded text (length before))
+pub copy-carried : (text before : List ℕ) (r : Counted) (after : List ℕ) → Tidied text before r after → countedHigh r < 2 ^ 40
+unfolding tidyRefusal
+copy-carried text before r after t =
+    counted-carried (tidyRefusal text (length before)) r (length (tidyOf text)) (t .answer) (λ e. omega (arith, fits e)) (copy-bounded text (length before))
   where
     fits : tidyRefusal text (length before) ≡ none → length (tidyOf text) ≤ maxBytes
     fits e = tidy-fits text (first-none (refusedIf 1 (ltb (length before) maxBytes)) (planRefusal text) e .1)
 
-    go : (o : Option Refusal) → r ≡ copiedOf o (length (tidyOf text)) → (o ≡ none → length (tidyOf text) ≤ maxBytes)
-        → ((w : Refusal) → o ≡ some w → Numbers w) → copiedHigh r < 2 ^ 40
-    go none e few small = rw e (omega (arith, few refl))
-    go (some w) e few small = rw e (small w refl .line)
-
-pub copy-number : (text before : List ℕ) (r : Copied) (after : List ℕ) (v : ℕ) → Tidied text before r after → v ≡ copiedNumber r → TidiedNumber text before v after
+pub copy-number : (text before : List ℕ) (r : Counted) (after : List ℕ) (v : ℕ) → Tidied text before r after → v ≡ countedNumber r → TidiedNumber text before v after
 copy-number text before r after v t e = record { copied = r; number = e; tidied = t }

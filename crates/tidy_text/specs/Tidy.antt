@@ -1,17 +1,15 @@
 -- The tidy copy of a plan text, and what the call promises. 02, change 1: "We also want a writer that gives any accepted plan in document 01's bare form".
 use Prim.Native.Nat.{ℕ}
 use mathlib.Core.List.{List}
-use mathlib.Core.Option.{Option, none, some}
 use mathlib.Core.Path.{_≡_}
 use lib.ListN.{length}
-use Rattle.text.specs.declared.Refusal.{Refusal}
 use Rattle.text.specs.Lines.{textOf}
 use Rattle.semantics.specs.Plan.{LockPlan}
 use Rattle.plan.specs.Grammar.{forms}
 use Rattle.plan.specs.Rules.{planOf, planRefusal, tidyRefusal}
-use Rattle.report_lines.specs.Lines.{refusedLine}
-use Rattle.answers.specs.declared.Copied.{Copied}
-use Rattle.answers.specs.Answers.{copiedOf, copiedNumber, written}
+use Rattle.report_lines.specs.Lines.{unlessRefused}
+use Rattle.answers.specs.declared.Counted.{Counted}
+use Rattle.answers.specs.Answers.{countedOf, countedNumber, written}
 
 -- a plan "in document 01's bare form": one form a line, no blanks but those of 01, no line that is passed over
 unfoldable pub bareText : LockPlan → List ℕ
@@ -22,20 +20,16 @@ unfoldable pub tidyOf : List ℕ → List ℕ
 tidyOf text = bareText (planOf text)
 
 -- The tidy copy into a lent output: the answer, and the output, which the copy fills from its start on; a refusal writes nothing.
-pub record Tidied (text before : List ℕ) (r : Copied) (after : List ℕ) : Type 0 where
-  pub answer : r ≡ copiedOf (tidyRefusal text (length before)) (length (tidyOf text))
+pub record Tidied (text before : List ℕ) (r : Counted) (after : List ℕ) : Type 0 where
+  pub answer : r ≡ countedOf (tidyRefusal text (length before)) (length (tidyOf text))
   pub output : after ≡ written (tidyRefusal text (length before)) (tidyOf text) before
 
 -- The same with the answer as a number.
 pub record TidiedNumber (text before : List ℕ) (r : ℕ) (after : List ℕ) : Type 0 where
-  pub copied : Copied
-  pub number : r ≡ copiedNumber copied
+  pub copied : Counted
+  pub number : r ≡ countedNumber copied
   pub tidied : Tidied text before copied after
 
 -- What the program prints: the copy of an accepted text, and of a refused one `(refused R L)` alone.
-abbrev pub copyOrRefusal : Option Refusal → List ℕ → List ℕ
-copyOrRefusal none copy = copy
-copyOrRefusal (some x) copy = refusedLine (x .rule) (x .line)
-
 unfoldable pub printedCopy : List ℕ → List ℕ
-printedCopy text = copyOrRefusal (planRefusal text) (tidyOf text)
+printedCopy text = unlessRefused (planRefusal text) (tidyOf text)

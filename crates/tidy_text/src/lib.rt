@@ -11,7 +11,7 @@ ghost use Rattle.plan.specs.Table.{tableForms};
 ghost use Rattle.report_lines.specs.Lines.{digits};
 ghost use Rattle.tidy_text.specs.Tidy.{Tidied, TidiedNumber, printedCopy};
 ghost use Rattle.tidy_text.specs.Writing.{formLine, SmallTable, RoomFor, WroteFrom, opensBlock};
-use answers::Copied;
+use answers::Counted;
 use limits::MAX_BYTES;
 use limits::MAX_FORMS;
 use plan::Reading;
@@ -128,23 +128,23 @@ pub fn write_forms(table: &[u64], out: &mut [u8]) -> usize
 }
 
 // The tidy copy of a text, by way of a table of forms.
-fn copy_forms(text: &[u8], out: &mut [u8], table: &mut [u64]) -> Copied
+fn copy_forms(text: &[u8], out: &mut [u8], table: &mut [u64]) -> Counted
     requires { ⌜ maxForms ≤ length (now table) ⌝ }
     ensures { λ r. ⌜ Tidied (now (text .entry)) (now (out .entry)) r (now (out .exit)) ⌝ }
 {
     if out.len() < MAX_BYTES {
-        return Copied::Refused(Refusal { rule: 1, line: 0 });
+        return Counted::Refused(Refusal { rule: 1, line: 0 });
     }
     let checked = checked::read_text(text, table);
     let reading = checked.reading;
     match reading {
-        Reading::Accepted(n) => Copied::Bytes(write_forms(&table[0..n], out)),
-        Reading::Refused(refusal) => Copied::Refused(refusal),
+        Reading::Accepted(n) => Counted::Count(write_forms(&table[0..n], out)),
+        Reading::Refused(refusal) => Counted::Refused(refusal),
     }
 }
 
 // The same with a table of its own.
-pub fn write_copy(text: &[u8], out: &mut [u8]) -> Copied
+pub fn write_copy(text: &[u8], out: &mut [u8]) -> Counted
     ensures { λ r. ⌜ Tidied (now (text .entry)) (now (out .entry)) r (now (out .exit)) ⌝ }
 {
     let mut table = [0u64; MAX_FORMS];
@@ -156,7 +156,7 @@ pub fn copy_number(text: &[u8], out: &mut [u8]) -> u64
     ensures { λ r. ⌜ TidiedNumber (now (text .entry)) (now (out .entry)) r (now (out .exit)) ⌝ }
 {
     let copied = write_copy(text, out);
-    answers::copied_number(copied)
+    answers::counted_number(copied)
 }
 
 // What the program prints of a text: its tidy copy, or the line of its refusal.
@@ -166,7 +166,7 @@ pub fn put_printed(text: &[u8], out: &mut [u8]) -> usize
 {
     let copied = write_copy(text, out);
     match copied {
-        Copied::Bytes(n) => n,
-        Copied::Refused(refusal) => report_lines::put_refused(out, 0, refusal.rule, refusal.line),
+        Counted::Count(n) => n,
+        Counted::Refused(refusal) => report_lines::put_refused(out, 0, refusal.rule, refusal.line),
     }
 }

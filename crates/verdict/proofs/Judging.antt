@@ -1,74 +1,78 @@
--- The verdict from the plan's rules and the finding over its table, for entries and for bytes.
-use Prim.Native.Nat.{ℕ, _-_, _*_, _/_, _^_, _<_, _≤_}
+-- The verdict from the plan's rules, rule 1 and the finding over the plan's table, for entries and for bytes. A buffer of bytes has its whole entries, of which no schedule needs
+-- more than MAX_ENTRIES (`same-lent`).
+use Prim.Native.Nat.{ℕ, _-_, _*_, _/_, _^_, _<_, _≤_, min}
 use native.Mathlib.Omega.{arith}
 use mathlib.Core.Path.{_≡_, refl, sym, ap, _∙_}
 use mathlib.Core.List.{List, [], _∷_}
-use mathlib.Core.Option.{Option, orElse}
+use mathlib.Core.Logic.{⊎-elim}
+use mathlib.Core.Option.{Option, none, some, orElse}
 use lib.ListN.{length, take, length-take, length-append}
 use lib.Seq.{take-at}
 use borrow.Author.Tests.{lt-ltb, le-ltb}
 use denote.Enum.Declared.{tagOf}
 use types.Run.{OneOf, miss}
 use Rattle.limits.specs.Limits.{maxEntries}
+use Rattle.laws.specs.Wrote.{Wrote}
+use Rattle.laws.proofs.Tests.{lt-or-le}
+use Rattle.laws.proofs.Wrote.{wrote-filled}
 use Rattle.text.specs.Lines.{refusal, formsOf}
 use Rattle.text.specs.declared.Refusal.{Refusal}
 use Rattle.semantics.specs.Plan.{LockPlan}
+use Rattle.semantics.specs.Sizes.{threadSizes}
 use Rattle.plan.specs.declared.Reading.{Reading}
 use Rattle.plan.specs.declared.Reading.the-variants.{Accepted}
 use Rattle.plan.specs.declared.Reading.the-variants as plan
 use Rattle.plan.specs.Grammar.{planIn}
 use Rattle.plan.specs.Settled.{tablePlan}
-use Rattle.plan.specs.Rules.{planOf, planRefusal, verdictRefusal, Tabled}
+use Rattle.plan.specs.Rules.{planOf, planRefusal, tooFewEntries, verdictRefusal, Tabled}
+use Rattle.plan.proofs.AcceptedTable.{plan-kept, plan-forms, plan-within, sizes-sum}
+use Rattle.plan.proofs.Filling.{refused-is}
 use Rattle.buffers.specs.LittleEndian.{listBytes}
-use Rattle.laws.specs.Wrote.{Wrote}
-use Rattle.laws.proofs.Wrote.{wrote-filled}
+use Rattle.sizes.specs.declared.Space.{Space}
+use Rattle.sizes.specs.Space.{SpaceOf}
 use Rattle.deadlock.specs.Findings.{TableJudged}
 use Rattle.answers.specs.declared.Verdict.{Verdict}
 use Rattle.answers.specs.declared.Verdict.the-variants.{Free, Deadlock, Refused}
 use Rattle.answers.specs.Answers.{verdictNumber, verdictHigh}
 use Rattle.answers.specs.Judgement.{Judgement}
-use Rattle.verdict.specs.Judged.{Judged, JudgedBytes}
-use Rattle.plan.proofs.AcceptedTable.{plan-kept, plan-forms}
-use Rattle.plan.proofs.Filling.{refused-is}
 use Rattle.answers.proofs.LineBounds.{verdict-bounded}
 use Rattle.answers.proofs.Verdict.{the-type}
+use Rattle.verdict.specs.Judged.{LentJudged, Judged, JudgedBytes}
+
+-- ---- rule 1
+
+module _ (ws before : List ℕ) where
+  pub lent-short : (sum : ℕ) → sum ≡ threadSizes (tablePlan ws) → length before < sum → LentJudged ws before (Refused (refusal 1 0)) before
+  unfolding Judgement tooFewEntries
+  lent-short sum e h = record { schedule = []; judged = rw (lt-ltb (length before) (threadSizes (tablePlan ws)) (omega arith)) (refl, refl); buffer = refl }
+
+  pub lent-enough : (sum : ℕ) (r : Verdict) (after : List ℕ) → sum ≡ threadSizes (tablePlan ws) → sum ≤ length before → TableJudged ws before r after → LentJudged ws before r after
+  unfolding tooFewEntries
+  lent-enough sum r after e h d =
+      record { schedule = d .schedule; judged = rw (le-ltb (length before) (threadSizes (tablePlan ws)) (omega arith)) (d .judged); buffer = d .buffer }
 
 -- ---- entries
 
-pub judged-short : (text before : List ℕ) → length before < maxEntries → Judged text before (Refused (refusal 1 0)) before
+pub judged-refused : (text before table : List ℕ) (x : Refusal) (q : Reading) → Tabled (planRefusal text) text q table → q ≡ plan.Refused x → Judged text before (Refused x) before
 unfolding Judgement verdictRefusal orElse
-judged-short text before h = record { schedule = []; judged = rw (lt-ltb (length before) maxEntries h) (refl, refl); buffer = refl }
+judged-refused text before table x q t g =
+    let e : planRefusal text ≡ some x = refused-is (planRefusal text) (length (formsOf text)) x (sym (t .answer) ∙ g) in
+    record { schedule = []; judged = (rw e, refl); buffer = refl }
 
-enough : (text : List ℕ) (lent : ℕ) → maxEntries ≤ lent → verdictRefusal text lent ≡ planRefusal text
-unfolding verdictRefusal orElse
-enough text lent h = rw (le-ltb lent maxEntries h)
+module _ (text table : List ℕ) (n : ℕ) (q : Reading) (t : Tabled (planRefusal text) text q table) (g : q ≡ Accepted n) where
+  same-plan : tablePlan (take (n - 0) table) ≡ planOf text
+  unfolding planOf
+  same-plan = ap planIn (plan-forms text table q n t g)
 
-pub judged-refused : (text before table : List ℕ) (x : Refusal) (q : Reading) → maxEntries ≤ length before → Tabled (planRefusal text) text q table → q ≡ plan.Refused x
-    → Judged text before (Refused x) before
-unfolding Judgement
-judged-refused text before table x q h t g = record {
-  schedule = [];
-  judged = (enough text (length before) h ∙ refused-is (planRefusal text) (length (formsOf text)) x (sym (t .answer) ∙ g), refl);
-  buffer = refl;
-}
+  pub table-sum : (s : Space) → SpaceOf (planOf text) s → s .sum ≡ threadSizes (tablePlan (take (n - 0) table))
+  table-sum s p = p .sum ∙ ap threadSizes (sym same-plan)
 
-pub judged-found : (text before after table : List ℕ) (n : ℕ) (q : Reading) (r : Verdict) → maxEntries ≤ length before → Tabled (planRefusal text) text q table → q ≡ Accepted n
-    → TableJudged (take (n - 0) table) before r after → Judged text before r after
-unfolding planOf
-judged-found text before after table n q r h t g d =
-    let same : tablePlan (take (n - 0) table) ≡ planOf text = ap planIn (plan-forms text table q n t g) in
-    record {
-      schedule = d .schedule;
-      judged = rw (enough text (length before) h ∙ plan-kept text table q n t g, ← same) (d .judged);
-      buffer = d .buffer;
-    }
+  pub judged-found : (before after : List ℕ) (r : Verdict) → LentJudged (take (n - 0) table) before r after → Judged text before r after
+  unfolding verdictRefusal orElse
+  judged-found before after r d =
+      record { schedule = d .schedule; judged = rw (plan-kept text table q n t g, ← same-plan) (d .judged); buffer = d .buffer }
 
 -- ---- bytes
-
-pub bytes-short : (text before : List ℕ) (v : ℕ) → length before / 2 < maxEntries → v ≡ verdictNumber (Refused (refusal 1 0)) → JudgedBytes text before v before
-unfolding Judgement verdictRefusal orElse listBytes
-bytes-short text before v h k =
-    record { verdict = Refused (refusal 1 0); schedule = []; number = k; judged = rw (lt-ltb (length before / 2) maxEntries h) (refl, refl); buffer = refl }
 
 -- only a deadlock has a schedule
 no-schedule : (refused : Option Refusal) (plan : LockPlan) (v : Verdict) (es : List ℕ) → Judgement refused plan v es → OneOf (0 ∷ 2 ∷ []) (tagOf the-type v) → es ≡ []
@@ -83,12 +87,44 @@ small text lent Free es j h = omega arith
 small text lent (Deadlock n S) es j h = omega (arith, j .1)
 small text lent (Refused x) es j h = verdict-bounded text lent x (j .0) .line
 
-module _ (text before entries entries′ : List ℕ) (r : Verdict) (d : Judged text entries r entries′) (l : length entries ≡ maxEntries) where
+-- more than MAX_ENTRIES are never needed
+lent-by : (plan : LockPlan) (lent : ℕ) → threadSizes plan ≤ maxEntries → tooFewEntries plan (min lent maxEntries) ≡ tooFewEntries plan lent
+unfolding tooFewEntries
+lent-by plan lent h =
+    let n = threadSizes plan in
+    ⊎-elim
+    (λ (k : lent < n). rw (lt-ltb lent n k, lt-ltb (min lent maxEntries) n (omega arith)))
+    (λ (k : n ≤ lent). rw (le-ltb lent n k, le-ltb (min lent maxEntries) n (omega arith)))
+    (lt-or-le lent n)
+
+same-lent : (text : List ℕ) (lent : ℕ) → verdictRefusal text (min lent maxEntries) ≡ verdictRefusal text lent
+unfolding verdictRefusal orElse
+same-lent text lent = go (planRefusal text) refl
+  where
+    go : (o : Option Refusal) → planRefusal text ≡ o → orElse o (tooFewEntries (planOf text) (min lent maxEntries)) ≡ orElse o (tooFewEntries (planOf text) lent)
+    go none e = lent-by (planOf text) lent (sizes-sum text (plan-within text e))
+    go (some x) e = refl
+
+module _ (text before entries entries′ : List ℕ) (r : Verdict) (d : Judged text entries r entries′) (l : length entries ≡ min (length before / 2) maxEntries) where
   schedule-short : length entries′ ≡ length entries → length (d .schedule) ≤ length entries′
   schedule-short k = rw (d .buffer, length-append) (omega arith)
 
   pub verdict-small : length entries′ ≡ length entries → verdictHigh r < 2 ^ 40
   verdict-small k = small text (length entries) r (d .schedule) (d .judged) (omega (arith, schedule-short k))
+
+  -- what the rules say by the entries, they say by the bytes
+  judged-lent : Judgement (verdictRefusal text (length before / 2)) (planOf text) r (d .schedule)
+  judged-lent = rw (ap (verdictRefusal text) l ∙ same-lent text (length before / 2)) at (d .judged)
+
+  pub bytes-kept : (v : ℕ) → OneOf (0 ∷ 2 ∷ []) (tagOf the-type r) → v ≡ verdictNumber r → JudgedBytes text before v before
+  unfolding listBytes
+  bytes-kept v o k = record {
+    verdict = r;
+    schedule = d .schedule;
+    number = k;
+    judged = judged-lent;
+    buffer = rw (no-schedule _ _ r (d .schedule) (d .judged) o);
+  }
 
   -- the schedule's part of the entries
   module _ (n S : ℕ) (g : r ≡ Deadlock n S) where
@@ -102,36 +138,18 @@ module _ (text before entries entries′ : List ℕ) (r : Verdict) (d : Judged t
     pub schedule-within : length entries′ ≡ length entries → n ≤ length entries′
     schedule-within k = omega (arith, size, schedule-short k)
 
-    pub schedule-room : length entries′ ≡ length entries → maxEntries ≤ length before / 2 → length (take (n - 0) entries′) * 2 ≤ length before
-    schedule-room k h = rw length-take (omega arith)
+    pub schedule-room : length entries′ ≡ length entries → length (take (n - 0) entries′) * 2 ≤ length before
+    schedule-room k = rw length-take (omega arith)
 
     pub deadlock-small : length entries′ ≡ length entries → verdictHigh (Deadlock n S) < 2 ^ 40
     deadlock-small k = rw (← g) (verdict-small k)
 
-  -- the most entries of a schedule are enough, and so is what is lent
-  module _ (h : maxEntries ≤ length before / 2) where
-    judged-lent : Judgement (verdictRefusal text (length before / 2)) (planOf text) r (d .schedule)
-    judged-lent =
-        let same : verdictRefusal text (length entries) ≡ verdictRefusal text (length before / 2) =
-        enough text (length entries) (omega arith) ∙ sym (enough text (length before / 2) h) in
-        rw same at (d .judged)
-
-    pub bytes-kept : (v : ℕ) → OneOf (0 ∷ 2 ∷ []) (tagOf the-type r) → v ≡ verdictNumber r → JudgedBytes text before v before
-    unfolding listBytes
-    bytes-kept v o k = record {
-      verdict = r;
-      schedule = d .schedule;
-      number = k;
-      judged = judged-lent;
-      buffer = rw (no-schedule _ _ r (d .schedule) (d .judged) o);
-    }
-
-    pub bytes-scheduled : (n S v : ℕ) (after : List ℕ) → r ≡ Deadlock n S → v ≡ verdictNumber (Deadlock n S)
+    pub bytes-scheduled : (v : ℕ) (after : List ℕ) → v ≡ verdictNumber (Deadlock n S)
         → Wrote before after 0 (length (take (n - 0) entries′) * 2) (listBytes 2 (take (n - 0) entries′)) → JudgedBytes text before v after
-    bytes-scheduled n S v after g k e = record {
+    bytes-scheduled v after k e = record {
       verdict = r;
       schedule = d .schedule;
       number = k ∙ ap verdictNumber (sym g);
       judged = judged-lent;
-      buffer = rw (listed n S g) at (wrote-filled before after 0 _ _ e refl);
+      buffer = rw listed at (wrote-filled before after 0 _ _ e refl);
     }

@@ -1,27 +1,41 @@
-// The verdict on a plan text: the rules, then the analysis of its table.
+// The verdict on a plan text: the rules, the last of them about the lent buffer, then the analysis of its table.
 ghost use mathlib.Core.Path.{_≡_};
-ghost use Prim.Native.Nat.{_≤_};
+ghost use mathlib.Core.Option.{none};
+ghost use Prim.Native.Nat.{_/_, _≤_, min};
 ghost use lib.ListN.{length};
 ghost use Rattle.limits.specs.Limits.{maxForms, maxEntries};
-ghost use Rattle.verdict.specs.Judged.{Judged, JudgedBytes};
+ghost use Rattle.semantics.specs.Sizes.{threadSizes};
+ghost use Rattle.plan.specs.Settled.{RulesKept, tablePlan};
+ghost use Rattle.procs.specs.Laid.{Laid};
+ghost use Rattle.verdict.specs.Judged.{LentJudged, Judged, JudgedBytes};
 use answers::Verdict;
 use limits::MAX_ENTRIES;
 use limits::MAX_FORMS;
 use plan::Reading;
+use procs::Layout;
 use text::Refusal;
+
+// Rule 1, where a schedule needs `sum` entries; then the verdict on the plan of a table.
+fn judge_lent(table: &[u64], layout: Layout, sum: usize, entries: &mut [u16]) -> Verdict
+    requires { ⌜ RulesKept (now table) × Laid (now table) layout × (sum ≡ threadSizes (tablePlan (now table))) ⌝ }
+    ensures { λ r. ⌜ LentJudged (now (table .entry)) (now (entries .entry)) r (now (entries .exit)) ⌝ }
+{
+    if entries.len() < sum {
+        return Verdict::Refused(Refusal { rule: 1, line: 0 });
+    }
+    deadlock::judge_table(table, layout, entries)
+}
 
 // The verdict on a text, with the schedule at the start of the entries, by way of a table of its forms.
 fn find_verdict(text: &[u8], entries: &mut [u16], table: &mut [u64]) -> Verdict
     requires { ⌜ maxForms ≤ length (now table) ⌝ }
     ensures { λ r. ⌜ Judged (now (text .entry)) (now (entries .entry)) r (now (entries .exit)) ⌝ }
 {
-    if entries.len() < MAX_ENTRIES {
-        return Verdict::Refused(Refusal { rule: 1, line: 0 });
-    }
     let checked = checked::read_text(text, table);
     let reading = checked.reading;
+    let space = checked.space;
     match reading {
-        Reading::Accepted(n) => deadlock::judge_table(&table[0..n], checked.layout, entries),
+        Reading::Accepted(n) => judge_lent(&table[0..n], checked.layout, space.sum, entries),
         Reading::Refused(refusal) => Verdict::Refused(refusal),
     }
 }
@@ -34,14 +48,21 @@ pub fn judge_text(text: &[u8], entries: &mut [u16]) -> Verdict
     find_verdict(text, entries, &mut table)
 }
 
-// The schedule as bytes at the start of `out`, two for each entry, lowest first, and the verdict as a number; by way of MAX_ENTRIES entries.
-pub fn verdict_bytes(text: &[u8], out: &mut [u8], entries: &mut [u16]) -> u64
-    requires { ⌜ length (now entries) ≡ maxEntries ⌝ }
+// The whole entries that so many bytes hold, up to MAX_ENTRIES: no schedule needs more.
+fn whole_entries(bytes: usize) -> usize
+    ensures { λ r. ⌜ r ≡ min (bytes / 2) maxEntries ⌝ }
+{
+    if bytes / 2 < MAX_ENTRIES {
+        return bytes / 2;
+    }
+    MAX_ENTRIES
+}
+
+// The schedule as bytes at the start of `out`, two for each entry, lowest first, and the verdict as a number; by way of as many entries as `out` holds, or MAX_ENTRIES if it holds more.
+fn judge_bytes(text: &[u8], out: &mut [u8], entries: &mut [u16]) -> u64
+    requires { ⌜ length (now entries) ≡ min (length (now out) / 2) maxEntries ⌝ }
     ensures { λ r. ⌜ JudgedBytes (now (text .entry)) (now (out .entry)) r (now (out .exit)) ⌝ }
 {
-    if out.len() / 2 < MAX_ENTRIES {
-        return answers::verdict_number(Verdict::Refused(Refusal { rule: 1, line: 0 }));
-    }
     let verdict = judge_text(text, entries);
     let Verdict::Deadlock {
         entries: n,
@@ -52,4 +73,13 @@ pub fn verdict_bytes(text: &[u8], out: &mut [u8], entries: &mut [u16]) -> u64
     };
     buffers::put_entries(&entries[0..n], out);
     answers::verdict_number(verdict)
+}
+
+// The same by way of MAX_ENTRIES entries.
+pub fn verdict_bytes(text: &[u8], out: &mut [u8], entries: &mut [u16]) -> u64
+    requires { ⌜ length (now entries) ≡ maxEntries ⌝ }
+    ensures { λ r. ⌜ JudgedBytes (now (text .entry)) (now (out .entry)) r (now (out .exit)) ⌝ }
+{
+    let lent = whole_entries(out.len());
+    judge_bytes(text, out, &mut entries[0..lent])
 }

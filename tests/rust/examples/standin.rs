@@ -41,3 +41,10 @@ pub unsafe extern "C" fn lockplan_tidy(
 ) -> u64 {
     standin::tidy(from_raw_parts(text, text_len), from_raw_parts_mut(out, out_len))
 }
+
+/// # Safety
+/// `text` points to as many bytes as its length says.
+#[no_mangle]
+pub unsafe extern "C" fn lockplan_space(text: *const u8, text_len: usize) -> u64 {
+    standin::space(from_raw_parts(text, text_len))
+}

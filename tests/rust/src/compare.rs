@@ -1,10 +1,10 @@
 //! The comparison of the library with the reference on one text.
 
-use crate::answer::{Answer, COPIED, DEADLOCK, FREE, PAIRS, REFUSED};
+use crate::answer::{Answer, COPIED, DEADLOCK, FREE, PAIRS, REFUSED, SPACE};
 use crate::gateway::replay;
 use crate::guard::Pages;
 use crate::random::Random;
-use crate::reference::{read, Plan, Refusal, MAX_PAIRS, SCHEDULE_ENTRIES};
+use crate::reference::{listed, sized, Plan, Refusal, MAX_PAIRS, MAX_SUM};
 use crate::tidy::{tidy, COPY_BYTES};
 use crate::twins::Twins;
 use crate::verdict::{conflict, pairs_of_threads};
@@ -15,6 +15,8 @@ pub type VerdictCall = fn(&[u8], &mut [u8]) -> u64;
 pub type TidyCall = fn(&[u8], &mut [u8]) -> u64;
 /// Text, procedure and output.
 pub type PairsCall = fn(&[u8], u64, &mut [u8]) -> u64;
+/// Text.
+pub type SpaceCall = fn(&[u8]) -> u64;
 
 /// The calls of a library.
 #[derive(Clone, Copy)]
@@ -22,6 +24,7 @@ pub struct Calls {
     pub verdict: VerdictCall,
     pub pairs: PairsCall,
     pub tidy: TidyCall,
+    pub space: SpaceCall,
 }
 
 /// The least buffer of a call: its bytes, and those of one entry of it.
@@ -32,8 +35,39 @@ struct Least {
 }
 
 const PAIR_LIST: Least = Least { bytes: 8 * MAX_PAIRS, entry: 8 };
-const SCHEDULE: Least = Least { bytes: 2 * SCHEDULE_ENTRIES, entry: 2 };
 const COPY: Least = Least { bytes: COPY_BYTES, entry: 1 };
+
+impl Least {
+    /// A random length, mostly enough.
+    fn about(self, random: &mut Random) -> usize {
+        let Least { bytes: least, entry } = self;
+        match random.below(16) {
+            0 => 0,
+            1 => least - 1,
+            2 => least - entry,
+            3 => random.below(least),
+            4..=6 => least,
+            7 | 8 => least + 1,
+            9 => least + entry - 1,
+            10 => least + entry,
+            _ => least + random.below(5_000),
+        }
+    }
+}
+
+/// The bytes lent to the verdicts of a text: exactly the sum of its threads' sizes, one
+/// entry less and none, each with an odd byte now and then, and some number about the
+/// sum. Where there is no sum, none and any.
+fn lent_to_verdicts(sum: Result<u64, Refusal>, random: &mut Random) -> Vec<usize> {
+    let Ok(sum) = sum else {
+        return vec![random.below(2), random.below(2 * MAX_SUM + 2)];
+    };
+    let least = Least { bytes: 2 * sum as usize, entry: 2 };
+    let whole = [least.bytes, least.bytes - least.entry, 0];
+    let mut lengths: Vec<usize> = whole.map(|bytes| bytes + usize::from(random.chance(30))).into();
+    lengths.push(least.about(random));
+    lengths
+}
 
 /// What a text gave, for the summary.
 #[derive(Clone, Copy, Debug, PartialEq, Eq, PartialOrd, Ord)]
@@ -48,7 +82,12 @@ pub enum Outcome {
 pub struct Counts {
     pub pair_lists: u64,
     pub verdicts: u64,
+    /// Of accepted plans, lent exactly the sum of their threads' sizes.
+    pub at_the_sum: u64,
+    /// Of accepted plans, lent one entry less.
+    pub one_less: u64,
     pub copies: u64,
+    pub spaces: u64,
     pub words: u64,
     pub entries: u64,
     pub copied: u64,
@@ -59,6 +98,8 @@ struct Said {
     text: Vec<u8>,
     plan: Result<Plan, Refusal>,
     outcome: Outcome,
+    /// The sum of the threads' sizes, or the refusal by a rule up to 9.
+    sum: Result<u64, Refusal>,
     /// The tidy copy, empty where the text is refused.
     copy: Vec<u8>,
 }
@@ -91,21 +132,25 @@ impl Bench {
             _ => say(text),
         };
         for proc in requested(&said.plan, random) {
-            let lent = self.lend(text, PAIR_LIST, random);
+            let lent = self.lend(text, PAIR_LIST.about(random), random);
             self.pairs(calls.pairs, &said.plan, proc, lent)?;
         }
-        let lent = self.lend(text, SCHEDULE, random);
-        self.verdict(calls.verdict, &said.plan, said.outcome == Outcome::Deadlock, lent)?;
-        let lent = self.lend(text, COPY, random);
+        for bytes in lent_to_verdicts(said.sum, random) {
+            let lent = self.lend(text, bytes, random);
+            self.verdict(calls.verdict, &said, lent)?;
+        }
+        let lent = self.lend(text, COPY.about(random), random);
         self.tidy(calls.tidy, &said, lent)?;
+        let lent = self.lend(text, 0, random);
+        self.space(calls.space, &said, lent)?;
         self.twins.check(calls, text, &said.plan, random)?;
         let outcome = said.outcome;
         self.last = Some(said);
         Ok(outcome)
     }
 
-    /// Places a text and an output part of a random length, mostly long enough.
-    fn lend(&mut self, text: &[u8], least: Least, random: &mut Random) -> Lent {
+    /// Places a text and an output part of so many bytes.
+    fn lend(&mut self, text: &[u8], len: usize, random: &mut Random) -> Lent {
         let room = self.text.bytes();
         let start = match random.below(3) {
             0 => 0,
@@ -114,18 +159,6 @@ impl Bench {
         };
         room[start..start + text.len()].copy_from_slice(text);
         let room = self.out.bytes();
-        let Least { bytes: least, entry } = least;
-        let len = match random.below(16) {
-            0 => 0,
-            1 => least - 1,
-            2 => least - entry,
-            3 => random.below(least),
-            4..=6 => least,
-            7 | 8 => least + 1,
-            9 => least + entry - 1,
-            10 => least + entry,
-            _ => least + random.below(5_000),
-        };
         let out = match random.below(4) {
             0 if self.edges => 0,
             1 if self.edges => room.len() - len,
@@ -141,10 +174,11 @@ impl Bench {
         Lent { start, text: text.to_vec(), out, len }
     }
 
-    /// What the call must answer by the lent length and the text, if it is refused.
+    /// What a pair list or a tidy copy must answer by the lent length and the text, if
+    /// it is refused.
     fn refusal(plan: &Result<Plan, Refusal>, lent: &Lent, least: Least) -> Option<Refusal> {
         if lent.len < least.bytes {
-            return Some(Refusal { rule: 1, line: 0 });
+            return Some(Refusal::SHORT);
         }
         plan.as_ref().err().copied()
     }
@@ -153,6 +187,19 @@ impl Bench {
     fn call(&mut self, lent: &Lent, call: impl FnOnce(&[u8], &mut [u8]) -> u64) -> u64 {
         let text = &self.text.bytes()[lent.start..lent.start + lent.text.len()];
         call(text, &mut self.out.bytes()[lent.out..lent.out + lent.len])
+    }
+
+    /// Whether a call's answer was right and it left the memory that is expected.
+    fn left(
+        &mut self,
+        what: &str,
+        answered: Result<(), String>,
+        expected: Vec<u8>,
+        lent: &Lent,
+    ) -> Result<(), String> {
+        let result = answered.and_then(|()| self.same_memory(&expected, lent));
+        self.before = expected;
+        result.map_err(|message| format!("{what}, {} bytes lent at offset {}: {message}", lent.len, lent.out))
     }
 
     fn pairs(
@@ -164,7 +211,6 @@ impl Bench {
     ) -> Result<(), String> {
         self.counts.pair_lists += 1;
         let number = self.call(&lent, |text, out| call(text, proc, out));
-        let what = format!("pairs of procedure {proc}, {} bytes lent at offset {}", lent.len, lent.out);
         let mut expected = std::mem::take(&mut self.before);
         let refusal = Bench::refusal(plan, &lent, PAIR_LIST);
         let listed = match plan {
@@ -183,38 +229,36 @@ impl Bench {
                 Answer { kind: PAIRS, a: 0, b: pairs.len() as u64 }
             }
         };
-        let result = same_answer(number, answer).and_then(|()| self.same_memory(&expected, &lent));
-        self.before = expected;
-        result.map_err(|message| format!("{what}: {message}"))
+        let what = format!("pairs of procedure {proc}");
+        self.left(&what, same_answer(number, answer), expected, &lent)
     }
 
-    fn verdict(
-        &mut self,
-        call: VerdictCall,
-        plan: &Result<Plan, Refusal>,
-        deadlock: bool,
-        lent: Lent,
-    ) -> Result<(), String> {
+    /// The rules of the plan come before the length of the buffer.
+    fn verdict(&mut self, call: VerdictCall, said: &Said, lent: Lent) -> Result<(), String> {
         self.counts.verdicts += 1;
         let number = self.call(&lent, call);
-        let what = format!("verdict, {} bytes lent at offset {}", lent.len, lent.out);
         let mut expected = std::mem::take(&mut self.before);
-        let refusal = Bench::refusal(plan, &lent, SCHEDULE);
-        let answer = Answer::new(number);
-        let result = match (refusal, plan) {
-            (Some(refusal), _) => same_answer(number, Answer::refused(refusal)),
-            (None, Ok(plan)) if deadlock => self.schedule(plan, answer, &mut expected, &lent),
-            (None, _) => same_answer(number, Answer { kind: FREE, a: 0, b: 0 }),
+        let answered = match &said.plan {
+            Err(refusal) => same_answer(number, Answer::refused(*refusal)),
+            Ok(plan) => {
+                let (entries, sum) = (lent.len as u64 / 2, plan.size_of_threads());
+                self.counts.at_the_sum += u64::from(entries == sum);
+                self.counts.one_less += u64::from(entries + 1 == sum);
+                if entries < sum {
+                    same_answer(number, Answer::refused(Refusal::SHORT))
+                } else if said.outcome == Outcome::Deadlock {
+                    self.schedule(plan, Answer::new(number), &mut expected, &lent)
+                } else {
+                    same_answer(number, Answer { kind: FREE, a: 0, b: 0 })
+                }
+            }
         };
-        let result = result.and_then(|()| self.same_memory(&expected, &lent));
-        self.before = expected;
-        result.map_err(|message| format!("{what}: {message}"))
+        self.left("verdict", answered, expected, &lent)
     }
 
     fn tidy(&mut self, call: TidyCall, said: &Said, lent: Lent) -> Result<(), String> {
         self.counts.copies += 1;
         let number = self.call(&lent, call);
-        let what = format!("tidy copy, {} bytes lent at offset {}", lent.len, lent.out);
         let mut expected = std::mem::take(&mut self.before);
         let answer = match Bench::refusal(&said.plan, &lent, COPY) {
             Some(refusal) => Answer::refused(refusal),
@@ -224,9 +268,16 @@ impl Bench {
                 Answer { kind: COPIED, a: 0, b: said.copy.len() as u64 }
             }
         };
-        let result = same_answer(number, answer).and_then(|()| self.same_memory(&expected, &lent));
-        self.before = expected;
-        result.map_err(|message| format!("{what}: {message}"))
+        self.left("tidy copy", same_answer(number, answer), expected, &lent)
+    }
+
+    /// No buffer is lent to it, and nothing changes.
+    fn space(&mut self, call: SpaceCall, said: &Said, lent: Lent) -> Result<(), String> {
+        self.counts.spaces += 1;
+        let number = self.call(&lent, |text, _| call(text));
+        let expected = std::mem::take(&mut self.before);
+        let answer = said.sum.map_or_else(Answer::refused, |sum| Answer { kind: SPACE, a: 0, b: sum });
+        self.left("space", same_answer(number, answer), expected, &lent)
     }
 
     /// A deadlock's schedule is a run, short enough, with the stuck set at its end.
@@ -240,7 +291,7 @@ impl Bench {
         if answer.kind != DEADLOCK {
             return Err(format!("answer {answer:?}, not a deadlock"));
         }
-        if answer.b > plan.size_of_threads() || answer.b > SCHEDULE_ENTRIES as u64 {
+        if answer.b > plan.size_of_threads() {
             return Err(format!("{} entries, more than {}", answer.b, plan.size_of_threads()));
         }
         let bytes = 2 * answer.b as usize;
@@ -285,14 +336,16 @@ pub fn outcome(text: &[u8]) -> Outcome {
 
 /// What the reference says of a text.
 fn say(text: &[u8]) -> Said {
-    let plan = read(text);
+    let sized = sized(text);
+    let sum = sized.as_ref().map(Plan::size_of_threads).map_err(|refusal| *refusal);
+    let plan = sized.and_then(listed);
     let outcome = match &plan {
         Err(refusal) => Outcome::Refused(refusal.rule),
         Ok(plan) if conflict(&pairs_of_threads(plan)).is_some() => Outcome::Deadlock,
         Ok(_) => Outcome::Free,
     };
     let copy = plan.as_ref().map(tidy).unwrap_or_default();
-    Said { text: text.to_vec(), plan, outcome, copy }
+    Said { text: text.to_vec(), plan, outcome, sum, copy }
 }
 
 fn same_answer(number: u64, expected: Answer) -> Result<(), String> {

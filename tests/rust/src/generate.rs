@@ -594,6 +594,25 @@ fn faulty(random: &mut Random) -> Draft {
     draft
 }
 
+/// Plans by the space that they need: one thread, threads of one procedure, nearly the
+/// largest sum, and too many pairs beside a sum.
+pub fn spaces(random: &mut Random) -> Draft {
+    let mut draft = plan(random, &SMALL);
+    let proc = random.below(draft.procs.len());
+    match random.below(10) {
+        0 | 1 => draft.threads = vec![proc],
+        2 => draft.threads = vec![proc; random.between(2, 6)],
+        3 | 4 => draft = families::late(random.between(5, 6)),
+        5..=7 => {
+            draft = sized(1_022 + random.below(3) as u64, random);
+            draft.threads = vec![draft.procs.len() - 1; random.between(4, 6)];
+            draft.threads[0] -= random.below(2);
+        }
+        _ => draft.procs[proc].extend(couples(random.between(97, 120), random)),
+    }
+    any_order(draft, random)
+}
+
 /// A text of an exact kind near a limit.
 fn limit(random: &mut Random) -> Case {
     let near = |random: &mut Random, limit: usize| limit - 1 + random.below(3);
@@ -1121,7 +1140,7 @@ pub fn generate(random: &mut Random) -> Case {
 /// One text that is not indented, or only by a damage.
 fn plain(random: &mut Random) -> Case {
     let case = |kind, draft: Draft| Case { kind, text: draft.text() };
-    match random.weighted(&[12, 12, 8, 8, 10, 8, 8, 5, 13, 5, 2, 8, 8, 7]) {
+    match random.weighted(&[12, 12, 8, 8, 10, 8, 8, 5, 13, 5, 2, 8, 8, 7, 5]) {
         0 => case("tiny", plan(random, &TINY)),
         1 => case("small", plan(random, &SMALL)),
         2 => case("nested", plan(random, &NESTED)),
@@ -1148,6 +1167,7 @@ fn plain(random: &mut Random) -> Case {
         10 => Case { kind: "noise", text: noise(random) },
         11 => case("crossings", crossings(random)),
         12 => case("calls", plan(random, &CALLING)),
-        _ => case("circles", circles(random)),
+        13 => case("circles", circles(random)),
+        _ => case("spaces", spaces(random)),
     }
 }

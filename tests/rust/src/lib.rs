@@ -18,6 +18,7 @@ pub mod random;
 pub mod reference;
 pub mod report;
 pub mod shelf;
+pub mod slip;
 pub mod standin;
 pub mod tidy;
 pub mod twins;

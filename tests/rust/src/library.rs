@@ -6,6 +6,7 @@ extern "C" {
     fn lockplan_verdict(text: *const u8, text_len: usize, out: *mut u8, out_len: usize) -> u64;
     fn lockplan_pairs(text: *const u8, text_len: usize, proc: u64, out: *mut u8, out_len: usize) -> u64;
     fn lockplan_tidy(text: *const u8, text_len: usize, out: *mut u8, out_len: usize) -> u64;
+    fn lockplan_space(text: *const u8, text_len: usize) -> u64;
 }
 
 pub fn verdict(text: &[u8], out: &mut [u8]) -> u64 {
@@ -23,4 +24,9 @@ pub fn tidy(text: &[u8], out: &mut [u8]) -> u64 {
     unsafe { lockplan_tidy(text.as_ptr(), text.len(), out.as_mut_ptr(), out.len()) }
 }
 
-pub const CALLS: Calls = Calls { verdict, pairs, tidy };
+pub fn space(text: &[u8]) -> u64 {
+    // SAFETY: as above.
+    unsafe { lockplan_space(text.as_ptr(), text.len()) }
+}
+
+pub const CALLS: Calls = Calls { verdict, pairs, tidy, space };

@@ -1,4 +1,7 @@
-//! Readings of a text with a fault each in the rules about calls.
+//! Readings of a text with a fault each in the rules about calls, and sums of sizes
+//! with a fault each.
+
+use std::collections::BTreeSet;
 
 use crate::pairs::compositional;
 use crate::reference::{
@@ -201,4 +204,40 @@ pub fn pairs_in_text_order(text: &[u8]) -> Reading {
     let plan = read(text)?;
     let pairs = read(&without(text, |caller, callee| callee > caller))?.pairs;
     Ok(Plan { pairs, ..plan })
+}
+
+/// The sum of the threads' sizes, one too small.
+pub fn one_too_small(plan: &Plan) -> u64 {
+    plan.size_of_threads() - 1
+}
+
+/// The same, one too large.
+pub fn one_too_large(plan: &Plan) -> u64 {
+    plan.size_of_threads() + 1
+}
+
+/// The sizes of all procedures, whoever runs them.
+pub fn sum_of_all_procedures(plan: &Plan) -> u64 {
+    plan.sizes.iter().sum()
+}
+
+/// A procedure that two threads run counts once.
+pub fn each_procedure_once(plan: &Plan) -> u64 {
+    let procs: BTreeSet<usize> = plan.threads.iter().copied().collect();
+    procs.iter().map(|proc| plan.sizes[*proc]).sum()
+}
+
+/// A thread's number taken for that of its procedure.
+pub fn procedures_by_thread_numbers(plan: &Plan) -> u64 {
+    plan.sizes.iter().take(plan.threads.len()).sum()
+}
+
+/// The largest of the threads' sizes for their sum.
+pub fn largest_thread_alone(plan: &Plan) -> u64 {
+    plan.threads.iter().map(|proc| plan.sizes[*proc]).max().unwrap_or(0)
+}
+
+/// A sum that is small again in 12 bits.
+pub fn twelve_bits_of_the_sum(plan: &Plan) -> u64 {
+    plan.size_of_threads() % 4_096
 }

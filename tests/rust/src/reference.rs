@@ -12,12 +12,24 @@ pub const MAX_BRACKETS: usize = 16;
 pub const MAX_LOCK: u32 = 31;
 pub const MAX_SIZE: u64 = 1_024;
 pub const MAX_PAIRS: usize = 128;
-pub const SCHEDULE_ENTRIES: usize = 6_144;
+/// The largest sum of threads' sizes: so many entries are enough for every schedule.
+pub const MAX_SUM: usize = MAX_THREADS * MAX_SIZE as usize;
 
 #[derive(Clone, Copy, Debug, PartialEq, Eq)]
 pub struct Refusal {
     pub rule: u8,
     pub line: usize,
+}
+
+impl Refusal {
+    /// The lent buffer is too short.
+    pub const SHORT: Refusal = Refusal { rule: 1, line: 0 };
+}
+
+impl std::fmt::Display for Refusal {
+    fn fmt(&self, out: &mut std::fmt::Formatter) -> std::fmt::Result {
+        write!(out, "(refused {} {})", self.rule, self.line)
+    }
 }
 
 fn refuse<T>(rule: u8, line: usize) -> Result<T, Refusal> {
@@ -168,7 +180,8 @@ impl Plan {
         order
     }
 
-    /// The longest a schedule may be.
+    /// The sum of the threads' sizes: the longest a schedule may be, and the entries
+    /// that a verdict must be lent.
     pub fn size_of_threads(&self) -> u64 {
         self.threads.iter().map(|proc| self.sizes[*proc]).sum()
     }
@@ -176,6 +189,11 @@ impl Plan {
 
 /// Rules 2 to 8, then 12, 9 and 10.
 pub fn read(text: &[u8]) -> Result<Plan, Refusal> {
+    sized(text).and_then(listed)
+}
+
+/// Rules 2 to 8, then 12 and 9: the sizes. Pairs are left empty.
+pub fn sized(text: &[u8]) -> Result<Plan, Refusal> {
     let mut plan = named(text)?;
     if let Some(proc) = plan.recursive().first() {
         return refuse(12, plan.procs[*proc].line);
@@ -184,6 +202,11 @@ pub fn read(text: &[u8]) -> Result<Plan, Refusal> {
     if let Some(proc) = plan.sizes.iter().position(|size| *size > MAX_SIZE) {
         return refuse(9, plan.procs[proc].line);
     }
+    Ok(plan)
+}
+
+/// Rule 10: the pairs of a plan that keeps the rules before.
+pub fn listed(mut plan: Plan) -> Result<Plan, Refusal> {
     plan.pairs = pairs::compositional(&plan);
     if let Some(proc) = plan.pairs.iter().position(|pairs| pairs.len() > MAX_PAIRS) {
         return refuse(10, plan.procs[proc].line);

@@ -15,7 +15,7 @@ pub fn report(text: &[u8]) -> Vec<u8> {
 }
 
 pub fn refused(refusal: Refusal) -> Vec<u8> {
-    format!("(report\n(refused {} {})\n)\n", refusal.rule, refusal.line).into_bytes()
+    format!("(report\n{refusal}\n)\n").into_bytes()
 }
 
 /// The report of an accepted plan, with a given verdict.

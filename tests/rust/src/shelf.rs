@@ -23,6 +23,8 @@ pub struct Entry {
     pub words: Vec<Vec<u64>>,
     /// A right schedule, where one is stated.
     pub schedule: Option<Vec<u16>>,
+    /// Sizes by thread, where they are stated; a plan that breaks rule 10 alone has some.
+    pub sizes: Vec<u64>,
 }
 
 impl Entry {
@@ -34,14 +36,14 @@ impl Entry {
             Gives::Refused(rule, line) => Gives::Refused(*rule, made.moved(*line)),
             gives => gives.clone(),
         };
-        let (words, schedule) = (self.words.clone(), self.schedule.clone());
-        Entry { name: self.name, text: made.text, gives, words, schedule }
+        let (words, schedule, sizes) = (self.words.clone(), self.schedule.clone(), self.sizes.clone());
+        Entry { name: self.name, text: made.text, gives, words, schedule, sizes }
     }
 }
 
 /// All fixed texts.
 pub fn all() -> Vec<Entry> {
-    shelf().into_iter().chain(others()).chain(calls()).chain(remarked()).collect()
+    shelf().into_iter().chain(others()).chain(calls()).chain(remarked()).chain(spaces()).collect()
 }
 
 /// All fixed texts indented, each at several seeds.
@@ -50,12 +52,12 @@ pub fn all_indented() -> Vec<Entry> {
 }
 
 fn entry(name: &'static str, draft: Draft, gives: Gives) -> Entry {
-    Entry { name, text: draft.text(), gives, words: vec![], schedule: None }
+    Entry { name, text: draft.text(), gives, words: vec![], schedule: None, sizes: vec![] }
 }
 
 fn text(name: &'static str, text: &[u8], rule: u8, line: usize) -> Entry {
     let gives = Gives::Refused(rule, line);
-    Entry { name, text: text.to_vec(), gives, words: vec![], schedule: None }
+    Entry { name, text: text.to_vec(), gives, words: vec![], schedule: None, sizes: vec![] }
 }
 
 /// An accepted text without a deadlock.
@@ -79,14 +81,17 @@ pub fn shelf() -> Vec<Entry> {
         Entry {
             words: vec![vec![0, 33], vec![1, 64]],
             schedule: Some(vec![0, 1]),
+            sizes: vec![5, 5],
             ..entry("A", Draft::each(vec![chain(&[0, 1]), chain(&[1, 0])]), Deadlock(3))
         },
         Entry {
             words: vec![vec![2, 128, 161], vec![2, 129, 192]],
+            sizes: vec![7, 7],
             ..entry("B", Draft::each(vec![chain(&[2, 0, 1]), chain(&[2, 1, 0])]), Free)
         },
         Entry {
             words: vec![vec![0]],
+            sizes: vec![5, 5],
             ..entry("C", Draft { procs: vec![chain(&[0, 0])], threads: vec![0, 0] }, Free)
         },
         entry("D", Draft::each(vec![chain(&[1, 0]), chain(&[2, 1]), chain(&[0, 2])]), Deadlock(7)),
@@ -102,6 +107,7 @@ pub fn shelf() -> Vec<Entry> {
         ),
         Entry {
             schedule: Some(vec![8, 0, 1]),
+            sizes: vec![7, 5],
             ..entry(
                 "H",
                 Draft::each(vec![vec![Tree::Either(chain(&[0, 1]), skips(1))], chain(&[1, 0])]),
@@ -622,4 +628,65 @@ fn as_long_as_allowed() -> Vec<Entry> {
     all.push(text("32,769 spaces", &[b' '; MAX_BYTES + 1], 2, 0));
     all.push(text("a remark of 32,768 bytes, not ended", &[b';'; MAX_BYTES], 3, 1));
     all
+}
+
+/// Fixed texts of the space that a plan needs.
+pub fn spaces() -> Vec<Entry> {
+    use Gives::{Free, Refused};
+    // A hold of size 3 behind skips; so many threads of it.
+    let threads = |count, skipped| {
+        let body = [skips(skipped), chain(&[0])].concat();
+        Draft { procs: vec![body], threads: vec![0; count] }
+    };
+    let parts = |lock: usize| vec![Tree::Loop(chain(&[lock])), Tree::Either(skips(1), chain(&[lock]))];
+    let of_sizes_1_to_3 = || vec![skips(1), skips(2), chain(&[0])];
+    let space =
+        |name, draft, sizes: &[u64], gives| Entry { sizes: sizes.to_vec(), ..entry(name, draft, gives) };
+    vec![
+        space("one thread of a skip", first(vec![skips(1)]), &[1], Free),
+        space("one thread of a hold", threads(1, 0), &[3], Free),
+        space("two threads of one procedure", threads(2, 1), &[4, 4], Free),
+        space("a loop and an either", Draft::each(vec![parts(0), parts(1)]), &[10, 10], Free),
+        space(
+            "threads from the last procedure to the first",
+            Draft { procs: of_sizes_1_to_3(), threads: vec![2, 1, 0] },
+            &[3, 2, 1],
+            Free,
+        ),
+        space(
+            "one procedure of three twice",
+            Draft { procs: of_sizes_1_to_3(), threads: vec![2, 0, 1, 2] },
+            &[3, 1, 2, 3],
+            Free,
+        ),
+        space("a procedure that is only called", calling(&[&[1, 1]], &[skips(3)]), &[8], Free),
+        space(
+            "callers and their callee",
+            Draft { threads: vec![1, 2, 0], ..calling(&[&[2, 2], &[0]], &[chain(&[4])]) },
+            &[9, 3, 8],
+            Free,
+        ),
+        space("size 766", doubling(8), &[766], Free),
+        space("6 threads of size 1,023", threads(6, 1_020), &[1_023; 6], Free),
+        space("6 threads of size 1,024", threads(6, 1_021), &[1_024; 6], Free),
+        entry("6 threads of size 1,025", threads(6, 1_022), Refused(9, 2)),
+        space("129 pairs, one thread", first(vec![couples(97)]), &[485], Refused(10, 2)),
+        space(
+            "129 pairs, two threads",
+            Draft { procs: vec![couples(97)], threads: vec![0, 0] },
+            &[485, 485],
+            Refused(10, 2),
+        ),
+        space(
+            "129 pairs behind others",
+            Draft { procs: vec![skips(1), couples(97)], threads: vec![1, 0, 0] },
+            &[485, 1, 1],
+            Refused(10, 5),
+        ),
+        entry(
+            "129 pairs, and a size of 1,025",
+            Draft::each(vec![couples(97), [vec![Tree::Call(0)], skips(539)].concat()]),
+            Refused(9, 2 + 97 * 5 + 2),
+        ),
+    ]
 }

@@ -1,11 +1,12 @@
-//! The three calls made of the reference, right or with a fault: what the
+//! The calls made of the reference, right or with a fault: what the
 //! comparison has to accept and to find.
 
-use crate::answer::{Answer, COPIED, DEADLOCK, FREE, PAIRS};
-use crate::compare::{Calls, PairsCall, TidyCall, VerdictCall};
+use crate::answer::{Answer, COPIED, DEADLOCK, FREE, PAIRS, SPACE};
+use crate::compare::{Calls, PairsCall, SpaceCall, TidyCall, VerdictCall};
 use crate::misread;
 use crate::reference::{
-    bare, lines, passed_over, read, Plan, Refusal, MAX_BYTES, MAX_PAIRS, SCHEDULE_ENTRIES,
+    bare, lines, named, passed_over, read, sized, sizes, Plan, Refusal, MAX_BYTES, MAX_PAIRS, MAX_SIZE,
+    MAX_SUM,
 };
 use crate::tidy::{self, COPY_BYTES};
 use crate::verdict::{conflict, judge, pairs_of_threads, schedule, Verdict};
@@ -17,12 +18,24 @@ macro_rules! calls_over {
             verdict: |text, out| verdict_of($reading(text), out),
             pairs: |text, proc, out| pairs_of($reading(text), proc, out),
             tidy: |text, out| copy_of($reading(text), out),
+            space: |text| space_of(before_pairs(text, $reading(text)), Plan::size_of_threads),
+        }
+    };
+}
+
+/// The calls that go by the sum, over another one.
+macro_rules! calls_by_sum {
+    ($sum:path) => {
+        Calls {
+            verdict: |text, out| verdict_where(read(text), out, |plan, bytes| bytes as u64 / 2 >= $sum(plan)),
+            space: |text| space_of(sized(text), $sum),
+            ..CALLS
         }
     };
 }
 
 /// The right ones.
-pub const CALLS: Calls = Calls { verdict, pairs, tidy };
+pub const CALLS: Calls = Calls { verdict, pairs, tidy, space };
 
 pub fn pairs(text: &[u8], proc: u64, out: &mut [u8]) -> u64 {
     pairs_of(read(text), proc, out)
@@ -36,9 +49,26 @@ pub fn tidy(text: &[u8], out: &mut [u8]) -> u64 {
     copy_of(read(text), out)
 }
 
+pub fn space(text: &[u8]) -> u64 {
+    space_of(sized(text), Plan::size_of_threads)
+}
+
+/// What is said of a text that a reading refuses by rule 10, which is none of the space
+/// call's.
+fn before_pairs(text: &[u8], said: Result<Plan, Refusal>) -> Result<Plan, Refusal> {
+    match said {
+        Err(Refusal { rule: 10, .. }) => sized(text),
+        said => said,
+    }
+}
+
+fn short() -> u64 {
+    Answer::refused(Refusal::SHORT).number()
+}
+
 fn pairs_of(plan: Result<Plan, Refusal>, proc: u64, out: &mut [u8]) -> u64 {
     if out.len() / 8 < MAX_PAIRS {
-        return Answer::refused(Refusal { rule: 1, line: 0 }).number();
+        return short();
     }
     let plan = match plan {
         Ok(plan) => plan,
@@ -54,14 +84,21 @@ fn pairs_of(plan: Result<Plan, Refusal>, proc: u64, out: &mut [u8]) -> u64 {
 }
 
 fn verdict_of(plan: Result<Plan, Refusal>, out: &mut [u8]) -> u64 {
-    if out.len() / 2 < SCHEDULE_ENTRIES {
-        return Answer::refused(Refusal { rule: 1, line: 0 }).number();
+    verdict_where(plan, out, |plan, bytes| bytes as u64 / 2 >= plan.size_of_threads())
+}
+
+/// The verdict by a test of the plan and the lent bytes for rule 1.
+fn verdict_where(plan: Result<Plan, Refusal>, out: &mut [u8], enough: fn(&Plan, usize) -> bool) -> u64 {
+    match plan {
+        Ok(plan) if enough(&plan, out.len()) => put_verdict(&plan, out),
+        Ok(_) => short(),
+        Err(refusal) => Answer::refused(refusal).number(),
     }
-    let plan = match plan {
-        Ok(plan) => plan,
-        Err(refusal) => return Answer::refused(refusal).number(),
-    };
-    match judge(&plan) {
+}
+
+/// Judges a plan and writes its schedule, as much of it as there is room for.
+fn put_verdict(plan: &Plan, out: &mut [u8]) -> u64 {
+    match judge(plan) {
         Verdict::Free => Answer { kind: FREE, a: 0, b: 0 }.number(),
         Verdict::Deadlock { schedule, stuck } => {
             for (entry, place) in schedule.iter().zip(out.chunks_exact_mut(2)) {
@@ -74,12 +111,16 @@ fn verdict_of(plan: Result<Plan, Refusal>, out: &mut [u8]) -> u64 {
 
 fn copy_of(plan: Result<Plan, Refusal>, out: &mut [u8]) -> u64 {
     if out.len() < COPY_BYTES {
-        return Answer::refused(Refusal { rule: 1, line: 0 }).number();
+        return short();
     }
     match plan {
         Ok(plan) => put_copy(&tidy::tidy(&plan), out),
         Err(refusal) => Answer::refused(refusal).number(),
     }
+}
+
+fn space_of(plan: Result<Plan, Refusal>, sum: fn(&Plan) -> u64) -> u64 {
+    plan.map_or_else(Answer::refused, |plan| Answer { kind: SPACE, a: 0, b: sum(&plan) }).number()
 }
 
 /// Writes a copy, as much of it as there is room for.
@@ -297,7 +338,7 @@ pub const FAULTY_PAIRS: [(&str, PairsCall); 18] = [
 ];
 
 /// A verdict with a fault each.
-pub const FAULTY_VERDICTS: [(&str, VerdictCall); 19] = [
+pub const FAULTY_VERDICTS: [(&str, VerdictCall); 25] = [
     ("always free", |text, out| {
         let number = verdict(text, &mut out.to_vec());
         if found(number) {
@@ -389,22 +430,43 @@ pub const FAULTY_VERDICTS: [(&str, VerdictCall); 19] = [
         number
     }),
     ("rule 1 only where it deadlocks", |text, out| {
-        let number = verdict(text, &mut vec![0; 2 * SCHEDULE_ENTRIES]);
+        let number = verdict(text, &mut vec![0; 2 * MAX_SUM]);
         if number == FREE {
             number
         } else {
             verdict(text, out)
         }
     }),
-    ("lengths in bytes", |text, out| {
-        if out.len() < SCHEDULE_ENTRIES {
-            return verdict(text, out);
+    ("rule 1 only where the schedule does not fit", |text, out| {
+        verdict_where(read(text), out, |plan, bytes| match judge(plan) {
+            Verdict::Free => true,
+            Verdict::Deadlock { schedule, .. } => 2 * schedule.len() <= bytes,
+        })
+    }),
+    ("rule 1 before the others, over 6,144 entries", |text, out| {
+        if out.len() / 2 < MAX_SUM {
+            short()
+        } else {
+            verdict(text, out)
         }
-        let mut copy = vec![0; 2 * SCHEDULE_ENTRIES];
-        let number = verdict(text, &mut copy);
-        let len = if found(number) { ((number >> 16) as usize * 2).min(out.len()) } else { 0 };
-        out[..len].copy_from_slice(&copy[..len]);
+    }),
+    ("rule 1 before rule 10", |text, out| match sized(text) {
+        Ok(plan) if (out.len() as u64) / 2 < plan.size_of_threads() => short(),
+        _ => verdict(text, out),
+    }),
+    ("no entry refused first", |text, out| if out.len() < 2 { short() } else { verdict(text, out) }),
+    ("written as far as it fits, and then refused", |text, out| {
+        let number = verdict(text, out);
+        if Answer::new(number) == Answer::refused(Refusal::SHORT) {
+            verdict_where(read(text), out, |_, _| true);
+        }
         number
+    }),
+    ("lengths in bytes", |text, out| {
+        verdict_where(read(text), out, |plan, bytes| bytes as u64 >= plan.size_of_threads())
+    }),
+    ("an odd byte for an entry", |text, out| {
+        verdict_where(read(text), out, |plan, bytes| bytes.div_ceil(2) as u64 >= plan.size_of_threads())
     }),
     ("threads two by two only", |text, out| {
         let number = verdict(text, &mut out.to_vec());
@@ -577,6 +639,53 @@ pub const FAULTY_TIDIES: [(&str, TidyCall); 31] = [
         Some(number) if out.len() >= COPY_BYTES => number,
         _ => tidy(text, out),
     }),
+];
+
+/// A space call with a fault each.
+pub const FAULTY_SPACES: [(&str, SpaceCall); 6] = [
+    ("129 pairs refused", |text| space_of(read(text), Plan::size_of_threads)),
+    ("a size of 1,025 let through", |text| {
+        let_through(text, |plan| plan.sizes.iter().all(|size| *size <= MAX_SIZE + 1))
+    }),
+    ("sizes of threads alone", |text| {
+        let_through(text, |plan| plan.threads.iter().all(|proc| plan.sizes[*proc] <= MAX_SIZE))
+    }),
+    ("a refusal for nothing needed", |text| {
+        let number = space(text);
+        if refused(number) {
+            SPACE
+        } else {
+            number
+        }
+    }),
+    ("forms counted for lines", |text| forms_for_lines(text, space(text))),
+    ("too early behind the last form", |text| behind_the_last_form(text, space(text))),
+];
+
+/// The space call that lets some plans through that rule 9 refuses.
+fn let_through(text: &[u8], told: fn(&Plan) -> bool) -> u64 {
+    let number = space(text);
+    if Answer::new(number).a != 9 {
+        return number;
+    }
+    let plan = named(text).expect("the rules before 9 are kept");
+    let plan = Plan { sizes: sizes(&plan), ..plan };
+    if told(&plan) {
+        space_of(Ok(plan), Plan::size_of_threads)
+    } else {
+        number
+    }
+}
+
+/// The calls that go by the sum, over sums with a fault each.
+pub const FAULTY_SUMS: [(&str, Calls); 7] = [
+    ("one too small", calls_by_sum!(misread::one_too_small)),
+    ("one too large", calls_by_sum!(misread::one_too_large)),
+    ("of all procedures", calls_by_sum!(misread::sum_of_all_procedures)),
+    ("each procedure once", calls_by_sum!(misread::each_procedure_once)),
+    ("procedures by the threads' numbers", calls_by_sum!(misread::procedures_by_thread_numbers)),
+    ("the largest thread alone", calls_by_sum!(misread::largest_thread_alone)),
+    ("twelve bits of the sum", calls_by_sum!(misread::twelve_bits_of_the_sum)),
 ];
 
 /// The calls over readings with a fault each.

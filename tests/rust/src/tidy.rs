@@ -34,6 +34,6 @@ pub fn tidy(plan: &Plan) -> Vec<u8> {
 pub fn printed(text: &[u8]) -> Vec<u8> {
     match read(text) {
         Ok(plan) => tidy(&plan),
-        Err(refusal) => format!("(refused {} {})\n", refusal.rule, refusal.line).into_bytes(),
+        Err(refusal) => format!("{refusal}\n").into_bytes(),
     }
 }

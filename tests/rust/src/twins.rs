@@ -10,7 +10,7 @@ use crate::gateway::replay;
 use crate::generate::neighbour;
 use crate::indent::indent;
 use crate::random::Random;
-use crate::reference::{named, read, Plan, Refusal, MAX_PAIRS, SCHEDULE_ENTRIES};
+use crate::reference::{named, read, Plan, Refusal, MAX_PAIRS, MAX_SUM};
 use crate::tidy::{tree, COPY_BYTES};
 
 /// An answer, and the whole buffer as the call left it.
@@ -32,17 +32,19 @@ struct Told {
     /// Procedure by procedure, and that there are no more.
     pairs: Vec<Left>,
     copy: Left,
+    space: Left,
 }
 
 fn tell(calls: Calls, text: &[u8]) -> Told {
-    let verdict = left(2 * SCHEDULE_ENTRIES, |out| (calls.verdict)(text, out));
+    let verdict = left(2 * MAX_SUM, |out| (calls.verdict)(text, out));
     let copy = left(COPY_BYTES, |out| (calls.tidy)(text, out));
+    let space = left(0, |_| (calls.space)(text));
     let mut pairs: Vec<Left> = Vec::new();
     while pairs.last().is_none_or(|last| last.answer.kind != REFUSED) && pairs.len() < 70 {
         let proc = pairs.len() as u64;
         pairs.push(left(8 * MAX_PAIRS, |out| (calls.pairs)(text, proc, out)));
     }
-    Told { verdict, pairs, copy }
+    Told { verdict, pairs, copy, space }
 }
 
 impl Told {
@@ -74,6 +76,7 @@ impl Told {
         };
         same("verdict".into(), &self.verdict, &other.verdict)?;
         same("tidy copy".into(), &self.copy, &other.copy)?;
+        same("space".into(), &self.space, &other.space)?;
         if self.pairs.len() != other.pairs.len() {
             return Err(format!("{} pair lists, not {}", other.pairs.len(), self.pairs.len()));
         }
@@ -82,7 +85,8 @@ impl Told {
     }
 
     /// Whether another text of an accepted plan, its procedures at other numbers, is
-    /// told the same verdict and the same pairs, and has a schedule of this plan.
+    /// told the same verdict, the same space and the same pairs, and has a schedule of
+    /// this plan.
     fn same_shuffled(&self, other: &Told, plan: &Plan, numbers: &[usize]) -> Result<(), String> {
         let (one, two) = (self.verdict.answer, other.verdict.answer);
         if one.kind != two.kind {
@@ -90,6 +94,9 @@ impl Told {
         }
         if two.kind == DEADLOCK {
             other.run_of(plan).map_err(|message| format!("verdict: {message}"))?;
+        }
+        if self.space != other.space {
+            return Err(format!("space: answer {:?}, not {:?}", other.space.answer, self.space.answer));
         }
         if self.pairs.len() != numbers.len() + 1 || other.pairs.len() != numbers.len() + 1 {
             return Err(format!("{} pair lists, not {}", other.pairs.len(), numbers.len() + 1));

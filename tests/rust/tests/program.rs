@@ -1,7 +1,8 @@
-//! The reports of the program `report` and the copies of the program `tidy`
-//! against the reference.
+//! The reports of the program `report`, the copies of the program `tidy` and the
+//! slips of the program `slip` against the reference.
 //!
-//!   LOCKPLAN_PROGRAM=<report> LOCKPLAN_TIDY=<tidy> cargo test --test program
+//!   LOCKPLAN_PROGRAM=<report> LOCKPLAN_TIDY=<tidy> LOCKPLAN_SLIP=<slip> \
+//!       cargo test --test program
 //!
 //! The programs read a plan from standard input. One that is not named is not
 //! tested. LOCKPLAN_TEXTS and LOCKPLAN_SEED choose the generated texts. Ends with 1
@@ -11,12 +12,11 @@
 use std::io::Write;
 use std::process::{Command, Stdio};
 
-use lockplan_tests::families;
 use lockplan_tests::generate::generate;
 use lockplan_tests::random::Random;
 use lockplan_tests::report::{check, same};
 use lockplan_tests::shelf::{all, all_indented};
-use lockplan_tests::tidy::printed;
+use lockplan_tests::{families, slip, tidy};
 
 /// What a program prints of a text.
 fn prints(program: &str, text: &[u8]) -> Result<Vec<u8>, String> {
@@ -44,7 +44,12 @@ fn reports(program: &str, text: &[u8]) -> Result<(), String> {
 
 /// Whether a program prints a text's tidy copy or its refusal, byte for byte.
 fn tidies(program: &str, text: &[u8]) -> Result<(), String> {
-    prints(program, text).and_then(|found| same(&found, &printed(text)))
+    prints(program, text).and_then(|found| same(&found, &tidy::printed(text)))
+}
+
+/// Whether a program prints a text's slip or its refusal, byte for byte.
+fn slips(program: &str, text: &[u8]) -> Result<(), String> {
+    prints(program, text).and_then(|found| same(&found, &slip::printed(text)))
 }
 
 /// A program that is tested: its name, its path and its test.
@@ -52,14 +57,11 @@ type Tested = (&'static str, String, fn(&str, &[u8]) -> Result<(), String>);
 
 /// The programs that are named.
 fn programs() -> Vec<Tested> {
-    let mut all: Vec<Tested> = Vec::new();
-    if let Ok(path) = std::env::var("LOCKPLAN_PROGRAM") {
-        all.push(("report", path, reports));
-    }
-    if let Ok(path) = std::env::var("LOCKPLAN_TIDY") {
-        all.push(("tidy", path, tidies));
-    }
-    all
+    let named = |variable: &str| std::env::var(variable).ok();
+    let report = named("LOCKPLAN_PROGRAM").map(|path| -> Tested { ("report", path, reports) });
+    let tidy = named("LOCKPLAN_TIDY").map(|path| -> Tested { ("tidy", path, tidies) });
+    let slip = named("LOCKPLAN_SLIP").map(|path| -> Tested { ("slip", path, slips) });
+    [report, tidy, slip].into_iter().flatten().collect()
 }
 
 /// Fixed texts, families and generated ones, by name.
@@ -102,7 +104,9 @@ fn test((program, path, right): &Tested, cases: &[(String, Vec<u8>)]) -> usize {
 fn main() {
     let programs = programs();
     if programs.is_empty() {
-        eprintln!("program: nothing was tested: LOCKPLAN_PROGRAM and LOCKPLAN_TIDY name no program");
+        eprintln!(
+            "program: nothing was tested: LOCKPLAN_PROGRAM, LOCKPLAN_TIDY, LOCKPLAN_SLIP name no program"
+        );
         std::process::exit(2);
     }
     let number = |name: &str, default: u64| {

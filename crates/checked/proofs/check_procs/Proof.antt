@@ -1,7 +1,6 @@
--- Each rule passes before the next is tried, and the first that refuses gives the answer. Within rule 12 there are ranks.
+-- Rule 12 comes first; within it there are ranks, and rule 9 decides.
 use borrow.Author.Needs.{needs}
-use Rattle.plan.proofs.Passes.{first-refuses, first-passes}
-use Rattle.checked.proofs.Checked.{reading-ranks}
+use Rattle.checked.proofs.Checked.{recursion-refused, recursion-ranks, recursion-kept}
 use Rattle.checked.proofs.check_procs.Statement.{statement}
 use Rattle.checked.proofs.check_procs.Tie as tie
 
@@ -20,32 +19,20 @@ enum-told c = search needs
 enum-told-2 : tie.Need-enum-told-2
 enum-told-2 c = search needs
 
+no-space-requires : tie.Need-no-space-requires
+no-space-requires c κs = search needs
+
 returns : tie.Need-returns
-returns c = search (first-refuses, first-passes, needs)
+returns c = search (recursion-refused, needs)
 
 slice-aggregate-check-sizes : tie.Need-slice-aggregate-check-sizes
 slice-aggregate-check-sizes c = search needs
 
 check-sizes-requires : tie.Need-check-sizes-requires
-check-sizes-requires c κs = search (reading-ranks, needs)
-
-enum-told-3 : tie.Need-enum-told-3
-enum-told-3 c = search needs
-
-enum-told-4 : tie.Need-enum-told-4
-enum-told-4 c = search needs
+check-sizes-requires c κs = search (recursion-ranks, needs)
 
 returns-2 : tie.Need-returns-2
-returns-2 c = search (first-refuses, first-passes, needs)
-
-slice-aggregate-check-pairs : tie.Need-slice-aggregate-check-pairs
-slice-aggregate-check-pairs c = search needs
-
-check-pairs-requires : tie.Need-check-pairs-requires
-check-pairs-requires c κs = search needs
-
-returns-3 : tie.Need-returns-3
-returns-3 c = search (first-refuses, first-passes, needs)
+returns-2 c = search (recursion-kept, needs)
 
 pub check-procs-spec : {M : Type 1} → statement M
 check-procs-spec =
@@ -56,12 +43,8 @@ check-procs-spec =
     check-recursion-requires
     enum-told
     enum-told-2
+    no-space-requires
     returns
     slice-aggregate-check-sizes
     check-sizes-requires
-    enum-told-3
-    enum-told-4
-    returns-2
-    slice-aggregate-check-pairs
-    check-pairs-requires
-    returns-3)
+    returns-2)

@@ -37,7 +37,7 @@ same-length-2 : tie.Need-same-length-2
 same-length-2 c = search needs
 
 returns-2 : tie.Need-returns-2
-returns-2 c = search (text-refused, text-listed, needs)
+returns-2 c = search (text-listed, needs)
 
 same-length-3 : tie.Need-same-length-3
 same-length-3 c = search needs

@@ -13,8 +13,8 @@ enum-known-found c = search needs
 enum-told : tie.Need-enum-told
 enum-told c = search needs
 
-listing-number-requires : tie.Need-listing-number-requires
-listing-number-requires c κs = search (found-carried, needs)
+counted-number-requires : tie.Need-counted-number-requires
+counted-number-requires c κs = search (found-carried, needs)
 
 same-length : tie.Need-same-length
 same-length c = search needs
@@ -34,8 +34,8 @@ part-put-pairs-end c = search (found-within, needs)
 put-pairs-requires : tie.Need-put-pairs-requires
 put-pairs-requires c κs = search (bytes-room, needs)
 
-listing-number-requires-2 : tie.Need-listing-number-requires-2
-listing-number-requires-2 c κs = search (pairs-carried, needs)
+counted-number-requires-2 : tie.Need-counted-number-requires-2
+counted-number-requires-2 c κs = search (pairs-carried, needs)
 
 same-length-2 : tie.Need-same-length-2
 same-length-2 c = search needs
@@ -53,14 +53,14 @@ list-bytes-spec =
     pairs-of-requires
     enum-known-found
     enum-told
-    listing-number-requires
+    counted-number-requires
     same-length
     returns
     sub-put-pairs
     part-put-pairs-start
     part-put-pairs-end
     put-pairs-requires
-    listing-number-requires-2
+    counted-number-requires-2
     same-length-2
     same-length-3
     returns-2)

@@ -2,7 +2,7 @@
 use borrow.Author.Needs.{needs}
 use Prim.Native.Nat.{_-_}
 use mathlib.Core.Path.{_≡_}
-use Rattle.lists.proofs.Filling.{Filling, filling-none, thread-there, forms-there, proc-there, list-fits, list-room, count-there, filling-more, filling-done}
+use Rattle.lists.proofs.Filling.{Filling, filling-none, thread-there, proc-there, list-fits, list-room, count-there, filling-more, filling-done}
 use Rattle.lists.proofs.thread_lists.Statement.{statement}
 use Rattle.lists.proofs.thread_lists.Tie as tie
 
@@ -26,7 +26,7 @@ mul-list-from : tie.Need-mul-list-from Inv-loop μ-loop
 mul-list-from c = search (list-fits, needs)
 
 list-from-requires : tie.Need-list-from-requires Inv-loop μ-loop
-list-from-requires c κs = search (forms-there, proc-there, list-room, needs)
+list-from-requires c κs = search (proc-there, list-room, needs)
 
 mul-counts : tie.Need-mul-counts Inv-loop μ-loop
 mul-counts c = search needs

@@ -5,7 +5,7 @@ use Rattle.plan.proofs.top_of.Statement.{statement}
 use Rattle.plan.proofs.top_of.Tie as tie
 
 returns : tie.Need-returns
-returns c = search (top-none, top-some, needs)
+returns c = search (top-none, needs)
 
 sub-result : tie.Need-sub-result
 sub-result c = search needs
@@ -14,7 +14,7 @@ shared-slice-read-result : tie.Need-shared-slice-read-result
 shared-slice-read-result c = search needs
 
 returns-2 : tie.Need-returns-2
-returns-2 c = search (top-none, top-some, needs)
+returns-2 c = search (top-some, needs)
 
 pub top-of-spec : {M : Type 1} → statement M
 top-of-spec = tie.close (tie.spec returns sub-result shared-slice-read-result returns-2)

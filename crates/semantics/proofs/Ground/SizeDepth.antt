@@ -1,12 +1,11 @@
 -- Sizes through calls. The size of a procedure does not depend on the depth to which calls are followed, once that is above its rank, so `sizeOf`
 -- meets the equations of 01: a call has 1 and the size of what it calls.
-use Prim.Native.Nat.{ℕ, _+_, _<_}
-use mathlib.Core.List.{List, [], _∷_}
-use mathlib.Core.Path.{_≡_, refl, ap}
-use lib.ListN.{length, getD}
-use Rattle.semantics.specs.Plan.{Block, done, skip, call, hold, loop, either, end, bodyIn, Written, Sound, LockPlan}
-use Rattle.semantics.specs.Sizes.{sizeWith, sizeAt, sizeOf, sizes, threadSizes}
-use Rattle.semantics.specs.Retreat.{total}
+use Prim.Native.Nat.{ℕ, _<_}
+use mathlib.Core.List.{List}
+use mathlib.Core.Path.{_≡_, refl}
+use lib.ListN.{length}
+use Rattle.semantics.specs.Plan.{Block, done, skip, call, hold, loop, either, end, bodyIn, Written, Sound}
+use Rattle.semantics.specs.Sizes.{sizeWith, sizeAt, sizeOf}
 use Rattle.semantics.proofs.Ground.CallDepth.{depth-irrelevant, depth-unfolds}
 
 -- s and t agree where the calls meet C
@@ -33,13 +32,3 @@ module _ (ps : List Block) (rank : ℕ → ℕ) (s : Sound ps rank) where
   pub size-of-body : (p : ℕ) → rank p < length ps → sizeOf ps p ≡ sizeWith (sizeOf ps) (bodyIn ps p)
   unfolding sizeOf
   size-of-body p h = size-unfolds (length ps) p h
-
-pub sizes-total : (d : ℕ) (ps : List Block) (ns : List ℕ) → total (length ns) (λ t. sizeAt d ps (getD ns t 0)) ≡ sizes d ps ns
-unfolding total sizes
-sizes-total d ps [] = refl
-sizes-total d ps (n ∷ ns) = ap (λ k. sizeAt d ps n + k) (sizes-total d ps ns)
-
--- "the sum of its threads' sizes"
-pub thread-sizes : (plan : LockPlan) → total (length (plan .threads)) (λ t. sizeOf (plan .procs) (getD (plan .threads) t 0)) ≡ threadSizes plan
-unfolding sizeOf threadSizes
-thread-sizes plan = sizes-total (length (plan .procs)) (plan .procs) (plan .threads)

@@ -1,5 +1,5 @@
--- Functions on the threads' numbers: as lists of threads (`table`) and summed (`total`).
-use Prim.Native.Nat.{ℕ, zero, suc, _≤_, _<_}
+-- Functions on the threads' numbers as lists of threads (`table`).
+use Prim.Native.Nat.{ℕ, zero, suc, _<_}
 use mathlib.Core.List.{List}
 use mathlib.Core.Logic.{⊎-elim, _≢_}
 use mathlib.Core.Path.{_≡_, refl, sym, ap, _∙_, subst}
@@ -9,7 +9,7 @@ use lib.ListN.{length, set, length-set}
 use lib.Seq.{ext-getD, getD-set-same, getD-set-other}
 use Rattle.laws.proofs.Tests.{eq-or-ne}
 use Rattle.semantics.specs.Run.{ThreadState, nth, absentThread}
-use Rattle.semantics.specs.Retreat.{table, total}
+use Rattle.semantics.specs.Retreat.{table}
 
 pub length-table : (n : ℕ) (f : ℕ → ThreadState) → length (table n f) ≡ n
 unfolding table
@@ -36,26 +36,3 @@ set-table n f g k b h =
     ∙ getD-set-same (table n f) k (g k) absentThread (subst (λ m. k < m) (sym (length-table n f)) b) ∙ ap g (sym e))
     (λ (d : i ≢ k). getD-set-other (table n f) k i (g k) absentThread d ∙ nth-table n f i c ∙ h i d)
     (eq-or-ne i k))
-
-pub total-le : (n : ℕ) (j h : ℕ → ℕ) → ((i : ℕ) → i < n → j i ≤ h i) → total n j ≤ total n h
-unfolding total
-total-le zero j h a = omega arith
-total-le (suc n) j h a = omega (arith, a 0 (omega arith), total-le n (λ i. j (suc i)) (λ i. h (suc i)) (λ i b. a (suc i) (omega arith)))
-
-pub total-lt : (n : ℕ) (j h : ℕ → ℕ) → ((i : ℕ) → i < n → j i ≤ h i) → (k : ℕ) → k < n → j k < h k → total n j < total n h
-unfolding total
-total-lt zero j h a k b c = absurd (omega arith)
-total-lt (suc n) j h a zero b c = omega (arith, total-le n (λ i. j (suc i)) (λ i. h (suc i)) (λ i b. a (suc i) (omega arith)))
-total-lt (suc n) j h a (suc k) b c =
-    omega (arith, a 0 (omega arith), total-lt n (λ i. j (suc i)) (λ i. h (suc i)) (λ i b. a (suc i) (omega arith)) k (omega arith) c)
-
-pub total-ones : (n : ℕ) (j : ℕ → ℕ) → ((i : ℕ) → j i ≤ 1) → total n j ≤ n
-unfolding total
-total-ones zero j h = omega arith
-total-ones (suc n) j h = omega (arith, h 0, total-ones n (λ i. j (suc i)) (λ i. h (suc i)))
-
-pub total-at : (n : ℕ) (j : ℕ → ℕ) (i : ℕ) → i < n → j i ≤ total n j
-unfolding total
-total-at zero j i b = absurd (omega arith)
-total-at (suc n) j zero b = omega arith
-total-at (suc n) j (suc i) b = omega (arith, total-at n (λ i. j (suc i)) i (omega arith))

@@ -11,12 +11,14 @@ use native.Mathlib.Omega.{arith}
 use lib.ListN.{length, getD}
 use lib.Dec.{T, T-prop, eqb}
 use Rattle.laws.proofs.Tests.{T-dec, eqb-cases}
+use Rattle.laws.specs.Sums.{total}
+use Rattle.laws.proofs.Sums.{total-le}
 use Rattle.semantics.specs.Plan.{Block, hold, bodyIn, Plain}
 use Rattle.semantics.specs.Run.{ThreadState, thread, initial, apart, everyone, run, start, nth, counts}
 use Rattle.semantics.specs.Execution.{exec, stateAfter}
 use Rattle.semantics.specs.Conflict.{Conflict}
-use Rattle.semantics.specs.Retreat.{table, total, joint, Retreat}
-use Rattle.semantics.proofs.Ground.Tables.{length-table, nth-table, is-table, total-le}
+use Rattle.semantics.specs.Retreat.{table, joint, Retreat}
+use Rattle.semantics.proofs.Ground.Tables.{length-table, nth-table, is-table}
 use Rattle.semantics.proofs.Thread.Execution.{execution, exec-last}
 use Rattle.semantics.proofs.Gateway.Compatible.{HasLock, Excludes, unlocked-excludes-none, compatible-or-contended, compatible-sym}
 use Rattle.semantics.proofs.Gateway.Apart.{excludes-present, apart←}

@@ -10,11 +10,12 @@ use native.Mathlib.Omega.{arith}
 use lib.ListN.{length}
 use lib.Dec.{T, ltb, ltb→lt, lt→ltb}
 use Rattle.laws.proofs.Tests.{T-and, and-T, lt-or-le}
+use Rattle.laws.specs.Sums.{total}
+use Rattle.laws.proofs.Sums.{total-lt}
 use Rattle.semantics.specs.Plan.{Block, hold, end, bodyIn}
 use Rattle.semantics.specs.Run.{ThreadState, apart, everyone, run, counts}
 use Rattle.semantics.specs.Stuck.{Stuck}
-use Rattle.semantics.specs.Retreat.{total, joint, Retreat}
-use Rattle.semantics.proofs.Ground.Tables.{total-lt}
+use Rattle.semantics.specs.Retreat.{joint, Retreat}
 use Rattle.semantics.proofs.Thread.Balance.{balanced-plain}
 use Rattle.semantics.proofs.Thread.MatchingHold.{matching-hold}
 use Rattle.semantics.proofs.Gateway.Compatible.{Excludes}

@@ -16,8 +16,10 @@ use Rattle.limits.specs.Limits.{lockCount}
 use Rattle.laws.specs.Mask.{bit, inMask}
 use Rattle.laws.proofs.Tests.{T-dec, T-true, T-false, eq-or-ne, lt-or-le, eq→eqb}
 use Rattle.laws.proofs.Bits.{bit-and, bit-none, bit-lt, disjoint, of-disjoint, apart-in}
+use Rattle.laws.specs.Sums.{total}
+use Rattle.laws.proofs.Sums.{total-le}
 use Rattle.semantics.specs.Plan.{Block, hold, bodyIn, LockPlan, Sound, Plain}
-use Rattle.semantics.specs.Sizes.{sizeOf, threadSizes}
+use Rattle.semantics.specs.Sizes.{threadSize, threadSizes}
 use Rattle.semantics.specs.Run.{ThreadState, initial, unlocked, apart, everyone, run, start, nth, counts}
 use Rattle.semantics.specs.Stuck.{Stuck, Schedule}
 use Rattle.semantics.specs.Pairs.{heldFrom, held, heldOf, wantedOf}
@@ -26,10 +28,9 @@ use Rattle.semantics.specs.Conflict.{CompatibleIn, PairConflict}
 use Rattle.semantics.specs.Cycle.{Cycle}
 use Rattle.semantics.specs.Joins.{otherThan}
 use Rattle.semantics.specs.StuckRounds.{firstWanted, WantedAt, stuckRounds}
-use Rattle.semantics.specs.Retreat.{total, joint, Retreat, heldMask, positionOf, Paths, GoingBack, othersAt, scanBack, JumpTo}
+use Rattle.semantics.specs.Retreat.{joint, Retreat, heldMask, positionOf, Paths, GoingBack, othersAt, scanBack, JumpTo}
 use Rattle.semantics.proofs.Ground.LockSets.{free-digit, digit-free, digit-positive}
-use Rattle.semantics.proofs.Ground.Tables.{is-table, total-le}
-use Rattle.semantics.proofs.Ground.SizeDepth.{thread-sizes}
+use Rattle.semantics.proofs.Ground.Tables.{is-table}
 use Rattle.semantics.proofs.Thread.Transitions.{move-transition}
 use Rattle.semantics.proofs.Thread.Balance.{unlocked-count, zero-by-end}
 use Rattle.semantics.proofs.Thread.Execution.{execution}
@@ -410,11 +411,10 @@ module _ {ps : List Block} {ns : List ℕ} {P : ℕ → List ℕ} {s : ℕ → �
       }
 
 -- positions that are no higher than the threads' sizes are together no more than the plan asks of a schedule
-pub paths-short : (plan : LockPlan) (positions : List ℕ) → ((t : ℕ) → t < length (plan .threads) → positionOf positions t ≤ sizeOf (plan .procs) (getD (plan .threads) t 0))
+pub paths-short : (plan : LockPlan) (positions : List ℕ) → ((t : ℕ) → t < length (plan .threads) → positionOf positions t ≤ threadSize plan t)
     → total (length (plan .threads)) (positionOf positions) ≤ threadSizes plan
-paths-short plan positions h =
-    subst (λ b. total (length (plan .threads)) (positionOf positions) ≤ b) (thread-sizes plan)
-    (total-le (length (plan .threads)) (positionOf positions) (λ t. sizeOf (plan .procs) (getD (plan .threads) t 0)) h)
+unfolding threadSizes
+paths-short plan positions h = total-le (length (plan .threads)) (positionOf positions) (threadSize plan) h
 
 -- what the way back ends with is a schedule, its set computed by masks
 pub finished-schedule : (plan : LockPlan) (rank : ℕ → ℕ) → Sound (plan .procs) rank → {es wanted masks : List ℕ}

@@ -11,11 +11,13 @@ use native.Mathlib.Omega.{arith}
 use lib.ListN.{length, getD}
 use lib.Dec.{T, ltb, eqb, ltb→lt, lt→ltb, eqb→eq, eqb-refl}
 use Rattle.laws.proofs.Tests.{search-below, T-and, and-T, T-true, T-false, lt-or-le}
+use Rattle.laws.specs.Sums.{total}
+use Rattle.laws.proofs.Sums.{total-lt}
 use Rattle.semantics.specs.Plan.{Block}
 use Rattle.semantics.specs.Run.{ThreadState, initial, apart, everyone, run}
 use Rattle.semantics.specs.Stuck.{Stuck}
-use Rattle.semantics.specs.Retreat.{table, total, joint, Retreat}
-use Rattle.semantics.proofs.Ground.Tables.{length-table, is-table, total-lt}
+use Rattle.semantics.specs.Retreat.{table, joint, Retreat}
+use Rattle.semantics.proofs.Ground.Tables.{length-table, is-table}
 use Rattle.semantics.proofs.Retreat.JointStates.{Executions, earlier, joint-at}
 use Rattle.semantics.proofs.Retreat.RetreatStep.{Lowered, lowered-le, retreat-step}
 use Rattle.semantics.proofs.Retreat.RetreatRefused.{StepBackRefused, retreat-refused}

@@ -9,10 +9,11 @@ use native.Mathlib.Omega.{arith}
 use lib.ListN.{length, getD, set}
 use lib.Dec.{T}
 use Rattle.laws.proofs.Tests.{eq-or-ne}
+use Rattle.laws.proofs.Sums.{total-lt}
 use Rattle.semantics.specs.Plan.{Block}
 use Rattle.semantics.specs.Run.{ThreadState, move, apart, everyone, step, run}
 use Rattle.semantics.specs.Retreat.{joint, Retreat}
-use Rattle.semantics.proofs.Ground.Tables.{set-table, total-lt}
+use Rattle.semantics.proofs.Ground.Tables.{set-table}
 use Rattle.semantics.proofs.Gateway.Steps.{moveOf, step-some}
 use Rattle.semantics.proofs.Gateway.Invariant.{entry-thread, entry-choice}
 use Rattle.semantics.proofs.Retreat.JointStates.{Executions, earlier, joint-at, in-joint}

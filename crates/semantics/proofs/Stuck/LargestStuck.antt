@@ -10,11 +10,11 @@ use native.Mathlib.Omega.{arith}
 use lib.ListN.{length, set, List·getD-eq-default}
 use lib.Dec.{T, not-T}
 use Rattle.laws.proofs.Tests.{same-test, T-and, and-T, T-dec, lt-or-le, search-below}
+use Rattle.laws.specs.Sums.{total}
+use Rattle.laws.proofs.Sums.{total-ones, total-lt, total-at}
 use Rattle.semantics.specs.Plan.{Block, done, skip, call, hold, loop, either, end, _⨾_, bodyIn, Plain}
 use Rattle.semantics.specs.Run.{ThreadState, thread, up, move, everyone, stepIn, nth, absentThread, counts}
 use Rattle.semantics.specs.Stuck.{Stuck, Largest}
-use Rattle.semantics.specs.Retreat.{total}
-use Rattle.semantics.proofs.Ground.Tables.{total-ones, total-lt, total-at}
 use Rattle.semantics.proofs.Gateway.Apart.{Apart, apart→}
 use Rattle.semantics.proofs.Gateway.Steps.{moveOf, step-some}
 use Rattle.semantics.proofs.Gateway.Blocked.{Blocked, permitted-or-blocked, blocked-barred, blocked-stuck, stuck-blocked}

@@ -19,7 +19,7 @@ pass-over-requires : tie.Need-pass-over-requires Inv-loop μ-loop
 pass-over-requires c κs = search needs
 
 loop-holds : tie.Need-loop-holds Inv-loop μ-loop
-loop-holds c = search (sought-first, alike-counted, alike-within, needs)
+loop-holds c = search (sought-first, alike-counted, needs)
 
 line-end-requires : tie.Need-line-end-requires Inv-loop μ-loop
 line-end-requires c κs = search needs

@@ -105,7 +105,7 @@ write-block-same-length-2 : (t : ℕ) → write-block-lts.Need-same-length-2 (wr
 write-block-same-length-2 t c = search needs
 
 write-block-returns-2 : (t : ℕ) → write-block-lts.Need-returns-2 (write-block-calls t) (write-block-at t) write-block.Post write-block-Inv-loop write-block-μ-loop
-write-block-returns-2 t c = search (from-more, needs)
+write-block-returns-2 t c = search needs
 
 write-item-mul-form-at : (t : ℕ) → write-item-lts.Need-mul-form-at (write-item-calls t) (write-item-at t) write-item.Post
 write-item-mul-form-at t c = search needs

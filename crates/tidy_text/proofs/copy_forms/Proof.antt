@@ -36,13 +36,13 @@ same-length-2 : tie.Need-same-length-2
 same-length-2 c = search needs
 
 returns-2 : tie.Need-returns-2
-returns-2 c = search (copy-refused, copy-written, needs)
+returns-2 c = search (copy-written, needs)
 
 same-length-3 : tie.Need-same-length-3
 same-length-3 c = search needs
 
 returns-3 : tie.Need-returns-3
-returns-3 c = search (copy-refused, copy-written, needs)
+returns-3 c = search (copy-refused, needs)
 
 pub copy-forms-spec : {M : Type 1} → statement M
 copy-forms-spec =

@@ -7,8 +7,8 @@ use Rattle.tidy_text.proofs.copy_number.Tie as tie
 write-copy-requires : tie.Need-write-copy-requires
 write-copy-requires c κs = search needs
 
-copied-number-requires : tie.Need-copied-number-requires
-copied-number-requires c κs = search (copy-carried, needs)
+counted-number-requires : tie.Need-counted-number-requires
+counted-number-requires c κs = search (copy-carried, needs)
 
 same-length : tie.Need-same-length
 same-length c = search needs
@@ -18,4 +18,4 @@ returns c = search (copy-number, needs)
 
 pub copy-number-spec : {M : Type 1} → statement M
 copy-number-spec =
-    tie.close (tie.spec write-copy-requires copied-number-requires same-length returns)
+    tie.close (tie.spec write-copy-requires counted-number-requires same-length returns)

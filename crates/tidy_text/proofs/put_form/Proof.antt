@@ -32,7 +32,7 @@ slice-aggregate-put-number-line-2 : tie.Need-slice-aggregate-put-number-line-2
 slice-aggregate-put-number-line-2 c = search needs
 
 put-number-line-requires : tie.Need-put-number-line-requires
-put-number-line-requires c κs = search (thread-room, call-room, hold-room, needs)
+put-number-line-requires c κs = search (thread-room, needs)
 
 enum-told-3 : tie.Need-enum-told-3
 enum-told-3 c = search needs
@@ -62,7 +62,7 @@ slice-aggregate-put-number-line-4 : tie.Need-slice-aggregate-put-number-line-4
 slice-aggregate-put-number-line-4 c = search needs
 
 put-number-line-requires-2 : tie.Need-put-number-line-requires-2
-put-number-line-requires-2 c κs = search (thread-room, call-room, hold-room, needs)
+put-number-line-requires-2 c κs = search (call-room, needs)
 
 enum-known-form-3 : tie.Need-enum-known-form-3
 enum-known-form-3 c = search needs
@@ -74,7 +74,7 @@ slice-aggregate-put-number-line-6 : tie.Need-slice-aggregate-put-number-line-6
 slice-aggregate-put-number-line-6 c = search needs
 
 put-number-line-requires-3 : tie.Need-put-number-line-requires-3
-put-number-line-requires-3 c κs = search (thread-room, call-room, hold-room, needs)
+put-number-line-requires-3 c κs = search (hold-room, needs)
 
 enum-told-5 : tie.Need-enum-told-5
 enum-told-5 c = search needs

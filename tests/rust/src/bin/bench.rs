@@ -13,7 +13,7 @@ use std::time::Duration;
 
 use lockplan_tests::answer::{Answer, REFUSED};
 use lockplan_tests::compare::kind;
-use lockplan_tests::reference::{read, MAX_PAIRS, SCHEDULE_ENTRIES};
+use lockplan_tests::reference::{read, MAX_PAIRS, MAX_SUM};
 use lockplan_tests::tidy::COPY_BYTES;
 use lockplan_tests::verdict::{conflict_within, pairs_of_threads};
 use lockplan_tests::{families, lengths, library, standin};
@@ -73,7 +73,7 @@ const CALLS: [&str; 3] = ["verdict", "pairs", "tidy"];
 
 /// Their times on a text.
 fn times(text: &[u8], rounds: usize) -> [Duration; 3] {
-    let mut out = vec![0; COPY_BYTES.max(2 * SCHEDULE_ENTRIES).max(8 * MAX_PAIRS)];
+    let mut out = vec![0; COPY_BYTES.max(2 * MAX_SUM).max(8 * MAX_PAIRS)];
     let verdict = median(rounds, || {
         black_box(library::verdict(black_box(text), &mut out));
     });
@@ -109,7 +109,7 @@ fn print_lengths(rounds: usize) {
     for long in lengths::all() {
         let without = standin::copy_by(&long.text, standin::tidy_line);
         let lines = |text: &[u8]| text.iter().filter(|byte| **byte == 10).count();
-        let answer = Answer::new(library::verdict(&long.text, &mut vec![0; 2 * SCHEDULE_ENTRIES]));
+        let answer = Answer::new(library::verdict(&long.text, &mut vec![0; 2 * MAX_SUM]));
         let said = match answer.kind {
             REFUSED => format!("{} {} {}", kind(answer), answer.a, answer.b),
             _ => kind(answer).into(),
@@ -144,7 +144,7 @@ fn print_families(rounds: usize, family: &str, spin: &str) -> usize {
             continue;
         }
         let text = draft.text();
-        let mut out = vec![0; 2 * SCHEDULE_ENTRIES];
+        let mut out = vec![0; 2 * MAX_SUM];
         let answer = Answer::new(library::verdict(&text, &mut out));
         let ours = median(rounds, || {
             black_box(library::verdict(black_box(&text), &mut out));

@@ -5,14 +5,16 @@
 //!
 //! LOCKPLAN_LIB names the folder of another build. Of each text it asks for the
 //! verdict, the pair list of each procedure and of one behind the last, and the tidy
-//! copy, and takes in the answers and the whole buffers.
+//! copy, and takes in the answers and the whole buffers. Each verdict is lent 6,144
+//! entries, which are enough for every plan. The space call is left out, so that a
+//! library without it can be compared.
 
 use lockplan_tests::answer::{Answer, REFUSED};
 use lockplan_tests::families;
 use lockplan_tests::generate::generate;
 use lockplan_tests::library::{pairs, tidy, verdict};
 use lockplan_tests::random::Random;
-use lockplan_tests::reference::{MAX_PAIRS, SCHEDULE_ENTRIES};
+use lockplan_tests::reference::{MAX_PAIRS, MAX_SUM};
 use lockplan_tests::shelf::{all, all_indented};
 use lockplan_tests::tidy::COPY_BYTES;
 
@@ -40,7 +42,7 @@ impl Digest {
 
     /// All calls on a text: whether it is accepted.
     fn text(&mut self, text: &[u8]) -> bool {
-        let judged = self.call(2 * SCHEDULE_ENTRIES, |out| verdict(text, out));
+        let judged = self.call(2 * MAX_SUM, |out| verdict(text, out));
         for proc in 0.. {
             let listed = self.call(8 * MAX_PAIRS, |out| pairs(text, proc, out));
             if listed.kind == REFUSED {

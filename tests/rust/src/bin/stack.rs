@@ -18,7 +18,7 @@ use lockplan_tests::families::{self, hold, nest, skips, Draft, Tree};
 use lockplan_tests::generate::{generate, statements};
 use lockplan_tests::guard::{report_faults, Pages};
 use lockplan_tests::random::Random;
-use lockplan_tests::reference::{read, MAX_BRACKETS, MAX_PAIRS, MAX_PROCS, MAX_SIZE, SCHEDULE_ENTRIES};
+use lockplan_tests::reference::{read, MAX_BRACKETS, MAX_PAIRS, MAX_PROCS, MAX_SIZE, MAX_SUM};
 use lockplan_tests::shelf::all;
 use lockplan_tests::tidy::COPY_BYTES;
 
@@ -28,6 +28,7 @@ extern "C" {
     fn lockplan_verdict();
     fn lockplan_pairs();
     fn lockplan_tidy();
+    fn lockplan_space();
 }
 
 /// A call of the library.
@@ -37,6 +38,7 @@ enum Call {
     /// The pair list of a procedure.
     Pairs(usize),
     Tidy,
+    Space,
 }
 
 impl Call {
@@ -46,6 +48,7 @@ impl Call {
             Call::Verdict => "verdict".into(),
             Call::Pairs(proc) => proc.to_string(),
             Call::Tidy => "tidy".into(),
+            Call::Space => "space".into(),
         }
     }
 
@@ -53,6 +56,7 @@ impl Call {
         match word {
             "verdict" => Call::Verdict,
             "tidy" => Call::Tidy,
+            "space" => Call::Space,
             _ => Call::Pairs(word.parse().expect("a procedure")),
         }
     }
@@ -60,12 +64,13 @@ impl Call {
 
 /// Makes a call on the stack that ends at `top`, a multiple of 16.
 fn call_on(top: *mut u8, call: Call, text: &[u8]) -> Answer {
-    let mut out = vec![0_u8; COPY_BYTES.max(2 * SCHEDULE_ENTRIES).max(8 * MAX_PAIRS)];
+    let mut out = vec![0_u8; COPY_BYTES.max(2 * MAX_SUM).max(8 * MAX_PAIRS)];
     let (at, bytes) = (out.as_mut_ptr() as usize, out.len());
     let (function, words) = match call {
         Call::Verdict => (lockplan_verdict as *const (), [at, bytes, 0]),
         Call::Pairs(proc) => (lockplan_pairs as *const (), [proc, at, bytes]),
         Call::Tidy => (lockplan_tidy as *const (), [at, bytes, 0]),
+        Call::Space => (lockplan_space as *const (), [0; 3]),
     };
     let answer: u64;
     // SAFETY: the text and the buffer are lent for the call with their lengths,
@@ -309,18 +314,19 @@ fn others_of(texts: u64, seed: u64) -> Vec<(String, Texts)> {
 }
 
 /// The plans of a row that need most, by call.
-struct Row([Most; 3]);
+struct Row([Most; 4]);
 
 impl Row {
     fn new() -> Row {
-        Row([Call::Verdict, Call::Pairs(0), Call::Tidy].map(Most::new))
+        Row([Call::Verdict, Call::Pairs(0), Call::Tidy, Call::Space].map(Most::new))
     }
 
     /// The verdict's answer.
     fn take(&mut self, painted: &mut Painted, proc: usize, text: &[u8], plan: &str) -> Answer {
-        let [verdict, pairs, tidy] = &mut self.0;
+        let [verdict, pairs, tidy, space] = &mut self.0;
         pairs.take(painted, Call::Pairs(proc), text, plan);
         tidy.take(painted, Call::Tidy, text, plan);
+        space.take(painted, Call::Space, text, plan);
         verdict.take(painted, Call::Verdict, text, plan)
     }
 
@@ -336,14 +342,15 @@ impl Row {
     }
 
     fn print(&self, name: &str) {
-        let [verdict, pairs, tidy] = &self.0;
+        let [verdict, others @ ..] = &self.0;
         let mut plans = verdict.plan.clone();
-        for (call, most) in [("pairs", pairs), ("tidy", tidy)] {
+        for (call, most) in ["pairs", "tidy", "space"].into_iter().zip(others) {
             if most.plan != verdict.plan {
                 plans += &format!("; {call}: {}", most.plan);
             }
         }
-        println!("{name:14} {:8} {:8} {:8}  {plans}", verdict.least(), pairs.least(), tidy.least());
+        let figures: String = self.0.iter().map(|most| format!(" {:8}", most.least())).collect();
+        println!("{name:14}{figures}  {plans}");
     }
 }
 
@@ -364,8 +371,8 @@ fn main() {
     }
     let mut painted = Painted::new();
     println!(
-        "{:14} {:>8} {:>8} {:>8}  plan of the verdict's figure; of the others where they have another",
-        "plans", "verdict", "pairs", "tidy"
+        "{:14} {:>8} {:>8} {:>8} {:>8}  plan of the verdict's figure; of the others where they have another",
+        "plans", "verdict", "pairs", "tidy", "space"
     );
     for (name, towers) in towers() {
         let mut row = Row::new();
