@@ -5,7 +5,7 @@ use native.Mathlib.Omega.{arith}
 use mathlib.Core.Path.{_≡_, sym, ap, _∙_}
 use mathlib.Core.List.{List}
 use mathlib.Core.Option.{Option, none}
-use lib.ListN.{length, take, length-map}
+use lib.ListN.{length, take}
 use Rattle.laws.proofs.Tests.{first-none}
 use Rattle.limits.specs.Limits.{maxForms}
 use Rattle.text.specs.declared.Refusal.{Refusal}
@@ -14,15 +14,14 @@ use Rattle.text.proofs.Splits.{few-forms}
 use Rattle.semantics.specs.Plan.{Ranks}
 use Rattle.plan.specs.declared.Reading.{Reading}
 use Rattle.plan.specs.declared.Reading.the-variants.{Accepted, Refused}
-use Rattle.plan.specs.Table.{formAt, tableForms}
-use Rattle.plan.specs.Grammar.{planIn}
+use Rattle.plan.specs.Table.{tableForms}
 use Rattle.plan.specs.Settled.{PlanTable, tablePlan}
 use Rattle.plan.specs.Rules.{linesRefusal, grammarRefusal, recursive, tooLarge, tooManyPairs, procsRefusal, formsRefusal, inFile, sizesRefusal, planRefusal, planOf}
 use Rattle.plan.specs.Rules.{readingOf, readInFile, Tabled}
 use Rattle.plan.proofs.Passes.{first-refuses, first-passes}
 use Rattle.plan.proofs.Filling.{accepted-none, read-in-file}
 use Rattle.plan.proofs.Ranked.{rules-ranks}
-use Rattle.plan.proofs.AcceptedTable.{file-none, lines-short, formed-table, tabled-kept, tabled-count, tabled-forms, plan-within}
+use Rattle.plan.proofs.AcceptedTable.{file-none, lines-short, formed-table, tabled-kept, tabled-count, tabled-forms, tabled-size, tabled-same, plan-within}
 use Rattle.procs.specs.declared.Layout.{Layout}
 use Rattle.procs.specs.Laid.{Laid}
 use Rattle.sizes.specs.declared.Space.{Space}
@@ -122,7 +121,7 @@ module _ (text table : List ℕ) (q : Reading) (t : Tabled (linesRefusal text) t
     forms = tabled-forms (linesRefusal text) text table q n t g
 
     size : length (take (n - 0) table) ≡ length (formsOf text)
-    size = sym (length-map (take (n - 0) table) formAt) ∙ ap length forms
+    size = tabled-size (linesRefusal text) text table q n t g
 
     pub text-room : (table₀ : List ℕ) → maxForms ≤ length table₀ → length table ≡ length table₀ → n ≤ length table
     text-room table₀ a b = omega (arith, count, few-forms text, lines-short text kept)
@@ -132,13 +131,13 @@ module _ (text table : List ℕ) (q : Reading) (t : Tabled (linesRefusal text) t
 
     pub text-checked : (c : CheckedText) (r : Reading) (l : Layout) (s : Space) → ChecksTable (take (n - 0) table) c → r ≡ readInFile text (c .reading) → l ≡ c .layout → s ≡ c .space
         → Checks (sizesRefusal text) text (record { reading = r; layout = l; space = s }) table
-    unfolding sizesRefusal planOf
+    unfolding sizesRefusal
     text-checked c r l s d h i j =
         let read : r ≡ readingOf later (length (formsOf text)) =
         let table-read : c .reading ≡ readingOf (formsRefusal (formsOf text)) (length (formsOf text)) = d .reading ∙ rw (forms, size) in
         h ∙ ap (readInFile text) table-read ∙ read-in-file text (formsRefusal (formsOf text)) (length (formsOf text)) in
         let none-over : sizesRefusal text ≡ none → formsRefusal (tableForms (take (n - 0) table)) ≡ none = λ e. rw forms (within e .1) in
-        let same : tablePlan (take (n - 0) table) ≡ planOf text = ap planIn forms in
+        let same : tablePlan (take (n - 0) table) ≡ planOf text = tabled-same (linesRefusal text) text table q n t g in
         record {
           tabled = record {
             answer = first-passes (linesRefusal text) later q r (length (formsOf text)) n (t .answer) g read;
@@ -160,9 +159,6 @@ module _ (refused : Option Refusal) (text table : List ℕ) (r : CheckedText) (n
 
 pub sizes-laid : (text table : List ℕ) (r : CheckedText) (n : ℕ) → Checks (sizesRefusal text) text r table → r .reading ≡ Accepted n → Laid (take (n - 0) table) (r .layout)
 sizes-laid text table r n t g = checked-laid (sizesRefusal text) text table r n t g
-
-pub sizes-space : (text table : List ℕ) (r : CheckedText) (n : ℕ) → Checks (sizesRefusal text) text r table → r .reading ≡ Accepted n → SpaceOf (planOf text) (r .space)
-sizes-space text table r n t g = checked-space (sizesRefusal text) text table r n t g
 
 pub plan-laid : (text table : List ℕ) (r : CheckedText) (n : ℕ) → Checks (planRefusal text) text r table → r .reading ≡ Accepted n → Laid (take (n - 0) table) (r .layout)
 plan-laid text table r n t g = checked-laid (planRefusal text) text table r n t g
@@ -194,7 +190,7 @@ module _ (text table : List ℕ) (c : CheckedText) (t : Checks (sizesRefusal tex
   pairs-checked n q r l s g e h i j =
       let k = length (formsOf text) in
       let forms : tableForms (take (n - 0) table) ≡ formsOf text = tabled-forms (sizesRefusal text) text table (c .reading) n (t .tabled) g in
-      let size : length (take (n - 0) table) ≡ k = sym (length-map (take (n - 0) table) formAt) ∙ ap length forms in
+      let size : length (take (n - 0) table) ≡ k = tabled-size (sizesRefusal text) text table (c .reading) n (t .tabled) g in
       let table-read : q ≡ readingOf (tooManyPairs (formsOf text)) k = e ∙ rw (forms, size) in
       let read : r ≡ readingOf many k = h ∙ ap (readInFile text) table-read ∙ read-in-file text (tooManyPairs (formsOf text)) k in
       record {

@@ -2,10 +2,10 @@
 -- names a line; and what its table then holds (`rules-kept`).
 use Prim.Native.Nat.{ℕ, _-_, _≤_}
 use native.Mathlib.Omega.{arith}
-use mathlib.Core.Path.{_≡_, refl, sym, _∙_}
+use mathlib.Core.Path.{_≡_, refl, sym, ap, _∙_}
 use mathlib.Core.List.{List}
 use mathlib.Core.Option.{Option, none, some, Option·some-ne-none, orElse}
-use lib.ListN.{length, take}
+use lib.ListN.{length, take, length-map}
 use lib.Dec.{ltb}
 use Rattle.laws.proofs.Tests.{first-none}
 use borrow.Author.Tests.{ltb-false, le-ltb}
@@ -17,9 +17,9 @@ use Rattle.text.specs.Lines.{formsOf, unreadableLine}
 use Rattle.text.proofs.Splits.{few-forms}
 use Rattle.plan.specs.declared.Reading.{Reading}
 use Rattle.plan.specs.declared.Reading.the-variants.{Accepted}
-use Rattle.plan.specs.Table.{tableForms}
-use Rattle.plan.specs.Grammar.{forms}
-use Rattle.plan.specs.Settled.{Settled, PlanTable, RulesKept}
+use Rattle.plan.specs.Table.{formAt, tableForms}
+use Rattle.plan.specs.Grammar.{forms, planIn}
+use Rattle.plan.specs.Settled.{Settled, tablePlan, PlanTable, RulesKept}
 use Rattle.plan.specs.Rules.{refusedAt, tooLong, linesRefusal, grammarRefusal, recursive, tooLarge, tooManyPairs, procsRefusal, formsRefusal, inFile}
 use Rattle.plan.specs.Rules.{sizesRefusal, planRefusal, planOf, Tabled}
 use Rattle.plan.proofs.Kept.{kept, no-line, unflagged}
@@ -130,6 +130,13 @@ module _ (refused : Option Refusal) (text table : List ℕ) (q : Reading) (n : �
   pub tabled-forms : tableForms (take (n - 0) table) ≡ formsOf text
   tabled-forms = rw tabled-count (t .forms tabled-kept)
 
+  pub tabled-size : length (take (n - 0) table) ≡ length (formsOf text)
+  tabled-size = sym (length-map (take (n - 0) table) formAt) ∙ ap length tabled-forms
+
+  pub tabled-same : tablePlan (take (n - 0) table) ≡ planOf text
+  unfolding planOf
+  tabled-same = ap planIn tabled-forms
+
   -- by those up to and with 9 at least
   module _ (within : refused ≡ none → sizesRefusal text ≡ none) where
     tabled-rules : SizesRules text
@@ -156,6 +163,9 @@ module _ (text table : List ℕ) (q : Reading) (n : ℕ) (t : Tabled (planRefusa
 
   pub plan-forms : tableForms (take (n - 0) table) ≡ formsOf text
   plan-forms = tabled-forms (planRefusal text) text table q n t g
+
+  pub plan-same : tablePlan (take (n - 0) table) ≡ planOf text
+  plan-same = tabled-same (planRefusal text) text table q n t g
 
   pub plan-room : (table₀ : List ℕ) → maxForms ≤ length table₀ → length table ≡ length table₀ → n ≤ length table
   plan-room = tabled-room (planRefusal text) text table q n t g (plan-within text)

@@ -1,7 +1,7 @@
 -- What a text leaves in the tables: those of its plan where it is accepted, and else the refusal, with no procedure to report.
 use Prim.Native.Nat.{ℕ, _-_, _<_, _≤_}
 use native.Mathlib.Omega.{arith}
-use mathlib.Core.Path.{_≡_, refl, sym, ap, _∙_}
+use mathlib.Core.Path.{_≡_, refl, sym, _∙_}
 use mathlib.Core.List.{List}
 use mathlib.Core.Option.{Option, none, Option·none-ne-some}
 use lib.ListN.{length, take, length-take}
@@ -12,12 +12,11 @@ use Rattle.semantics.specs.Sizes.{threadSizes}
 use Rattle.plan.specs.declared.Reading.{Reading}
 use Rattle.plan.specs.declared.Reading.the-variants.{Accepted}
 use Rattle.plan.specs.declared.Reading.the-variants as plan
-use Rattle.plan.specs.Grammar.{planIn}
 use Rattle.text.specs.declared.Refusal.{Refusal}
 use Rattle.plan.specs.Rules.{planRefusal, planOf, Tabled}
 use Rattle.plan.specs.Table.{tableForms}
 use Rattle.plan.specs.Settled.{tablePlan, RulesKept}
-use Rattle.plan.proofs.AcceptedTable.{plan-kept, plan-forms, plan-room, rules-kept}
+use Rattle.plan.proofs.AcceptedTable.{plan-kept, plan-same, plan-room, rules-kept}
 use Rattle.plan.proofs.Filling.{refused-is}
 use Rattle.plan.proofs.WithinSize.{sum-within}
 use Rattle.deadlock.specs.Findings.{TableJudged}
@@ -54,9 +53,8 @@ no-refusal-procedures plan (Refused x) schedule d = absurd (Option·none-ne-some
 module _ (text table : List ℕ) (q : Reading) (n : ℕ) (t : Tabled (planRefusal text) text q table) (g : q ≡ Accepted n) where
   pub plan-prepared : (table₀ entries : List ℕ) (j : Findings) → maxForms ≤ length table₀ → length table ≡ length table₀ → PlanPrepared (take (n - 0) table) j entries
       → Prepared text j table entries
-  unfolding planOf
   plan-prepared table₀ entries j a b x =
-      let same : tablePlan (take (n - 0) table) ≡ planOf text = ap planIn (plan-forms text table q n t g) in
+      let same = plan-same text table q n t g in
       let kept = plan-kept text table q n t g in
       let fits : n ≤ length table = plan-room text table q n t g table₀ a b in
       let e : j .forms ≡ n - 0 = x .forms ∙ length-take-le (n - 0) table (omega arith) in

@@ -22,10 +22,9 @@ use Rattle.semantics.specs.Sizes.{threadSizes}
 use Rattle.plan.specs.declared.Reading.{Reading}
 use Rattle.plan.specs.declared.Reading.the-variants.{Accepted}
 use Rattle.plan.specs.declared.Reading.the-variants as plan
-use Rattle.plan.specs.Grammar.{planIn}
 use Rattle.plan.specs.Settled.{tablePlan}
 use Rattle.plan.specs.Rules.{planOf, planRefusal, tooFewEntries, verdictRefusal, Tabled}
-use Rattle.plan.proofs.AcceptedTable.{plan-kept, plan-forms, plan-within, sizes-sum}
+use Rattle.plan.proofs.AcceptedTable.{plan-kept, plan-same, plan-within, sizes-sum}
 use Rattle.plan.proofs.Filling.{refused-is}
 use Rattle.buffers.specs.LittleEndian.{listBytes}
 use Rattle.sizes.specs.declared.Space.{Space}
@@ -60,17 +59,13 @@ judged-refused text before table x q t g =
     record { schedule = []; judged = (rw e, refl); buffer = refl }
 
 module _ (text table : List ℕ) (n : ℕ) (q : Reading) (t : Tabled (planRefusal text) text q table) (g : q ≡ Accepted n) where
-  same-plan : tablePlan (take (n - 0) table) ≡ planOf text
-  unfolding planOf
-  same-plan = ap planIn (plan-forms text table q n t g)
-
   pub table-sum : (s : Space) → SpaceOf (planOf text) s → s .sum ≡ threadSizes (tablePlan (take (n - 0) table))
-  table-sum s p = p .sum ∙ ap threadSizes (sym same-plan)
+  table-sum s p = p .sum ∙ ap threadSizes (sym (plan-same text table q n t g))
 
   pub judged-found : (before after : List ℕ) (r : Verdict) → LentJudged (take (n - 0) table) before r after → Judged text before r after
   unfolding verdictRefusal orElse
   judged-found before after r d =
-      record { schedule = d .schedule; judged = rw (plan-kept text table q n t g, ← same-plan) (d .judged); buffer = d .buffer }
+      record { schedule = d .schedule; judged = rw (plan-kept text table q n t g, ← plan-same text table q n t g) (d .judged); buffer = d .buffer }
 
 -- ---- bytes
 
