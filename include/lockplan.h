@@ -24,9 +24,8 @@
  * answers with the sum of the sizes of the plan's threads, and a buffer of so many
  * whole entries, two bytes each, always suffices; one of fewer is refused with rule
  * 1, also where the answer would be free, but only if no rule of the plan is broken.
- * LOCKPLAN_ENTRIES suffice for every plan. lockplan_space refuses by the rules up to
- * and with 9 in checking order: a text that it refuses the verdict refuses alike,
- * whatever is lent, and one that breaks rule 10 alone has its sum.
+ * LOCKPLAN_ENTRIES suffice for every plan. lockplan_space refuses by the plan's
+ * rules: a text that it refuses the verdict refuses alike, whatever is lent.
  *
  * A buffer of fewer words or bytes than the constants below is refused with rule 1
  * by the pair list and the tidy copy, before the plan is looked at.
@@ -45,8 +44,9 @@ extern "C" {
 
 /* A number of 16-bit entries that suffices for the verdict on every plan. */
 #define LOCKPLAN_ENTRIES 6144
-/* Least number of 64-bit words in the buffer of a pair list. */
-#define LOCKPLAN_WORDS 128
+/* Least number of 64-bit words in the buffer of a pair list; no procedure of an
+ * accepted plan has more pairs. */
+#define LOCKPLAN_WORDS 511
 /* The same in bytes. */
 #define LOCKPLAN_ENTRY_BYTES (2 * LOCKPLAN_ENTRIES)
 #define LOCKPLAN_WORD_BYTES (8 * LOCKPLAN_WORDS)

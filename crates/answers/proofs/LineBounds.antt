@@ -21,9 +21,9 @@ use Rattle.semantics.specs.Sizes.{threadSizes}
 use Rattle.plan.specs.Grammar.{planIn}
 use Rattle.plan.specs.Structure.{misplacedForm}
 use Rattle.plan.specs.Limits.{pastLimitForm, breakingForm}
-use Rattle.plan.specs.Rules.{refusedAt, refusedIf, tooLong, linesRefusal, referencesRefusal, grammarRefusal, procForm, lowestFrom, procRefusal, recursive, tooLarge, tooManyPairs}
-use Rattle.plan.specs.Rules.{formsRefusal, inFile, planOf, sizesRefusal, planRefusal, tooFewEntries, verdictRefusal, pairsRefusal, tidyRefusal}
-use Rattle.plan.proofs.AcceptedTable.{short-enough, lines-short, sizes-rules}
+use Rattle.plan.specs.Rules.{refusedAt, refusedIf, tooLong, linesRefusal, referencesRefusal, grammarRefusal, procForm, lowestFrom, procRefusal, recursive, tooLarge}
+use Rattle.plan.specs.Rules.{formsRefusal, inFile, planOf, planRefusal, tooFewEntries, verdictRefusal, pairsRefusal, tidyRefusal}
+use Rattle.plan.proofs.AcceptedTable.{short-enough, lines-short}
 
 -- ---- lines
 
@@ -115,10 +115,6 @@ module _ (fs : List Form) where
       (λ _. if-or _ _ (small-at 5 (pastLimitForm fs) (omega arith)) (λ _. if-or _ _ (by 6 (omega arith)) (λ _. if-or _ _ (by 7 (omega arith)) (λ _. by 8 (omega arith))))))
       (λ _. if-or _ _ (small-proc 12 _ (omega arith)) (λ _. small-proc 9 _ (omega arith)))
 
-  pairs-small : If SmallRule (tooManyPairs fs)
-  unfolding tooManyPairs
-  pairs-small = small-proc 10 _ (omega arith)
-
 module _ (text : List ℕ) where
   lines-bounded : length text ≤ maxBytes → If Numbers (refusedAt 3 (unreadableLine text))
   unfolding unreadableLine
@@ -130,15 +126,11 @@ module _ (text : List ℕ) where
   bounded-file short (some x) s = if-some Numbers (x .rule) (lineOf text (x .line))
       (record { rule = s x refl; line = omega (arith, line-of-most text (x .line), lines-few text) })
 
-  pub sizes-bounded : (w : Refusal) → sizesRefusal text ≡ some w → Numbers w
-  unfolding sizesRefusal linesRefusal tooLong
-  sizes-bounded =
+  pub plan-bounded : (w : Refusal) → planRefusal text ≡ some w → Numbers w
+  unfolding planRefusal linesRefusal tooLong
+  plan-bounded =
       if-or _ _ (if-or _ _ (bounded-if 2 (ltb maxBytes (length text)) (omega arith)) (λ e. lines-bounded (short-enough text e)))
       (λ e. bounded-file (lines-short text e) (formsRefusal (formsOf text)) (forms-small (formsOf text)))
-
-  pub plan-bounded : (w : Refusal) → planRefusal text ≡ some w → Numbers w
-  unfolding planRefusal
-  plan-bounded = if-or _ _ sizes-bounded (λ e. bounded-file (sizes-rules text e .short) (tooManyPairs (formsOf text)) (pairs-small (formsOf text)))
 
 pub pairs-bounded : (text : List ℕ) (p lent : ℕ) (w : Refusal) → pairsRefusal text p lent ≡ some w → Numbers w
 unfolding pairsRefusal

@@ -50,18 +50,6 @@ pub fn put_entries(entries: &[u16], out: &mut [u8])
     }
 }
 
-// Pairs, 64-bit words, as they are.
-pub fn copy_pairs(pairs: &[u64], out: &mut [u64])
-    requires { ⌜ length (now pairs) ≤ length (now out) ⌝ }
-    ensures { λ _. ⌜ Wrote (now (out .entry)) (now (out .exit)) 0 (length (now (pairs .entry))) (now (pairs .entry)) ⌝ }
-{
-    let mut i: usize = 0;
-    while i < pairs.len() {
-        out[i] = pairs[i];
-        i += 1;
-    }
-}
-
 // 16-bit entries as they are.
 pub fn copy_entries(entries: &[u16], out: &mut [u16])
     requires { ⌜ length (now entries) ≤ length (now out) ⌝ }

@@ -1,2 +1,2 @@
--- The rules in checking order, up to and with 9 or all of the plan's.
+-- The rules in checking order.
 pub mod Checked

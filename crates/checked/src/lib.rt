@@ -1,19 +1,18 @@
-// The rules over a text, in checking order, each tested over the whole text before the next: up to and with 9, or all of the plan's; and of a text that keeps them the
-// layout of its table and the space that a schedule needs.
+// The plan's rules over a text, in checking order, each tested over the whole text before the next; and of a text that keeps them the layout of its table and the space
+// that a schedule needs.
 ghost use mathlib.Core.Path.{_≡_};
-ghost use mathlib.Core.Option.{none};
 ghost use Prim.Native.Nat.{_≤_};
 ghost use lib.ListN.{length};
 ghost use Rattle.limits.specs.Limits.{maxForms};
-ghost use Rattle.plan.specs.Table.{tableForms};
-ghost use Rattle.plan.specs.Settled.{PlanTable, tablePlan};
-ghost use Rattle.plan.specs.Rules.{grammarRefusal, procsRefusal, tooManyPairs, sizesRefusal, planRefusal, readingOf};
+ghost use Rattle.plan.specs.Table.{tableForms, FormRoom};
+ghost use Rattle.plan.specs.Settled.{PlanTable};
+ghost use Rattle.plan.specs.Rules.{grammarRefusal, procsRefusal, formsRefusal, readingOf};
 ghost use Rattle.procs.specs.Laid.{Laid};
-ghost use Rattle.checked.specs.Checks.{ChecksProcs, ChecksPlan, ChecksTable, Checks};
+ghost use Rattle.sizes.specs.Space.{ChecksSizes};
+ghost use Rattle.checked.specs.Checks.{ChecksTable, Checks};
 use limits::MAX_FORMS;
 use limits::MAX_PROCS;
 use limits::MAX_THREADS;
-use limits::PAIR_ROOM;
 use plan::Reading;
 use procs::Layout;
 use sizes::CheckedSizes;
@@ -63,7 +62,7 @@ fn check_grammar(table: &[u64]) -> Reading
 // Rules 12 and 9 over the table of a plan, and the space that a schedule needs.
 fn check_procs(table: &[u64], layout: Layout) -> CheckedSizes
     requires { ⌜ PlanTable (now table) × Laid (now table) layout ⌝ }
-    ensures { λ r. ⌜ ChecksProcs (now (table .entry)) r ⌝ }
+    ensures { λ r. ⌜ ChecksSizes (procsRefusal (tableForms (now (table .entry)))) (now (table .entry)) r ⌝ }
 {
     let masks = reach::reach_masks(table, layout);
     let called = reach::check_recursion(table, layout, &masks);
@@ -79,7 +78,7 @@ fn check_procs(table: &[u64], layout: Layout) -> CheckedSizes
 // Rules 12 and 9 over the table of a plan, the table's layout and the space.
 fn check_plan(table: &[u64]) -> CheckedText
     requires { ⌜ PlanTable (now table) ⌝ }
-    ensures { λ r. ⌜ ChecksPlan (now (table .entry)) r ⌝ }
+    ensures { λ r. ⌜ ChecksTable (procsRefusal (tableForms (now (table .entry)))) (now (table .entry)) r ⌝ }
 {
     let layout = procs::layout_of(table);
     let sized = check_procs(table, layout);
@@ -92,10 +91,10 @@ fn check_plan(table: &[u64]) -> CheckedText
     }
 }
 
-// The rules over a table of forms up to and with 9: 4 to 8, 12, 9.
+// The rules over a table of forms: 4 to 8, 12, 9.
 fn check_table(table: &[u64]) -> CheckedText
     requires { ⌜ length (now table) ≤ maxForms ⌝ }
-    ensures { λ r. ⌜ ChecksTable (now (table .entry)) r ⌝ }
+    ensures { λ r. ⌜ ChecksTable (formsRefusal (tableForms (now (table .entry)))) (now (table .entry)) r ⌝ }
 {
     let formed = check_grammar(table);
     let Reading::Accepted(_) = formed else {
@@ -104,10 +103,10 @@ fn check_table(table: &[u64]) -> CheckedText
     check_plan(table)
 }
 
-// The rules up to and with 9 in checking order, 2 to 8, 12, 9; the forms of a text that keeps them stay in the table.
-pub fn read_sizes(text: &[u8], table: &mut [u64]) -> CheckedText
-    requires { ⌜ maxForms ≤ length (now table) ⌝ }
-    ensures { λ r. ⌜ Checks (sizesRefusal (now (text .entry))) (now (text .entry)) r (now (table .exit)) ⌝ }
+// The plan's rules in checking order, 2 to 8, 12, 9; the forms of an accepted text stay in the table.
+pub fn read_text(text: &[u8], table: &mut [u64]) -> CheckedText
+    requires { ⌜ FormRoom (now text) (now table) ⌝ }
+    ensures { λ r. ⌜ Checks (now (text .entry)) r (now (table .exit)) ⌝ }
 {
     let read = plan::read_forms(text, table);
     let Reading::Accepted(n) = read else {
@@ -117,35 +116,6 @@ pub fn read_sizes(text: &[u8], table: &mut [u64]) -> CheckedText
     let reading = checked.reading;
     let layout = checked.layout;
     let space = checked.space;
-    CheckedText {
-        reading: plan::in_file(text, reading),
-        layout,
-        space,
-    }
-}
-
-// Rule 10 over the table of a plan, with a list of its own for the pairs.
-fn check_pairs(table: &[u64], layout: Layout) -> Reading
-    requires { ⌜ PlanTable (now table) × Laid (now table) layout ⌝ }
-    ensures { λ r. ⌜ r ≡ readingOf (tooManyPairs (tableForms (now (table .entry)))) (length (now (table .entry))) ⌝ }
-{
-    let mut list = [0u64; PAIR_ROOM];
-    pairs::check_pairs(table, layout, &mut list)
-}
-
-// The plan's rules in checking order, 2 to 8, 12, 9, 10; the forms of an accepted text stay in the table.
-pub fn read_text(text: &[u8], table: &mut [u64]) -> CheckedText
-    requires { ⌜ maxForms ≤ length (now table) ⌝ }
-    ensures { λ r. ⌜ Checks (planRefusal (now (text .entry))) (now (text .entry)) r (now (table .exit)) ⌝ }
-{
-    let sized = read_sizes(text, table);
-    let read = sized.reading;
-    let Reading::Accepted(n) = read else {
-        return sized;
-    };
-    let layout = sized.layout;
-    let space = sized.space;
-    let reading = check_pairs(&table[0..n], layout);
     CheckedText {
         reading: plan::in_file(text, reading),
         layout,

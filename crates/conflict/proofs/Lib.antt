@@ -5,6 +5,7 @@ pub mod Steps
 pub mod Sound
 pub mod Paths
 pub mod Extending
+pub mod Narrowing
 pub mod Reasons
 -- The search for a cycle, over all candidates and lock by lock.
 pub mod Cycles

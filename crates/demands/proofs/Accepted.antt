@@ -1,6 +1,5 @@
--- No rule refuses a text exactly when it is short and its lines spell a plan that keeps what the rules say: up to and with 9 (`sized-exactly`), and all of them
--- (`accepted-exactly`). Then the plan is the one that is read (`accepted-plan`), and the listed pairs of its procedures are the critical ones of source 000
--- (`published-exactly`).
+-- No rule refuses a text exactly when it is short and its lines spell a plan that keeps what the rules say (`accepted-exactly`). Then the plan is the one that is read
+-- (`accepted-plan`), and the listed pairs of its procedures are the critical ones of source 000 (`published-exactly`).
 use Prim.Native.Nat.{ℕ, _<_, _≤_}
 use mathlib.Core.List.{List, List·Memᴰ}
 use mathlib.Core.Logic.{_↔_}
@@ -23,52 +22,38 @@ use Rattle.semantics.proofs.Calls.Ranks.{acyclic-ranks}
 use Rattle.semantics.proofs.Critical.PairList.{pair-list-critical}
 use Rattle.semantics.proofs.Critical.CriticalLanguage.{critical-is-published}
 use Rattle.plan.specs.Grammar.{forms, planIn}
-use Rattle.plan.specs.Rules.{refusedIf, grammarRefusal, tooLarge, tooManyPairs, planOf, sizesRefusal, planRefusal, tooFewEntries, verdictRefusal}
+use Rattle.plan.specs.Rules.{refusedIf, grammarRefusal, tooLarge, planOf, planRefusal, tooFewEntries, verdictRefusal}
 use Rattle.plan.specs.Rules.{pairsRefusal, tidyRefusal}
 use Rattle.plan.proofs.Kept.{unflagged}
-use Rattle.plan.proofs.AcceptedTable.{SizesRules, sizes-rules, rules-sizes, plan-within, accepted-rules, rules-accepted, sizes-text, sizes-settled}
+use Rattle.plan.proofs.AcceptedTable.{accepted-rules, rules-accepted, accepted-text, accepted-settled}
 use Rattle.plan.proofs.Allowed.{rules-plan}
-use Rattle.plan.proofs.Ranked.{recursive-exactly, rules-ranks}
-use Rattle.demands.specs.Broken.{TooLarge, TooManyPairs, planRules, AllUnbroken, SizedText, AcceptedText}
+use Rattle.plan.proofs.Ranked.{recursive-exactly}
+use Rattle.demands.specs.Broken.{TooLarge, planRules, AllUnbroken, AcceptedText}
 use Rattle.demands.proofs.Firsts.{below}
 use Rattle.demands.proofs.Lowest.{none-lowest, lowest-none}
-use Rattle.demands.proofs.Pairs.{many-pairs}
 use Rattle.demands.proofs.Refusals.{plan-refuses}
 
 not-above : (n : ℕ) → (maxSize < n → ⊥) → n ≤ maxSize
 not-above n h = omega arith
 
 module _ (text : List ℕ) where
-  sized : sizesRefusal text ≡ none → SizedText text
-  unfolding planOf tooLarge
-  sized e =
-      let fs = formsOf text in
-      let ps = planIn fs .procs in
-      let r = sizes-rules text e in
-      let written = sizes-text text e in
-      record {
-        short = r .short;
-        plan = planOf text;
-        written = subst (IsText text) written (readable-written text (r .readable));
-        settled = sizes-settled text e;
-        acyclic = recursive-exactly fs .0 (r .acyclic);
-        sizes = λ p h. not-above (sizeOf ps p) (none-lowest fs written (λ p. ltb maxSize (sizeOf ps p)) TooLarge (λ p h. below maxSize (sizeOf ps p)) 9 (r .sizes) p h);
-      }
-
   accepted : planRefusal text ≡ none → AcceptedText text
-  unfolding planOf tooManyPairs sized
+  unfolding planOf tooLarge
   accepted e =
       let fs = formsOf text in
       let ps = planIn fs .procs in
       let r = accepted-rules text e in
-      let within = plan-within text e in
+      let written = accepted-text text e in
       record {
-        sized = sized within;
-        pairs = none-lowest fs (sizes-text text within) (λ p. ltb maxPairs (length (pairList ps p))) TooManyPairs
-            (many-pairs ps (rules-ranks fs (sizes-settled text within) (r .sized .acyclic))) 10 (r .pairs);
+        short = r .short;
+        plan = planOf text;
+        written = subst (IsText text) written (readable-written text (r .readable));
+        settled = accepted-settled text e;
+        acyclic = recursive-exactly fs .0 (r .acyclic);
+        sizes = λ p h. not-above (sizeOf ps p) (none-lowest fs written (λ p. ltb maxSize (sizeOf ps p)) TooLarge (λ p h. below maxSize (sizeOf ps p)) 9 (r .sizes) p h);
       }
 
-  module _ (x : SizedText text) where
+  module _ (x : AcceptedText text) where
     same-forms : (unreadableLine text ≡ none) × (formsOf text ≡ forms (x .plan))
     same-forms = text-written text (forms (x .plan)) .1 (x .written)
 
@@ -76,9 +61,9 @@ module _ (text : List ℕ) where
     kept-rules = rules-plan (formsOf text) (x .plan) .1 (x .settled, same-forms .1)
 
     -- the plan is the one that is read
-    pub sized-plan : planOf text ≡ x .plan
+    pub accepted-plan : planOf text ≡ x .plan
     unfolding planOf
-    sized-plan = kept-rules .1
+    accepted-plan = kept-rules .1
 
     forms-written : formsOf text ≡ forms (planIn (formsOf text))
     forms-written = same-forms .1 ∙ ap forms (sym (kept-rules .1))
@@ -86,53 +71,31 @@ module _ (text : List ℕ) where
     ranks : Ranks (x .plan .procs)
     ranks = acyclic-ranks (x .plan .procs) (x .acyclic) (x .settled .callees-present) (x .settled .filled)
 
-    sizes-kept : SizesRules text
+    unrefused : planRefusal text ≡ none
     unfolding tooLarge
-    sizes-kept =
+    unrefused =
         let fs = formsOf text in
         let ps = planIn fs .procs in
         let same = kept-rules .1 in
         let acyclic : (p : ℕ) → Recursive ps p → ⊥ = subst (λ (q : LockPlan). (p : ℕ) → Recursive (q .procs) p → ⊥) (sym same) (x .acyclic) in
         let sizes : (p : ℕ) → p < length ps → sizeOf ps p ≤ maxSize =
         subst (λ (q : LockPlan). (p : ℕ) → p < length (q .procs) → sizeOf (q .procs) p ≤ maxSize) (sym same) (x .sizes) in
-        record {
+        rules-accepted text (record {
           short = x .short;
           readable = same-forms .0;
           formed = kept-rules .0;
           acyclic = recursive-exactly fs .1 acyclic;
           sizes = lowest-none fs forms-written (λ p. ltb maxSize (sizeOf ps p)) TooLarge (λ p h. below maxSize (sizeOf ps p)) 9 (λ p h k. omega (arith, sizes p h));
-        }
-
-  module _ (x : AcceptedText text) where
-    pub accepted-plan : planOf text ≡ x .sized .plan
-    accepted-plan = sized-plan (x .sized)
-
-    unrefused : planRefusal text ≡ none
-    unfolding tooManyPairs
-    unrefused =
-        let fs = formsOf text in
-        let ps = planIn fs .procs in
-        let same = kept-rules (x .sized) .1 in
-        let ranked : Ranks ps = subst (λ (q : LockPlan). Ranks (q .procs)) (sym same) (ranks (x .sized)) in
-        let pairs : (p : ℕ) → p < length ps → TooManyPairs ps p → ⊥ =
-        subst (λ (q : LockPlan). (p : ℕ) → p < length (q .procs) → TooManyPairs (q .procs) p → ⊥) (sym same) (x .pairs) in
-        rules-accepted text (record {
-          sized = sizes-kept (x .sized);
-          pairs = lowest-none fs (forms-written (x .sized)) (λ p. ltb maxPairs (length (pairList ps p))) TooManyPairs (many-pairs ps ranked) 10 pairs;
         })
 
     -- demand 2, of the listed pairs
-    pub published-exactly : (p : ℕ) → p < length (x .sized .plan .procs) → (w : ℕ)
-        → List·Memᴰ w (pairList (planOf text .procs) p) ↔ PublishedCritical (x .sized .plan .procs) p w
+    pub published-exactly : (p : ℕ) → p < length (x .plan .procs) → (w : ℕ)
+        → List·Memᴰ w (pairList (planOf text .procs) p) ↔ PublishedCritical (x .plan .procs) p w
     published-exactly p h w =
-        let ps = x .sized .plan .procs in
-        let rs = ranks (x .sized) in
-        let listed = pair-list-critical ps (rs .rank) (rs .sound) p (rs .below p h) w in
-        let published = critical-is-published ps (rs .rank) (rs .sound) p w in
+        let ps = x .plan .procs in
+        let listed = pair-list-critical ps (ranks .rank) (ranks .sound) p (ranks .below p h) w in
+        let published = critical-is-published ps (ranks .rank) (ranks .sound) p w in
         rw accepted-plan (λ m. published .0 (listed .0 m), λ k. listed .1 (published .1 k))
-
-  pub sized-exactly : (sizesRefusal text ≡ none) ↔ SizedText text
-  sized-exactly = (sized, λ x. rules-sizes text (sizes-kept x))
 
   pub accepted-exactly : (planRefusal text ≡ none) ↔ AcceptedText text
   accepted-exactly = (accepted, unrefused)
@@ -153,18 +116,18 @@ module _ (text : List ℕ) where
   tidy-accepted-exactly lent = lent-exactly maxBytes lent
 
   -- with rule 1 behind the plan's
-  pub verdict-accepted-exactly : (lent : ℕ) → (verdictRefusal text lent ≡ none) ↔ ((x : AcceptedText text) × (threadSizes (x .sized .plan) ≤ lent))
+  pub verdict-accepted-exactly : (lent : ℕ) → (verdictRefusal text lent ≡ none) ↔ ((x : AcceptedText text) × (threadSizes (x .plan) ≤ lent))
   unfolding verdictRefusal tooFewEntries orElse
   verdict-accepted-exactly lent = (
     λ e.
         let y = first-none (planRefusal text) (tooFewEntries (planOf text) lent) e in
         let x = accepted (y .0) in
         (x, subst (λ (q : LockPlan). threadSizes q ≤ lent) (accepted-plan x) (ltb-false lent (threadSizes (planOf text)) (unflagged 1 _ (y .1)))),
-    λ y. rw (unrefused (y .0), accepted-plan (y .0), le-ltb lent (threadSizes (y .0 .sized .plan)) (y .1)),
+    λ y. rw (unrefused (y .0), accepted-plan (y .0), le-ltb lent (threadSizes (y .0 .plan)) (y .1)),
   )
 
   -- with rules 1 and 11
-  pub pairs-accepted-exactly : (p lent : ℕ) → (pairsRefusal text p lent ≡ none) ↔ ((maxPairs ≤ lent) × (x : AcceptedText text) × (p < length (x .sized .plan .procs)))
+  pub pairs-accepted-exactly : (p lent : ℕ) → (pairsRefusal text p lent ≡ none) ↔ ((maxPairs ≤ lent) × (x : AcceptedText text) × (p < length (x .plan .procs)))
   unfolding pairsRefusal orElse
   pairs-accepted-exactly p lent =
       let absent = refusedIf 11 (leb (length (planOf text .procs)) p) in (
@@ -176,5 +139,5 @@ module _ (text : List ℕ) where
               x,
               subst (λ (q : LockPlan). p < length (q .procs)) (accepted-plan x) (leb-false (length (planOf text .procs)) p (unflagged 11 _ (z .1))),
             ),
-        λ y. rw (le-ltb lent maxPairs (y .0), unrefused (y .1), accepted-plan (y .1), lt-leb (length (y .1 .sized .plan .procs)) p (y .2)),
+        λ y. rw (le-ltb lent maxPairs (y .0), unrefused (y .1), accepted-plan (y .1), lt-leb (length (y .1 .plan .procs)) p (y .2)),
       )

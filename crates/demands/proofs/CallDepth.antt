@@ -43,4 +43,4 @@ pub follows-calls : (plan : LockPlan) → Settled plan → ((p : ℕ) → Recurs
 follows-calls plan s acyclic = ranks-follow (plan .procs) (acyclic-ranks (plan .procs) acyclic (s .callees-present) (s .filled))
 
 pub accepted-follows-calls : (text : List ℕ) → AcceptedText text → FollowsCalls (planOf text .procs)
-accepted-follows-calls text x = rw (accepted-plan text x) (let y = x .sized in follows-calls (y .plan) (y .settled) (y .acyclic))
+accepted-follows-calls text x = rw (accepted-plan text x) (follows-calls (x .plan) (x .settled) (x .acyclic))

@@ -10,10 +10,9 @@ pub mod Depth
 pub mod Reading
 pub mod Scan
 pub mod Limits
--- Rules 12, 9 and 10.
+-- Rules 12 and 9.
 pub mod Lowest
 pub mod Recursion
-pub mod Pairs
 -- All rules.
 pub mod Refusals
 pub mod Accepted

@@ -1,4 +1,4 @@
--- Rules 12, 9 and 10 name the `(proc` of the lowest procedure of which P holds, by its number among the forms, where their test of a procedure says whether P does
+-- Rules 12 and 9 name the `(proc` of the lowest procedure of which P holds, by its number among the forms, where their test of a procedure says whether P does
 -- (`lowest-names`): `procFormFrom` counts the `(proc` forms (`proc-number`).
 use Prim.Native.Nat.{ℕ, zero, suc, _+_, _-_, _<_}
 use mathlib.Core.Bool.{Bool, true, false, cond}

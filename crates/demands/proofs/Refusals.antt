@@ -1,5 +1,5 @@
--- The refusals are those by the first rule broken: those up to and with 9, the plan's (`refused-exactly`), the verdict's, the pair list's and the tidy copy's. Rule by rule, those
--- from 4 on first over the forms (`forms-refuses`), then in the file.
+-- The refusals are those by the first rule broken: the plan's (`refused-exactly`), the verdict's, the pair list's and the tidy copy's. Rule by rule, those from 4 on first over
+-- the forms (`forms-refuses`), then in the file.
 use Prim.Native.Nat.{ℕ, _<_, _≤_}
 use mathlib.Core.Bool.{Bool, true, false, cond}
 use mathlib.Core.List.{List, [], _∷_, _++_}
@@ -17,23 +17,20 @@ use Rattle.semantics.specs.Plan.{Block, LockPlan}
 use Rattle.semantics.specs.Calls.{Recursive}
 use Rattle.semantics.specs.CallMasks.{reaches}
 use Rattle.semantics.specs.Sizes.{sizeOf, threadSizes}
-use Rattle.semantics.specs.Pairs.{pairList}
 use Rattle.plan.specs.Grammar.{forms, planIn}
 use Rattle.plan.specs.Structure.{misplacedForm}
 use Rattle.plan.specs.Limits.{pastLimitForm, breakingForm}
-use Rattle.plan.specs.Rules.{refusedAt, refusedIf, tooLong, linesRefusal, referencesRefusal, grammarRefusal, procForm, lowestFrom, procRefusal, recursive, tooLarge, tooManyPairs}
-use Rattle.plan.specs.Rules.{formsRefusal, planOf, sizesRefusal, planRefusal, tooFewEntries, verdictRefusal, pairsRefusal, tidyRefusal}
+use Rattle.plan.specs.Rules.{refusedAt, refusedIf, tooLong, linesRefusal, referencesRefusal, grammarRefusal, procForm, lowestFrom, procRefusal, recursive, tooLarge}
+use Rattle.plan.specs.Rules.{formsRefusal, planOf, planRefusal, tooFewEntries, verdictRefusal, pairsRefusal, tidyRefusal}
 use Rattle.plan.proofs.Trees.{plan-of-forms}
 use Rattle.plan.proofs.Denotes.{accepted-denotes}
 use Rattle.plan.proofs.FirstMisplaced.{structure-first}
 use Rattle.plan.proofs.Kept.{kept, no-line}
-use Rattle.plan.proofs.Sound.{forms-settled}
-use Rattle.plan.proofs.Ranked.{rules-ranks}
-use Rattle.plan.proofs.AcceptedTable.{sizes-rules, plan-within}
+use Rattle.plan.proofs.AcceptedTable.{accepted-rules}
 use Rattle.demands.specs.Lines.{First, FormWhere}
 use Rattle.demands.specs.Broken.{TooShort, TooLong, Unreadable, OfForms, FirstForm, Misplaced, PastLimit, HighLock, AbsentCallee, AbsentProc}
-use Rattle.demands.specs.Broken.{OfPlan, LowestProc, TooLarge, TooManyPairs, TooFewEntries, AbsentRequest}
-use Rattle.demands.specs.Broken.{Rule, rule, formRules, sizesRules, planRules, verdictRules, pairsRules, tidyRules, FirstBroken}
+use Rattle.demands.specs.Broken.{OfPlan, LowestProc, TooLarge, TooFewEntries, AbsentRequest}
+use Rattle.demands.specs.Broken.{Rule, rule, formRules, planRules, verdictRules, pairsRules, tidyRules, FirstBroken}
 use Rattle.demands.proofs.Order.{Names, RefusesBy, by-rule, then}
 use Rattle.demands.proofs.InFile.{refuses-in-file}
 use Rattle.demands.proofs.Firsts.{Decides, below, at-most}
@@ -41,7 +38,6 @@ use Rattle.demands.proofs.Readable.{readable-names}
 use Rattle.demands.proofs.Limits.{limits-names, locks-names, calls-names, threads-names}
 use Rattle.demands.proofs.Lowest.{lowest-names}
 use Rattle.demands.proofs.Recursion.{reaches-itself}
-use Rattle.demands.proofs.Pairs.{many-pairs}
 
 -- a rule that names no line
 flag-names : (b : Bool) (P : Type 0) → Decides b P → Names (cond b (some 0) none) (λ n. P × (n ≡ 0))
@@ -119,12 +115,6 @@ module _ (text : List ℕ) where
     unfolding tooLarge plan
     rule-9 = by-proc 9 TooLarge (λ p. ltb maxSize (sizeOf (plan .procs) p)) (λ p h. below maxSize (sizeOf (plan .procs) p))
 
-    rule-10 : recursive (formsOf text) ≡ none → RefusesBy (rule 10 (OfPlan (LowestProc TooManyPairs) text) ∷ []) (tooManyPairs (formsOf text))
-    unfolding tooManyPairs plan
-    rule-10 acyclic =
-        let ranks = rules-ranks (formsOf text) (forms-settled (formsOf text) formed) acyclic in
-        by-proc 10 TooManyPairs (λ p. ltb maxPairs (length (pairList (plan .procs) p))) (many-pairs (plan .procs) ranks)
-
     -- that names no line
     of-plan-if : (number : ℕ) (P : LockPlan → Type 0) (b : Bool) → Decides b (P plan) → RefusesBy (rule number (OfPlan (λ q n. P q × (n ≡ 0)) text) ∷ []) (refusedIf number b)
     of-plan-if number P b d =
@@ -154,23 +144,19 @@ module _ (text : List ℕ) where
         (λ _. by-form text readable 8 (λ fs before f. AbsentProc fs f) (breakingForm 8 fs) (threads-names fs))))))
         (λ formed. then (rule-12 text readable formed) (λ _. rule-9 text readable formed))
 
-  pub sizes-refuses : RefusesBy (sizesRules text) (sizesRefusal text)
-  unfolding sizesRules sizesRefusal linesRefusal
-  sizes-refuses =
+  pub plan-refuses : RefusesBy (planRules text) (planRefusal text)
+  unfolding planRules planRefusal linesRefusal
+  plan-refuses =
       then (then (rule-2 text) (λ _. rule-3 text))
       (λ e. refuses-in-file text (forms-refuses (no-line 3 (unreadableLine text) (first-none (tooLong text) _ e .1))))
 
-  pub plan-refuses : RefusesBy (planRules text) (planRefusal text)
-  unfolding planRules planRefusal
-  plan-refuses = then sizes-refuses (λ e. let r = sizes-rules text e in refuses-in-file text (rule-10 text (r .readable) (r .formed) (r .acyclic)))
-
   pub verdict-refuses : (lent : ℕ) → RefusesBy (verdictRules text lent) (verdictRefusal text lent)
   unfolding verdictRules verdictRefusal
-  verdict-refuses lent = then plan-refuses (λ e. let r = sizes-rules text (plan-within text e) in rule-1-entries text (r .readable) (r .formed) lent)
+  verdict-refuses lent = then plan-refuses (λ e. let r = accepted-rules text e in rule-1-entries text (r .readable) (r .formed) lent)
 
   pub pairs-refuses : (p lent : ℕ) → RefusesBy (pairsRules text p lent) (pairsRefusal text p lent)
   unfolding pairsRules pairsRefusal
-  pairs-refuses p lent = then (rule-1 maxPairs lent) (λ _. then plan-refuses (λ e. let r = sizes-rules text (plan-within text e) in rule-11 text (r .readable) (r .formed) p))
+  pairs-refuses p lent = then (rule-1 maxPairs lent) (λ _. then plan-refuses (λ e. let r = accepted-rules text e in rule-11 text (r .readable) (r .formed) p))
 
   pub tidy-refuses : (lent : ℕ) → RefusesBy (tidyRules text lent) (tidyRefusal text lent)
   unfolding tidyRules tidyRefusal
@@ -178,9 +164,6 @@ module _ (text : List ℕ) where
 
 -- (r, l) is the refusal exactly when rule r is the first one broken, at line l
 module _ (text : List ℕ) (r l : ℕ) where
-  pub sizes-refused-exactly : (sizesRefusal text ≡ some (refusal r l)) ↔ FirstBroken (sizesRules text) r l
-  sizes-refused-exactly = sizes-refuses text .refused r l
-
   pub refused-exactly : (planRefusal text ≡ some (refusal r l)) ↔ FirstBroken (planRules text) r l
   refused-exactly = plan-refuses text .refused r l
 

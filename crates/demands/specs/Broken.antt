@@ -1,16 +1,14 @@
 -- What it means that a text breaks a rule, and at which line: said of the text, and of the forms or the plan that its lines spell. A text keeps the rules 2 to
--- 10 and 12 exactly when its plan is not refused (theorems `accepted-exactly`, `unbroken-exactly`), those up to and with 9 exactly when the space that it needs is told
--- (`sized-exactly`), and (r, l) is the refusal exactly when rule r is the first one broken, at line l (`refused-exactly`). Each rule is stated for texts that break none before
--- it, as `FirstBroken` asks: the numbers of brackets count on rule 4, a pair as one number on rule 6, sizes on rules 7 and 12, their sum on rule 8 too. 01, "Rules, in checking
--- order".
+-- 9 and 12 exactly when its plan is not refused (theorems `accepted-exactly`, `unbroken-exactly`), and (r, l) is the refusal exactly when rule r is the first one broken, at
+-- line l (`refused-exactly`). Each rule is stated for texts that break none before it, as `FirstBroken` asks: the numbers of brackets count on rule 4, sizes on rules 7 and 12,
+-- their sum on rule 8 too. 01, "Rules, in checking order".
 use Prim.Native.Nat.{ℕ, _+_, _<_, _≤_}
-use mathlib.Core.List.{List, [], _∷_, _++_, List·Memᴰ}
+use mathlib.Core.List.{List, [], _∷_, _++_}
 use mathlib.Core.Bool.{false}
 use mathlib.Core.Logic.{_⊎_}
 use mathlib.Core.Path.{_≡_}
 use lib.ListN.{length}
 use Rattle.limits.specs.Limits.{maxBytes, maxProcs, maxStatements, maxThreads, maxBrackets, lockCount, maxSize, maxPairs}
-use Rattle.laws.specs.Ascending.{Ascends}
 use Rattle.text.specs.declared.Form.{Form}
 use Rattle.text.specs.declared.Form.the-variants.{Proc, Thread, Call, Hold}
 use Rattle.text.specs.Forms.{IsForm, isProc, isThread, isStatement, isBracket, isClose}
@@ -18,7 +16,6 @@ use Rattle.text.specs.Lines.{split, endedLine, unindented, passedOver, IsText}
 use Rattle.semantics.specs.Plan.{Block, LockPlan}
 use Rattle.semantics.specs.Calls.{Recursive}
 use Rattle.semantics.specs.Sizes.{sizeOf, threadSizes}
-use Rattle.semantics.specs.Pairs.{Critical}
 use Rattle.plan.specs.Grammar.{forms, Grammatical}
 use Rattle.plan.specs.Places.{NoPlace, EndsEarly}
 use Rattle.plan.specs.Limits.{countIf}
@@ -27,7 +24,8 @@ use Rattle.demands.specs.Lines.{First, FormWhere, InFile}
 
 -- ---- of the lent buffer and the bytes
 
--- 1: "The lent buffer is shorter than .. 128 words for pairs (line 0)." 02, change 1, of the tidy copy: "The output must hold 32,768 bytes, otherwise rule 1 applies."
+-- 1: "The lent buffer is shorter than .. (line 0)." 02, change 5: "Raise .. the pair buffer to 511 words"; change 1, of the tidy copy: "The output must hold 32,768 bytes,
+-- otherwise rule 1 applies."
 abbrev pub TooShort : ℕ → ℕ → ℕ → Type 0
 TooShort needed lent n = (lent < needed) × (n ≡ 0)
 
@@ -127,13 +125,6 @@ pub record LowestProc (P : List Block → ℕ → Type 0) (plan : LockPlan) (n :
 abbrev pub TooLarge : List Block → ℕ → Type 0
 TooLarge ps p = maxSize < sizeOf ps p
 
--- 10: "Some procedure has more than 128 critical pairs": more than 128 different critical pairs
-pub record TooManyPairs (ps : List Block) (p : ℕ) : Type 0 where
-  pub pairs : List ℕ
-  pub many : maxPairs < length pairs
-  pub different : Ascends pairs
-  pub critical : (w : ℕ) → List·Memᴰ w pairs → Critical ps p w
-
 -- 1, for a schedule, by 02, change 4: "fewer entries than this sum", that of the threads' sizes; 01: "(line 0)"
 abbrev pub TooFewEntries : ℕ → LockPlan → ℕ → Type 0
 TooFewEntries lent plan = TooShort (threadSizes plan) lent
@@ -152,7 +143,7 @@ pub record Rule : Type 1 where
 abbrev pub rule : ℕ → (ℕ → Type 0) → Rule
 rule n broken = record { number = n; broken = broken }
 
--- the rules that name a form by its number, up to and with 9: 4 to 8, 12, which "follows rule 8", and 9
+-- the rules that name a form by its number: 4 to 8, 12, which "follows rule 8", and 9
 unfoldable pub formRules : List ℕ → List Rule
 formRules text =
     rule 4 (OfForms Misplaced text) ∷
@@ -169,15 +160,12 @@ unfoldable pub rulesInFile : List ℕ → List Rule → List Rule
 rulesInFile text [] = []
 rulesInFile text (q ∷ qs) = rule (q .number) (InFile text (q .broken)) ∷ rulesInFile text qs
 
--- 02, change 4: "every rule on it up to and with 9, in checking order"
-unfoldable pub sizesRules : List ℕ → List Rule
-sizesRules text = rule 2 (TooLong text) ∷ rule 3 (First (Unreadable text)) ∷ rulesInFile text (formRules text)
-
--- the plan's rules: these, then 10
+-- the plan's rules. For the space that a schedule needs these are 02's, change 4: "every rule on it up to and with 9, in checking order". Of rule 10, change 5: "take it out,
+-- its number unused"
 unfoldable pub planRules : List ℕ → List Rule
-planRules text = sizesRules text ++ rulesInFile text (rule 10 (OfPlan (LowestProc TooManyPairs) text) ∷ [])
+planRules text = rule 2 (TooLong text) ∷ rule 3 (First (Unreadable text)) ∷ rulesInFile text (formRules text)
 
--- the verdict's, where so many entries are lent: rule 1 "moves to just after rule 10"
+-- the verdict's, where so many entries are lent. 02, change 5: "the schedule buffer is now tested last of the plan's rules"
 unfoldable pub verdictRules : List ℕ → ℕ → List Rule
 verdictRules text lent = planRules text ++ rule 1 (OfPlan (TooFewEntries lent) text) ∷ []
 
@@ -205,16 +193,11 @@ FirstBroken (q ∷ qs) r l = ((q .number ≡ r) × q .broken l) ⊎ (Unbroken q 
 
 -- ---- a text that keeps the rules
 
--- The text is short and its lines spell a plan that keeps what the rules up to and with 9 say: `Settled` has those of 4 to 8, then 12 and 9.
-pub record SizedText (text : List ℕ) : Type 0 where
+-- The text is short and its lines spell a plan that keeps what the rules say: `Settled` has those of 4 to 8, then 12 and 9.
+pub record AcceptedText (text : List ℕ) : Type 0 where
   pub short : length text ≤ maxBytes
   pub plan : LockPlan
   pub written : IsText text (forms plan)
   pub settled : Settled plan
   pub acyclic : (p : ℕ) → Recursive (plan .procs) p → ⊥
   pub sizes : (p : ℕ) → p < length (plan .procs) → sizeOf (plan .procs) p ≤ maxSize
-
--- and 10
-pub record AcceptedText (text : List ℕ) : Type 0 where
-  pub sized : SizedText text
-  pub pairs : (p : ℕ) → p < length (sized .plan .procs) → TooManyPairs (sized .plan .procs) p → ⊥

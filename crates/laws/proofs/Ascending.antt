@@ -96,3 +96,14 @@ ascends-unique (x ∷ xs) (y ∷ ys) a b f g =
     ap₂ {C = List ℕ} (λ h t. h ∷ t) (omega arith) (ascends-unique xs ys (a .1) (b .1)
     (λ v m. beyond y ys v (omega (arith, a .0 v m)) (f v (List·Memᴰ·tail m)))
     (λ v m. beyond x xs v (omega (arith, b .0 v m)) (g v (List·Memᴰ·tail m))))
+
+-- an ascending list is no longer than one that has all its members
+pub ascends-length : (ys xs : List ℕ) → Ascends xs → Ascends ys → ((v : ℕ) → List·Memᴰ v xs → List·Memᴰ v ys) → length xs ≤ length ys
+unfolding Ascends
+ascends-length ys [] a b f = omega arith
+ascends-length [] (x ∷ xs) a b f = absurd (List·Memᴰ·not-nil (f x (List·Memᴰ·head refl)))
+ascends-length (y ∷ ys) (x ∷ xs) a b f =
+    ⊎-elim (λ (e : x ≡ y). omega (arith, ascends-length ys xs (a .1) (b .1) (λ v m. beyond y ys v (omega (arith, a .0 v m)) (f v (List·Memᴰ·tail m)))))
+    (λ (k : List·Memᴰ x ys).
+    omega (arith, ascends-length ys (x ∷ xs) a (b .1) (λ v m. beyond y ys v (omega (arith, b .0 x k, least x xs a v m)) (f v m))))
+    (List·Memᴰ·cases-cons (f x (List·Memᴰ·head refl)))

@@ -37,19 +37,13 @@ maxSize = 1024
 abbrev pub sizeRoom : ℕ
 sizeRoom = maxSize + 1
 
--- 10: "more than 128 critical pairs", and 1: "shorter than .. 128 words for pairs"; pairs are collected up to one more than that
+-- 02, change 5: "Raise the limit to 511 and the pair buffer to 511 words. A hold has size 2 and needs something inside it, so a size of 1,024 has room for 511 holds at most."
 abbrev pub maxPairs : ℕ
-maxPairs = 128
+maxPairs = 511
 
-abbrev pub pairRoom : ℕ
-pairRoom = maxPairs + 1
-
--- the pairs of all threads; and one more, since each list is collected with room for one more
+-- the pairs of all threads
 abbrev pub maxListed : ℕ
 maxListed = maxThreads * maxPairs
-
-abbrev pub listRoom : ℕ
-listRoom = maxListed + 1
 
 -- a schedule is "never longer than the sum of its threads' sizes", which by 5 and 9 is never above 01's 6,144
 abbrev pub maxEntries : ℕ

@@ -1,6 +1,6 @@
 // The limits of a plan, for code: the one place where their values stand. specs/Limits.antt has the same for contracts and says where each is from.
 ghost use mathlib.Core.Path.{_≡_};
-ghost use Rattle.limits.specs.Limits.{maxBytes, maxForms, maxProcs, maxStatements, maxThreads, maxBrackets, lockCount, maxSize, sizeRoom, maxPairs, pairRoom, maxListed, listRoom, maxEntries};
+ghost use Rattle.limits.specs.Limits.{maxBytes, maxForms, maxProcs, maxStatements, maxThreads, maxBrackets, lockCount, maxSize, sizeRoom, maxPairs, maxListed, maxEntries};
 
 pub const MAX_BYTES: usize = 32768;
 
@@ -20,13 +20,9 @@ pub const MAX_SIZE: usize = 1024;
 
 pub const SIZE_ROOM: usize = MAX_SIZE + 1;
 
-pub const MAX_PAIRS: usize = 128;
-
-pub const PAIR_ROOM: usize = MAX_PAIRS + 1;
+pub const MAX_PAIRS: usize = 511;
 
 pub const MAX_LISTED: usize = MAX_THREADS * MAX_PAIRS;
-
-pub const LIST_ROOM: usize = MAX_LISTED + 1;
 
 pub const MAX_ENTRIES: usize = MAX_THREADS * MAX_SIZE;
 
@@ -46,9 +42,7 @@ pub struct Named {
 pub struct Derived {
     pub forms: usize,
     pub sizes: usize,
-    pub collected: usize,
     pub listed: usize,
-    pub lists: usize,
     pub entries: usize,
 }
 
@@ -70,15 +64,12 @@ pub fn named_limits() -> Named
 }
 
 pub fn derived_limits() -> Derived
-    ensures { λ r. ⌜ (r .forms ≡ maxForms) × (r .sizes ≡ sizeRoom) × (r .collected ≡ pairRoom) × (r .listed ≡ maxListed) × (r .lists ≡ listRoom)
-        × (r .entries ≡ maxEntries) ⌝ }
+    ensures { λ r. ⌜ (r .forms ≡ maxForms) × (r .sizes ≡ sizeRoom) × (r .listed ≡ maxListed) × (r .entries ≡ maxEntries) ⌝ }
 {
     Derived {
         forms: MAX_FORMS,
         sizes: SIZE_ROOM,
-        collected: PAIR_ROOM,
         listed: MAX_LISTED,
-        lists: LIST_ROOM,
         entries: MAX_ENTRIES,
     }
 }

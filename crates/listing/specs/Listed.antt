@@ -1,12 +1,11 @@
 -- Demand 2: what the pair list promises, of its answer and of the buffer that it was lent, and what its steps leave for the next one. 01, "Pairs, verdict, schedule".
-use Prim.Native.Nat.{ℕ, _/_, _<_}
+use Prim.Native.Nat.{ℕ, _/_}
 use mathlib.Core.List.{List, List·Memᴰ}
 use mathlib.Core.Logic.{_↔_}
 use mathlib.Core.Option.{Option, none}
 use mathlib.Core.Path.{_≡_}
 use lib.Dec.{leb}
-use lib.ListN.{length, take}
-use Rattle.limits.specs.Limits.{pairRoom}
+use lib.ListN.{length}
 use Rattle.laws.specs.Ascending.{Ascends}
 use Rattle.semantics.specs.Pairs.{Critical, pairList}
 use Rattle.text.specs.declared.Refusal.{Refusal}
@@ -40,16 +39,15 @@ pub record ListedBytes (text : List ℕ) (p : ℕ) (before : List ℕ) (r : ℕ)
 
 -- ---- the steps
 
--- the answer, and where nothing is refused the pairs at the start of the list
-pub record ListFound (refused : Option Refusal) (pairs : List ℕ) (r : Counted) (list : List ℕ) : Type 0 where
+-- the answer, and the list: the pairs at its start and the rest kept, or as it was where something is refused
+pub record ListFound (refused : Option Refusal) (pairs before : List ℕ) (r : Counted) (after : List ℕ) : Type 0 where
   pub answer : r ≡ countedOf refused (length pairs)
-  pub listed : refused ≡ none → take (length pairs) list ≡ pairs
-  pub few : refused ≡ none → length pairs < pairRoom
+  pub list : after ≡ written refused pairs before
 
 -- of a procedure of a table: rule 11 where it is not there
-abbrev pub TablePairs : List ℕ → ℕ → Counted → List ℕ → Type 0
-TablePairs ws p r list = ListFound (refusedIf 11 (leb (length (tablePlan ws .procs)) p)) (pairList (tablePlan ws .procs) p) r list
+abbrev pub TablePairs : List ℕ → ℕ → List ℕ → Counted → List ℕ → Type 0
+TablePairs ws p before r after = ListFound (refusedIf 11 (leb (length (tablePlan ws .procs)) p)) (pairList (tablePlan ws .procs) p) before r after
 
 -- of a procedure of a text, where `lent` words are lent for them
-abbrev pub PairsFound : List ℕ → ℕ → ℕ → Counted → List ℕ → Type 0
-PairsFound text p lent r list = ListFound (pairsRefusal text p lent) (pairsOf text p) r list
+abbrev pub PairsFound : List ℕ → ℕ → ℕ → List ℕ → Counted → List ℕ → Type 0
+PairsFound text p lent before r after = ListFound (pairsRefusal text p lent) (pairsOf text p) before r after

@@ -1,12 +1,8 @@
-// The pair list of a procedure: the rules, then its critical pairs into a table of PAIR_ROOM pairs, and from there to the caller.
-ghost use mathlib.Core.Path.{_≡_};
-ghost use mathlib.Core.Option.{none};
-ghost use Prim.Native.Nat.{_≤_};
+// The pair list of a procedure: the rules, then its critical pairs, as words into the caller's buffer, or by way of a list of MAX_PAIRS as bytes.
+ghost use Prim.Native.Nat.{_≤_, min};
 ghost use lib.ListN.{length};
-ghost use Rattle.limits.specs.Limits.{maxForms, pairRoom};
-ghost use Rattle.plan.specs.Table.{tableForms};
-ghost use Rattle.plan.specs.Settled.{PlanTable};
-ghost use Rattle.plan.specs.Rules.{tooManyPairs};
+ghost use Rattle.limits.specs.Limits.{maxForms, maxPairs};
+ghost use Rattle.plan.specs.Settled.{RulesKept};
 ghost use Rattle.procs.specs.Laid.{Laid};
 ghost use Rattle.listing.specs.Listed.{TablePairs, PairsFound, Listed, ListedBytes};
 use answers::Counted;
@@ -18,8 +14,8 @@ use text::Refusal;
 
 // The pairs of a procedure of a table (rule 11 where it is not there).
 fn table_pairs(table: &[u64], layout: Layout, proc: usize, list: &mut [u64]) -> Counted
-    requires { ⌜ PlanTable (now table) × Laid (now table) layout × (tooManyPairs (tableForms (now table)) ≡ none) × (pairRoom ≤ length (now list)) ⌝ }
-    ensures { λ r. ⌜ TablePairs (now (table .entry)) proc r (now (list .exit)) ⌝ }
+    requires { ⌜ RulesKept (now table) × Laid (now table) layout × (maxPairs ≤ length (now list)) ⌝ }
+    ensures { λ r. ⌜ TablePairs (now (table .entry)) proc (now (list .entry)) r (now (list .exit)) ⌝ }
 {
     if layout.procs <= proc {
         return Counted::Refused(Refusal { rule: 11, line: 0 });
@@ -28,10 +24,10 @@ fn table_pairs(table: &[u64], layout: Layout, proc: usize, list: &mut [u64]) -> 
     Counted::Count(n)
 }
 
-// The pairs of a procedure of a text, into a table of PAIR_ROOM pairs, where `lent` words are lent for them.
+// The pairs of a procedure of a text, where `lent` words are lent for them; the list has as many, or MAX_PAIRS.
 fn find_pairs(text: &[u8], proc: usize, lent: usize, table: &mut [u64], list: &mut [u64]) -> Counted
-    requires { ⌜ (maxForms ≤ length (now table)) × (pairRoom ≤ length (now list)) ⌝ }
-    ensures { λ r. ⌜ PairsFound (now (text .entry)) proc lent r (now (list .exit)) ⌝ }
+    requires { ⌜ (maxForms ≤ length (now table)) × (min lent maxPairs ≤ length (now list)) ⌝ }
+    ensures { λ r. ⌜ PairsFound (now (text .entry)) proc lent (now (list .entry)) r (now (list .exit)) ⌝ }
 {
     if lent < MAX_PAIRS {
         return Counted::Refused(Refusal { rule: 1, line: 0 });
@@ -46,29 +42,24 @@ fn find_pairs(text: &[u8], proc: usize, lent: usize, table: &mut [u64], list: &m
 
 // The same with a table of its own.
 fn pairs_of(text: &[u8], proc: usize, lent: usize, list: &mut [u64]) -> Counted
-    requires { ⌜ pairRoom ≤ length (now list) ⌝ }
-    ensures { λ r. ⌜ PairsFound (now (text .entry)) proc lent r (now (list .exit)) ⌝ }
+    requires { ⌜ min lent maxPairs ≤ length (now list) ⌝ }
+    ensures { λ r. ⌜ PairsFound (now (text .entry)) proc lent (now (list .entry)) r (now (list .exit)) ⌝ }
 {
     let mut table = [0u64; MAX_FORMS];
     find_pairs(text, proc, lent, &mut table, list)
 }
 
-// The pairs at the start of `out`, by way of a table of PAIR_ROOM.
-pub fn list_pairs(text: &[u8], proc: usize, out: &mut [u64], list: &mut [u64]) -> Counted
-    requires { ⌜ pairRoom ≤ length (now list) ⌝ }
+// The pairs at the start of `out`.
+pub fn list_pairs(text: &[u8], proc: usize, out: &mut [u64]) -> Counted
     ensures { λ r. ⌜ Listed (now (text .entry)) proc (now (out .entry)) r (now (out .exit)) ⌝ }
 {
-    let found = pairs_of(text, proc, out.len(), list);
-    let Counted::Count(n) = found else {
-        return found;
-    };
-    buffers::copy_pairs(&list[0..n], out);
-    found
+    let lent = out.len();
+    pairs_of(text, proc, lent, out)
 }
 
-// The same as bytes, eight for each pair, lowest first, with the answer as a number.
+// The same as bytes, eight for each pair, lowest first, with the answer as a number, by way of a list of MAX_PAIRS.
 pub fn list_bytes(text: &[u8], proc: usize, out: &mut [u8], list: &mut [u64]) -> u64
-    requires { ⌜ pairRoom ≤ length (now list) ⌝ }
+    requires { ⌜ maxPairs ≤ length (now list) ⌝ }
     ensures { λ r. ⌜ ListedBytes (now (text .entry)) proc (now (out .entry)) r (now (out .exit)) ⌝ }
 {
     let found = pairs_of(text, proc, out.len() / 8, list);

@@ -7,16 +7,16 @@ use mathlib.Core.Path.{_≡_, refl, sym, ap, _∙_, subst}
 use native.Mathlib.Omega.{arith}
 use lib.ListN.{length, take, drop, getD, set, length-set}
 use lib.Seq.{getD-take, getD-set-same, getD-set-other, take-suc}
-use Rattle.limits.specs.Limits.{maxThreads, maxPairs, pairRoom}
+use Rattle.limits.specs.Limits.{maxThreads, maxPairs}
 use Rattle.laws.specs.Wrote.{Wrote}
 use Rattle.laws.proofs.Tests.{eq-or-ne}
 use Rattle.semantics.specs.Plan.{Block}
 use Rattle.semantics.specs.Pairs.{pairList}
-use Rattle.plan.specs.Settled.{tablePlan}
+use Rattle.plan.specs.Settled.{RulesKept, tablePlan}
+use Rattle.plan.proofs.WithinSize.{few-pairs}
 use Rattle.candidates.specs.Candidates.{listsBelow, row, rows}
 use Rattle.procs.specs.declared.Layout.{Layout}
 use Rattle.procs.specs.Laid.{Laid}
-use Rattle.pairs.proofs.Lists.{few-pairs}
 use Rattle.lists.specs.Lists.{ListsAsked, ThreadLists}
 use Rattle.lists.proofs.Pairs.{pair-small, listed-there, kept-before}
 
@@ -48,16 +48,19 @@ rows-listed ps threads lists counts (suc n) h each =
     ∙ sym (ap (map (pairList ps)) (take-suc threads n 0 (omega arith)) ∙ map-append (pairList ps) (take n threads) (getD threads n 0 ∷ []))
 
 module _ (table : List ℕ) (l : Layout) (lists₀ counts₀ lists counts : List ℕ) (t : ℕ) (s : Filling table l lists₀ counts₀ lists counts t) where
+  within : RulesKept table
+  within = s .asked .within
+
   laid : Laid table l
-  laid = s .asked .forms .laid
+  laid = s .asked .laid
 
   few-threads : l .threads ≤ maxThreads
-  few-threads = omega (arith, laid .threads-all, s .asked .forms .plan .settled .few-threads)
+  few-threads = omega (arith, laid .threads-all, within .plan .settled .few-threads)
 
   present : (u : ℕ) → u < l .threads → getD (l .runs) u 0 < length (tablePlan table .procs)
   present u h =
       let e : getD (tablePlan table .threads) u 0 ≡ getD (l .runs) u 0 = ap (λ x. getD x u 0) (sym (laid .runs-are)) ∙ getD-take (l .threads) (l .runs) u 0 h in
-      rw (← e) (s .asked .forms .plan .settled .threads-present u (omega (arith, laid .threads-all)))
+      rw (← e) (within .plan .settled .threads-present u (omega (arith, laid .threads-all)))
 
   module _ (n : ℕ) (c : n ≡ l .threads) (h : t < n) where
     pub proc-there : getD (l .runs) t 0 < l .procs
@@ -66,7 +69,7 @@ module _ (table : List ℕ) (l : Layout) (lists₀ counts₀ lists counts : List
     pub list-fits : maxPairs * t < 2 ^ 64
     list-fits = omega (arith, few-threads)
 
-    pub list-room : maxPairs * t + pairRoom ≤ length lists
+    pub list-room : maxPairs * t + maxPairs ≤ length lists
     list-room = omega (arith, few-threads, s .same-lists, s .asked .pairs)
 
     pub thread-there : t < maxThreads
@@ -81,7 +84,7 @@ module _ (table : List ℕ) (l : Layout) (lists₀ counts₀ lists counts : List
       listed-here =
           let e : getD (set counts t r) t 0 ≡ r = getD-set-same counts t r 0 (count-there) in
           record {
-            short = omega (arith, p .place, few-pairs table (getD (l .runs) t 0) (s .asked .forms .none-refused) (present t (omega arith)));
+            short = omega (arith, p .place, few-pairs table within (getD (l .runs) t 0) (present t (omega arith)));
             pairs = ap (λ k. take k (drop (maxPairs * t) after)) e
                 ∙ listed-there (pairList (tablePlan table .procs) (getD (l .runs) t 0)) lists (maxPairs * t) r after p;
           }
@@ -118,6 +121,6 @@ module _ (table : List ℕ) (l : Layout) (lists₀ counts₀ lists counts : List
           pairs = omega (arith, s .same-lists, s .asked .pairs);
           threads = omega (arith, s .same-counts, s .asked .room);
           short = λ u b. all u b .short;
-          small = λ u w b m. pair-small (tablePlan table) (s .asked .forms .plan .settled) (getD (l .runs) u 0) w (subst (List·Memᴰ w) (all u b .pairs) m);
+          small = λ u w b m. pair-small (tablePlan table) (within .plan .settled) (getD (l .runs) u 0) w (subst (List·Memᴰ w) (all u b .pairs) m);
         };
       }

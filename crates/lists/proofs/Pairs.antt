@@ -7,7 +7,7 @@ use mathlib.Core.Path.{_≡_, refl, sym, ap, _∙_}
 use native.Mathlib.Omega.{arith}
 use lib.ListN.{length, take, drop, take-append-drop, length-drop, drop-of-length-le}
 use lib.Seq.{take-all, take-at, drop-at, drop-drop, take-append-le, drop-append-le, length-take-le}
-use Rattle.limits.specs.Limits.{lockCount, pairRoom}
+use Rattle.limits.specs.Limits.{lockCount, maxPairs}
 use Rattle.laws.specs.Wrote.{Wrote}
 use Rattle.laws.proofs.Tests.{only}
 use Rattle.laws.proofs.Ascending.{mem-ascending}
@@ -16,12 +16,8 @@ use Rattle.semantics.specs.Run.{unlocked, up}
 use Rattle.semantics.specs.Pairs.{pairOf, held, fresh, pairAt, pairsWith, pairsAt, pairs, pairList}
 use Rattle.semantics.proofs.Thread.Remainders.{length-up}
 use Rattle.semantics.proofs.Ground.LockSets.{held-lt}
-use Rattle.plan.specs.Settled.{Settled, tablePlan}
+use Rattle.plan.specs.Settled.{Settled}
 use Rattle.candidates.specs.Candidates.{pairSize}
-use Rattle.pairs.specs.Promises.{PairsCollected}
-use Rattle.pairs.proofs.Lists.{pairs-listed}
-use Rattle.procs.specs.declared.Layout.{Layout}
-use Rattle.lists.specs.Lists.{PairTable}
 
 -- ---- the size of a pair
 
@@ -63,19 +59,18 @@ module _ (plan : LockPlan) (s : Settled plan) where
 
 -- ---- the part that was lent
 
-pub listed-from : (table : List ℕ) (l : Layout) (p : ℕ) (lists : List ℕ) (at r : ℕ) (part : List ℕ) → PairTable table l → p < l .procs
-    → at + pairRoom ≤ length lists → PairsCollected (tablePlan table .procs) p (take (length lists - at) (drop at lists)) r part
-    → Wrote lists (take at lists ++ (part ++ drop (length lists - at) (drop at lists))) at (at + r) (pairList (tablePlan table .procs) p)
-listed-from table l p lists at r part t h room w =
+pub listed-from : (ws lists : List ℕ) (at r : ℕ) (part : List ℕ) → at + maxPairs ≤ length lists → Wrote (take (length lists - at) (drop at lists)) part 0 r ws
+    → Wrote lists (take at lists ++ (part ++ drop (length lists - at) (drop at lists))) at (at + r) ws
+listed-from ws lists at r part room v =
     let size : length (drop at lists) ≤ length lists - at = rw length-drop (omega arith) in
     let whole : take (length lists - at) (drop at lists) ≡ drop at lists = take-all (length lists - at) (drop at lists) size in
     let none-after : drop (length lists - at) (drop at lists) ≡ [] = drop-of-length-le (drop at lists) size in
-    let v = pairs-listed table p (t .none-refused) (omega (arith, t .laid .procs-all)) (take (length lists - at) (drop at lists)) r part w in
+    let fits : r ≤ length lists - at = rw (whole, length-drop) at (v .fits) in
     record {
       place = omega (arith, v .place);
-      fits = omega (arith, w .count);
+      fits = omega arith;
       written = ap (λ x. take at lists ++ x) (ap (λ x. part ++ x) none-after ∙ append-nil part ∙ v .written
-          ∙ ap (λ x. pairList (tablePlan table .procs) p ++ x) (ap (drop r) whole ∙ drop-drop r at lists)) ∙ sym (append-assoc (take at lists) (pairList (tablePlan table .procs) p) (drop (at + r) lists));
+          ∙ ap (λ x. ws ++ x) (ap (drop r) whole ∙ drop-drop r at lists)) ∙ sym (append-assoc (take at lists) ws (drop (at + r) lists));
     }
 
 -- ---- what stands in the lists then

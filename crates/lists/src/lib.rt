@@ -1,17 +1,18 @@
 // The pair lists of a plan's threads, one after another in a table of pairs.
 ghost use Prim.Native.Nat.{_+_, _≤_, _<_};
 ghost use lib.ListN.{length};
-ghost use Rattle.limits.specs.Limits.{pairRoom};
+ghost use Rattle.limits.specs.Limits.{maxPairs};
 ghost use Rattle.laws.specs.Wrote.{Wrote};
 ghost use Rattle.semantics.specs.Pairs.{pairList};
-ghost use Rattle.plan.specs.Settled.{tablePlan};
-ghost use Rattle.lists.specs.Lists.{PairTable, ListsAsked, ThreadLists};
+ghost use Rattle.plan.specs.Settled.{RulesKept, tablePlan};
+ghost use Rattle.procs.specs.Laid.{Laid};
+ghost use Rattle.lists.specs.Lists.{ListsAsked, ThreadLists};
 use limits::MAX_PAIRS;
 use procs::Layout;
 
 // The pair list of procedure p, from place `at` of the lists on.
 fn list_from(table: &[u64], layout: Layout, p: usize, lists: &mut [u64], at: usize) -> usize
-    requires { ⌜ PairTable (now table) layout × (p < layout .procs) × (at + pairRoom ≤ length (now lists)) ⌝ }
+    requires { ⌜ RulesKept (now table) × Laid (now table) layout × (p < layout .procs) × (at + maxPairs ≤ length (now lists)) ⌝ }
     ensures { λ r. ⌜ Wrote (now (lists .entry)) (now (lists .exit)) at (at + r) (pairList (tablePlan (now (table .entry)) .procs) p) ⌝ }
 {
     pairs::collect_pairs(table, layout, p, &mut lists[at..])

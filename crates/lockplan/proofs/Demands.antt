@@ -14,11 +14,11 @@ use Rattle.text.specs.Lines.{refusal}
 use Rattle.semantics.specs.Plan.{LockPlan}
 use Rattle.semantics.specs.Sizes.{threadSizes}
 use Rattle.semantics.proofs.Critical.PairList.{pair-list-ascends}
-use Rattle.plan.specs.Rules.{planOf, sizesRefusal, verdictRefusal, pairsRefusal, tidyRefusal}
+use Rattle.plan.specs.Rules.{planOf, planRefusal, verdictRefusal, pairsRefusal, tidyRefusal}
 use Rattle.buffers.specs.LittleEndian.{listBytes}
 use Rattle.demands.specs.Broken.{Rule, FirstBroken, AcceptedText}
-use Rattle.demands.proofs.Refusals.{sizes-refused-exactly, verdict-refused-exactly, pairs-refused-exactly, tidy-refused-exactly}
-use Rattle.demands.proofs.Accepted.{accepted-plan, sized-exactly, verdict-accepted-exactly, pairs-accepted-exactly, tidy-accepted-exactly, published-exactly}
+use Rattle.demands.proofs.Refusals.{refused-exactly, verdict-refused-exactly, pairs-refused-exactly, tidy-refused-exactly}
+use Rattle.demands.proofs.Accepted.{accepted-plan, accepted-exactly, verdict-accepted-exactly, pairs-accepted-exactly, tidy-accepted-exactly, published-exactly}
 use Rattle.answers.specs.declared.Verdict.{Verdict}
 use Rattle.answers.specs.declared.Verdict.the-variants.{Free, Deadlock, Refused}
 use Rattle.answers.specs.declared.Counted.{Counted}
@@ -30,7 +30,7 @@ use Rattle.space.specs.Slip.{neededEntries, Needs, NeedsNumber}
 use Rattle.answers.specs.Judgement.{Judgement}
 use Rattle.verdict.specs.Judged.{JudgedBytes}
 use Rattle.lockplan.specs.Demands.{RefusesExactly, VerdictRefuses, PairsRefuse, TidyRefuses, SpaceRefuses, Demand1, ListsExactly, Demand2, JudgesExactly, Demand3}
-use Rattle.answers.proofs.LineBounds.{sizes-bounded, pairs-bounded, copy-bounded}
+use Rattle.answers.proofs.LineBounds.{plan-bounded, pairs-bounded, copy-bounded}
 use Rattle.answers.proofs.Counts.{counted-is}
 use Rattle.answers.proofs.ReadBack.{verdict-read, counted-read}
 
@@ -100,14 +100,14 @@ tidy-refuses text before after r d =
 
 space-refuses : (text : List ℕ) (r : Counted) → Needs text r → SpaceRefuses text r
 unfolding neededEntries
-space-refuses text r e = counted-refuses _ _ (sizesRefusal text) (threadSizes (planOf text)) r (λ r l. sizes-refused-exactly text r l) (sized-exactly text) e
+space-refuses text r e = counted-refuses _ _ (planRefusal text) (threadSizes (planOf text)) r (λ r l. refused-exactly text r l) (accepted-exactly text) e
 
 -- the answers that the numbers carry
 module _ (text before after : List ℕ) (n : ℕ) where
   pub verdict-carried : (d : JudgedBytes text before n after) → readVerdict n ≡ d .verdict
   verdict-carried d = ap readVerdict (d .number) ∙ verdict-read text (length before / 2) (d .verdict) (d .schedule) (d .judged)
 
-  listing-carried : (p : ℕ) (d : ListedBytes text p before n after) → readCounted n ≡ countedOf (pairsRefusal text p (length before / 8)) (length (pairsOf text p))
+  pub listing-carried : (p : ℕ) (d : ListedBytes text p before n after) → readCounted n ≡ countedOf (pairsRefusal text p (length before / 8)) (length (pairsOf text p))
   listing-carried p d = ap readCounted (d .answer) ∙ counted-read (pairsRefusal text p (length before / 8)) (length (pairsOf text p)) (pairs-bounded text p (length before / 8))
 
   pub copied-carried : (d : TidiedNumber text before n after) → readCounted n ≡ d .copied
@@ -117,7 +117,7 @@ module _ (text before after : List ℕ) (n : ℕ) where
 
 pub space-carried : (text : List ℕ) (n : ℕ) → NeedsNumber text n → Needs text (readCounted n)
 unfolding neededEntries
-space-carried text n e = ap readCounted e ∙ counted-read (sizesRefusal text) (threadSizes (planOf text)) (sizes-bounded text)
+space-carried text n e = ap readCounted e ∙ counted-read (planRefusal text) (threadSizes (planOf text)) (plan-bounded text)
 
 pub demand-1 : (text before after : List ℕ) → Demand1 text before after
 unfolding listBytes
@@ -137,11 +137,11 @@ demand-1 text before after = record {
 -- ---- demand 2
 
 -- the pairs listed of an accepted text
-module _ (text : List ℕ) (p lent : ℕ) (x : AcceptedText text) (there : p < length (x .sized .plan .procs)) (enough : maxPairs ≤ lent) where
+module _ (text : List ℕ) (p lent : ℕ) (x : AcceptedText text) (there : p < length (x .plan .procs)) (enough : maxPairs ≤ lent) where
   unrefused : pairsRefusal text p lent ≡ none
   unrefused = pairs-accepted-exactly text p lent .1 (enough, x, there)
 
-  lists-exactly : (r : Counted) → r ≡ countedOf (pairsRefusal text p lent) (length (pairsOf text p)) → ListsExactly (x .sized .plan .procs) p r (pairsOf text p)
+  lists-exactly : (r : Counted) → r ≡ countedOf (pairsRefusal text p lent) (length (pairsOf text p)) → ListsExactly (x .plan .procs) p r (pairsOf text p)
   unfolding countedOf
   lists-exactly r e = record {
     number = e ∙ rw unrefused;
@@ -184,9 +184,9 @@ judges-exactly plan (Deadlock m T) es j =
     }
 judges-exactly plan (Refused x) es j = absurd (Option·none-ne-some x (j .0))
 
-module _ (text : List ℕ) (lent : ℕ) (x : AcceptedText text) (enough : threadSizes (x .sized .plan) ≤ lent) where
-  judged-exactly : (v : Verdict) (es : List ℕ) → Judgement (verdictRefusal text lent) (planOf text) v es → JudgesExactly (x .sized .plan) v es
-  judged-exactly v es j = judges-exactly (x .sized .plan) v es (rw (verdict-accepted-exactly text lent .1 (x, enough), accepted-plan text x) at j)
+module _ (text : List ℕ) (lent : ℕ) (x : AcceptedText text) (enough : threadSizes (x .plan) ≤ lent) where
+  judged-exactly : (v : Verdict) (es : List ℕ) → Judgement (verdictRefusal text lent) (planOf text) v es → JudgesExactly (x .plan) v es
+  judged-exactly v es j = judges-exactly (x .plan) v es (rw (verdict-accepted-exactly text lent .1 (x, enough), accepted-plan text x) at j)
 
 pub demand-3 : (text before after : List ℕ) → Demand3 text before after
 demand-3 text before after = record {

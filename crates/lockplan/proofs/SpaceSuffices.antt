@@ -2,28 +2,25 @@
 use Prim.Native.Nat.{ℕ, _/_, _<_, _≤_}
 use native.Mathlib.Omega.{arith}
 use mathlib.Core.List.{List, []}
-use mathlib.Core.Option.{Option, none, some, orElse, Option·none-ne-some}
+use mathlib.Core.Option.{Option, some, orElse, Option·none-ne-some}
 use mathlib.Core.Path.{_≡_, refl, sym, ap, subst, _∙_}
 use lib.ListN.{length}
 use borrow.Author.Tests.{lt-ltb}
-use Rattle.limits.specs.Limits.{maxEntries}
 use Rattle.text.specs.declared.Refusal.{Refusal}
 use Rattle.text.specs.Lines.{refusal}
 use Rattle.semantics.specs.Plan.{LockPlan}
 use Rattle.semantics.specs.Sizes.{threadSizes}
-use Rattle.plan.specs.Rules.{planOf, sizesRefusal, planRefusal, tooFewEntries, verdictRefusal}
-use Rattle.plan.proofs.AcceptedTable.{sizes-sum}
+use Rattle.plan.specs.Rules.{planOf, planRefusal, tooFewEntries, verdictRefusal}
+use Rattle.plan.proofs.AcceptedTable.{accepted-sum}
 use Rattle.buffers.specs.LittleEndian.{listBytes}
 use Rattle.demands.specs.Broken.{AcceptedText}
-use Rattle.demands.proofs.Accepted.{accepted-plan, sized-plan, sized-exactly, accepted-exactly, verdict-accepted-exactly}
+use Rattle.demands.proofs.Accepted.{accepted-plan, accepted-exactly, verdict-accepted-exactly}
 use Rattle.answers.specs.declared.Verdict.{Verdict}
 use Rattle.answers.specs.declared.Verdict.the-variants.{Free, Deadlock, Refused}
 use Rattle.answers.specs.declared.Counted.the-variants.{Count}
-use Rattle.answers.specs.Answers.{readCounted, readVerdict}
 use Rattle.answers.specs.Judgement.{Judgement}
 use Rattle.answers.proofs.Counts.{counted-kept}
-use Rattle.verdict.specs.Judged.{Judged, JudgedBytes}
-use Rattle.space.specs.Slip.{neededEntries, Needs, NeedsNumber}
+use Rattle.space.specs.Slip.{neededEntries, Needs}
 use Rattle.lockplan.specs.SpaceSuffices.{BufferOf, EntriesNeeded, SpaceSuffices}
 use Rattle.lockplan.proofs.Demands.{refused-is, no-schedule, verdict-carried, space-carried}
 
@@ -45,7 +42,7 @@ module _ (text : List ℕ) (x : AcceptedText text) (lent : ℕ) (v : Verdict) (e
       let is = refused-is (verdictRefusal text lent) (planOf text) v es j in
       record {
         suffices = λ h y e.
-            let enough : threadSizes (x .sized .plan) ≤ lent = subst (λ (q : LockPlan). threadSizes q ≤ lent) (accepted-plan text x) h in
+            let enough : threadSizes (x .plan) ≤ lent = subst (λ (q : LockPlan). threadSizes q ≤ lent) (accepted-plan text x) h in
             Option·none-ne-some y (sym (verdict-accepted-exactly text lent .1 (x, enough)) ∙ is y .0 e);
         fits = deadlock-fits (verdictRefusal text lent) (planOf text) v es j;
         fewer = λ h. let e = is (refusal 1 0) .1 (few h) in (e, kept (no-schedule (verdictRefusal text lent) (planOf text) v es j (refusal 1 0) e));
@@ -55,14 +52,14 @@ module _ (text : List ℕ) where
   entries-needed : (n : ℕ) → Needs text (Count n) → EntriesNeeded text n
   unfolding neededEntries listBytes
   entries-needed n e =
-      let k = counted-kept (sizesRefusal text) (Count n) (threadSizes (planOf text)) n e refl in
-      let y = sized-exactly text .0 (k .0) in
+      let k = counted-kept (planRefusal text) (Count n) (threadSizes (planOf text)) n e refl in
+      let x = accepted-exactly text .0 (k .0) in
       rw (k .1) (record {
-        sized = y;
-        sum = ap threadSizes (sized-plan text y);
-        most = sizes-sum text (k .0);
-        judge = λ x before v after d. buffer-of text x (length before) v (d .schedule) before after (d .judged) (λ z. d .buffer ∙ rw z);
-        lockplan-verdict = λ x before m after d. rw (verdict-carried text before after m d)
+        accepted = x;
+        sum = ap threadSizes (accepted-plan text x);
+        most = accepted-sum text (k .0);
+        judge = λ before v after d. buffer-of text x (length before) v (d .schedule) before after (d .judged) (λ z. d .buffer ∙ rw z);
+        lockplan-verdict = λ before m after d. rw (verdict-carried text before after m d)
             (buffer-of text x (length before / 2) (d .verdict) (d .schedule) before after (d .judged) (λ z. d .buffer ∙ rw z));
       })
 

@@ -13,8 +13,7 @@ use Rattle.laws.proofs.Wrote.{filled-equal}
 use Rattle.text.specs.declared.Refusal.{Refusal}
 use Rattle.text.specs.Lines.{textOf}
 use Rattle.plan.specs.Grammar.{forms}
-use Rattle.plan.specs.Rules.{planRefusal, planOf, sizesRefusal, verdictRefusal, pairsRefusal, tidyRefusal}
-use Rattle.plan.proofs.AcceptedTable.{plan-within}
+use Rattle.plan.specs.Rules.{planRefusal, planOf, verdictRefusal, pairsRefusal, tidyRefusal}
 use Rattle.demands.specs.Broken.{AcceptedText}
 use Rattle.demands.proofs.Accepted.{accepted-plan, accepted-exactly, tidy-accepted-exactly}
 use Rattle.answers.specs.declared.Verdict.{Verdict}
@@ -92,7 +91,7 @@ module _ (text : List ℕ) (x : AcceptedText text) where
   copy-accepted : AcceptedText copy
   copy-accepted = accepted-exactly copy .0 accepted-copy
 
-  bare-copy : copy ≡ textOf (forms (x .sized .plan))
+  bare-copy : copy ≡ textOf (forms (x .plan))
   unfolding tidyOf bareText
   bare-copy = ap (λ p. textOf (forms p)) (accepted-plan text x)
 
@@ -102,18 +101,15 @@ module _ (text : List ℕ) (x : AcceptedText text) where
   same-plans : planOf text ≡ planOf copy
   same-plans = sym (tidy-plan text (kept text x))
 
-  same-sizes-refusal : sizesRefusal text ≡ sizesRefusal copy
-  same-sizes-refusal = plan-within text (kept text x) ∙ sym (plan-within copy accepted-copy)
-
   same-needed : neededEntries text ≡ neededEntries copy
   unfolding neededEntries
-  same-needed = rw (same-sizes-refusal, same-plans)
+  same-needed = rw (same-refusal, same-plans)
 
   same-slip : printedSlip text ≡ printedSlip copy
   unfolding printedSlip
-  same-slip = rw (same-sizes-refusal, same-plans)
+  same-slip = rw (same-refusal, same-plans)
 
-  equal-copies : (text′ : List ℕ) (x′ : AcceptedText text′) (copy′ : List ℕ) → copy′ ≡ tidyOf text′ → (copy ≡ copy′) ↔ (x .sized .plan ≡ x′ .sized .plan)
+  equal-copies : (text′ : List ℕ) (x′ : AcceptedText text′) (copy′ : List ℕ) → copy′ ≡ tidyOf text′ → (copy ≡ copy′) ↔ (x .plan ≡ x′ .plan)
   equal-copies text′ x′ copy′ is =
       let same = tidy-same text text′ (kept text x) (kept text′ x′) in
       let a = accepted-plan text x in

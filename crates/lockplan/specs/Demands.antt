@@ -18,7 +18,7 @@ use Rattle.semantics.specs.Run.{ThreadState, run, start}
 use Rattle.semantics.specs.Stuck.{Stuck, DeadlockFree, Schedule}
 use Rattle.semantics.specs.Language.{PublishedCritical}
 use Rattle.buffers.specs.LittleEndian.{listBytes}
-use Rattle.demands.specs.Broken.{Rule, FirstBroken, sizesRules, verdictRules, pairsRules, tidyRules, SizedText, AcceptedText}
+use Rattle.demands.specs.Broken.{Rule, FirstBroken, planRules, verdictRules, pairsRules, tidyRules, AcceptedText}
 use Rattle.answers.specs.declared.Verdict.{Verdict}
 use Rattle.answers.specs.declared.Verdict.the-variants.{Free, Deadlock, Refused}
 use Rattle.answers.specs.declared.Counted.{Counted}
@@ -45,12 +45,12 @@ pub record RefusesUnwritten (rules : List Rule) (Kept : Type 0) (Refuses : Refus
 -- of the verdict, where so many entries are lent
 abbrev pub VerdictRefuses : List ℕ → ℕ → Verdict → List ℕ → List ℕ → Type 0
 VerdictRefuses text lent v before after =
-    RefusesUnwritten (verdictRules text lent) ((x : AcceptedText text) × (threadSizes (x .sized .plan) ≤ lent)) (λ x. v ≡ Refused x) before after
+    RefusesUnwritten (verdictRules text lent) ((x : AcceptedText text) × (threadSizes (x .plan) ≤ lent)) (λ x. v ≡ Refused x) before after
 
 -- of the pair list of procedure p, where so many words are lent
 abbrev pub PairsRefuse : List ℕ → ℕ → ℕ → Counted → List ℕ → List ℕ → Type 0
 PairsRefuse text p lent r before after =
-    RefusesUnwritten (pairsRules text p lent) ((maxPairs ≤ lent) × (x : AcceptedText text) × (p < length (x .sized .plan .procs))) (λ x. r ≡ counted.Refused x) before after
+    RefusesUnwritten (pairsRules text p lent) ((maxPairs ≤ lent) × (x : AcceptedText text) × (p < length (x .plan .procs))) (λ x. r ≡ counted.Refused x) before after
 
 -- of the tidy copy, where so many bytes are lent
 abbrev pub TidyRefuses : List ℕ → ℕ → Counted → List ℕ → List ℕ → Type 0
@@ -58,7 +58,7 @@ TidyRefuses text lent r before after = RefusesUnwritten (tidyRules text lent) ((
 
 -- of the space that a schedule needs, for which no buffer is lent
 abbrev pub SpaceRefuses : List ℕ → Counted → Type 0
-SpaceRefuses text r = RefusesExactly (sizesRules text) (SizedText text) (λ x. r ≡ counted.Refused x)
+SpaceRefuses text r = RefusesExactly (planRules text) (AcceptedText text) (λ x. r ≡ counted.Refused x)
 
 -- Demand 1: each text that keeps the rules is accepted, and each other is refused with the number of the first rule broken and its line, and nothing is written.
 pub record Demand1 (text before after : List ℕ) : Type 0 where
@@ -79,10 +79,10 @@ pub record ListsExactly (ps : List Block) (p : ℕ) (r : Counted) (pairs : List 
 
 -- Demand 2: for each procedure of an accepted text the listed pairs are exactly its critical pairs, none missing and none added; they fill the buffer's start.
 pub record Demand2 (text before after : List ℕ) : Type 0 where
-  pub pair-list : (p : ℕ) (r : Counted) → Listed text p before r after → (x : AcceptedText text) → p < length (x .sized .plan .procs) → maxPairs ≤ length before
-      → (pairs : List ℕ) × ListsExactly (x .sized .plan .procs) p r pairs × (after ≡ filled pairs before)
-  pub lockplan-pairs : (p n : ℕ) → ListedBytes text p before n after → (x : AcceptedText text) → p < length (x .sized .plan .procs) → maxPairs ≤ length before / 8
-      → (pairs : List ℕ) × ListsExactly (x .sized .plan .procs) p (readCounted n) pairs × (after ≡ filled (listBytes 8 pairs) before)
+  pub pair-list : (p : ℕ) (r : Counted) → Listed text p before r after → (x : AcceptedText text) → p < length (x .plan .procs) → maxPairs ≤ length before
+      → (pairs : List ℕ) × ListsExactly (x .plan .procs) p r pairs × (after ≡ filled pairs before)
+  pub lockplan-pairs : (p n : ℕ) → ListedBytes text p before n after → (x : AcceptedText text) → p < length (x .plan .procs) → maxPairs ≤ length before / 8
+      → (pairs : List ℕ) × ListsExactly (x .plan .procs) p (readCounted n) pairs × (after ≡ filled (listBytes 8 pairs) before)
 
 -- some run of the plan's gateway reaches a stuck set
 pub record StuckReached (plan : LockPlan) : Type 0 where
@@ -101,7 +101,7 @@ pub record JudgesExactly (plan : LockPlan) (v : Verdict) (schedule : List ℕ) :
 -- Demand 3: of an accepted text the verdict is exact, and the entries of its schedule fill the buffer's start. A buffer of as many entries as the sum of the threads' sizes
 -- suffices.
 pub record Demand3 (text before after : List ℕ) : Type 0 where
-  pub judge : (v : Verdict) → Judged text before v after → (x : AcceptedText text) → threadSizes (x .sized .plan) ≤ length before
-      → (schedule : List ℕ) × JudgesExactly (x .sized .plan) v schedule × (after ≡ filled schedule before)
-  pub lockplan-verdict : (n : ℕ) → JudgedBytes text before n after → (x : AcceptedText text) → threadSizes (x .sized .plan) ≤ length before / 2
-      → (schedule : List ℕ) × JudgesExactly (x .sized .plan) (readVerdict n) schedule × (after ≡ filled (listBytes 2 schedule) before)
+  pub judge : (v : Verdict) → Judged text before v after → (x : AcceptedText text) → threadSizes (x .plan) ≤ length before
+      → (schedule : List ℕ) × JudgesExactly (x .plan) v schedule × (after ≡ filled schedule before)
+  pub lockplan-verdict : (n : ℕ) → JudgedBytes text before n after → (x : AcceptedText text) → threadSizes (x .plan) ≤ length before / 2
+      → (schedule : List ℕ) × JudgesExactly (x .plan) (readVerdict n) schedule × (after ≡ filled (listBytes 2 schedule) before)

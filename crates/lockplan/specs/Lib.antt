@@ -1,4 +1,5 @@
--- The three demands; what is asked of tidy copies, and of the space that a schedule needs.
+-- The three demands; what is asked of tidy copies, of the space that a schedule needs, and of the limit of pairs.
 pub mod Demands
 pub mod TidyCopies
 pub mod SpaceSuffices
+pub mod PairLimit

@@ -8,7 +8,7 @@ use Rattle.limits.specs.Limits.{maxEntries}
 use Rattle.text.specs.declared.Refusal.{Refusal}
 use Rattle.text.specs.Lines.{refusal}
 use Rattle.semantics.specs.Sizes.{threadSizes}
-use Rattle.demands.specs.Broken.{SizedText, AcceptedText}
+use Rattle.demands.specs.Broken.{AcceptedText}
 use Rattle.answers.specs.declared.Verdict.{Verdict}
 use Rattle.answers.specs.declared.Verdict.the-variants.{Deadlock, Refused}
 use Rattle.answers.specs.declared.Counted.the-variants.{Count}
@@ -26,14 +26,13 @@ pub record BufferOf (lent n : ℕ) (v : Verdict) (before after : List ℕ) : Typ
 
 -- the number n of entries that a schedule needs
 pub record EntriesNeeded (text : List ℕ) (n : ℕ) : Type 0 where
-  -- the text keeps the rules up to and with 9, and n is the sum of the sizes of its plan's threads, which is never above 01's 6,144
-  pub sized : SizedText text
-  pub sum : n ≡ threadSizes (sized .plan)
+  -- the text is accepted, and n is the sum of the sizes of its plan's threads, which is never above 01's 6,144
+  pub accepted : AcceptedText text
+  pub sum : n ≡ threadSizes (accepted .plan)
   pub most : n ≤ maxEntries
-  -- of the verdict on an accepted text
-  pub judge : AcceptedText text → (before : List ℕ) (v : Verdict) (after : List ℕ) → Judged text before v after → BufferOf (length before) n v before after
-  pub lockplan-verdict : AcceptedText text → (before : List ℕ) (m : ℕ) (after : List ℕ) → JudgedBytes text before m after
-      → BufferOf (length before / 2) n (readVerdict m) before after
+  -- of the verdict
+  pub judge : (before : List ℕ) (v : Verdict) (after : List ℕ) → Judged text before v after → BufferOf (length before) n v before after
+  pub lockplan-verdict : (before : List ℕ) (m : ℕ) (after : List ℕ) → JudgedBytes text before m after → BufferOf (length before / 2) n (readVerdict m) before after
 
 -- of the calls, where they answer with a number of entries
 pub record SpaceSuffices (text : List ℕ) : Type 0 where

@@ -22,15 +22,15 @@ use Rattle.space.specs.Slip.{Needs, NeedsNumber, printedSlip}
 -- a copy of the accepted text
 pub record TidyCopy (text : List ℕ) (x : AcceptedText text) (copy : List ℕ) : Type 0 where
   -- "gives any accepted plan in document 01's bare form"; it always fits
-  pub bare : copy ≡ textOf (forms (x .sized .plan))
+  pub bare : copy ≡ textOf (forms (x .plan))
   pub fits : length copy ≤ maxBytes
   -- it is accepted, and its plan is the text's
   pub accepted : AcceptedText copy
-  pub same-plan : accepted .sized .plan ≡ x .sized .plan
+  pub same-plan : accepted .plan ≡ x .plan
   -- "Two accepted texts have the same procedures, statements and thread lines in the same order exactly when their tidy copies have equal bytes": whatever other copy a call
   -- writes of an accepted text
   pub equal : (text′ : List ℕ) (x′ : AcceptedText text′) (before : List ℕ) (r : Counted) (after copy′ : List ℕ) → Tidied text′ before r after → r ≡ Count (length copy′)
-      → after ≡ filled copy′ before → (copy ≡ copy′) ↔ (x .sized .plan ≡ x′ .sized .plan)
+      → after ≡ filled copy′ before → (copy ≡ copy′) ↔ (x .plan ≡ x′ .plan)
   -- "tidying a tidy copy alters nothing"
   pub unaltered : (before : List ℕ) (r : Counted) (after : List ℕ) → Tidied copy before r after → maxBytes ≤ length before
       → (r ≡ Count (length copy)) × (after ≡ filled copy before)

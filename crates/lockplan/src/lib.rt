@@ -9,7 +9,7 @@ ghost use Rattle.verdict.specs.Judged.{Judged, JudgedBytes};
 pub use answers::Counted;
 pub use answers::Verdict;
 use limits::MAX_ENTRIES;
-use limits::PAIR_ROOM;
+use limits::MAX_PAIRS;
 
 // The verdict on a plan text: whether its gateway can come to two or more threads stuck on each other, with a schedule at the start of `out` where it can.
 pub fn judge(text: &[u8], out: &mut [u16]) -> Verdict
@@ -29,8 +29,7 @@ pub fn space(text: &[u8]) -> Counted
 pub fn pair_list(text: &[u8], proc: usize, out: &mut [u64]) -> Counted
     ensures { λ r. ⌜ Listed (now (text .entry)) proc (now (out .entry)) r (now (out .exit)) ⌝ }
 {
-    let mut list = [0u64; PAIR_ROOM];
-    listing::list_pairs(text, proc, out, &mut list)
+    listing::list_pairs(text, proc, out)
 }
 
 // The part of the text that a procedure is: empty where the plan is refused or the procedure is absent.
@@ -69,7 +68,7 @@ pub extern "C" fn lockplan_space(text: &[u8]) -> u64
 pub extern "C" fn lockplan_pairs(text: &[u8], proc: u64, out: &mut [u8]) -> u64
     ensures { λ r. ⌜ ListedBytes (now (text .entry)) proc (now (out .entry)) r (now (out .exit)) ⌝ }
 {
-    let mut list = [0u64; PAIR_ROOM];
+    let mut list = [0u64; MAX_PAIRS];
     listing::list_bytes(text, proc as usize, out, &mut list)
 }
 

@@ -32,7 +32,7 @@ use Rattle.plan.specs.Limits.{counted, overLimit, pastLimitFrom, pastLim
 use Rattle.text.specs.declared.Refusal.{Refusal}
 use Rattle.text.specs.Lines.{refusal}
 use Rattle.plan.specs.Rules.{tooLong, linesRefusal, referencesRefusal, grammarRefusal, formsRefusal, planOf, procFormFrom}
-use Rattle.plan.specs.Rules.{lowestFrom, procRefusal, recursive, tooLarge, tooManyPairs, sizesRefusal, planRefusal}
+use Rattle.plan.specs.Rules.{lowestFrom, procRefusal, recursive, tooLarge, planRefusal}
 use Rattle.plan.specs.Examples.{Outcome, refusedBy, accepted, Example, Gives, copies, loops, eithers}
 use Rattle.plan.specs.Examples.{rule3, rule4, rule5, rule678, laterCalls, rule9, remarks, to8, to9, reference, limits}
 
@@ -59,7 +59,7 @@ unfolding right comesOut reference limits rule3 rule4 rule5 rule678 laterCalls r
     holdKind numbered keywordKind betweenKeyword afterKeyword numberOf appendDigit leadingOf digitOf split unindented passedOver formsIn formsOf unreadable unreadableLine
     lineFor lineOf pick orElse bind equal inFront behind planIn among only closeBlock onClose advanceOf misplaced misplacedForm counted overLimit pastLimitFrom pastLimitForm testedBy leastBad
     numberIn kindIn breaks breaking countIf breakingForm tooLong linesRefusal referencesRefusal grammarRefusal formsRefusal planOf procFormFrom lowestFrom procRefusal recursive
-    callMask joinThrough warshallRound reachMasks reachMask tooLarge tooManyPairs sizesRefusal planRefusal bodyIn _⨾_ sizeWith sizeAt sizeOf threadSize threadSizes total heldFrom pairsWith pairsAt pairList up down insertOnce
+    callMask joinThrough warshallRound reachMasks reachMask tooLarge planRefusal bodyIn _⨾_ sizeWith sizeAt sizeOf threadSize threadSizes total heldFrom pairsWith pairsAt pairList up down insertOnce
     ascending move compatible withAll apart threadAt stepIn step run start bit any unmet searchFrom atHold round rounds written
     allWritten all pairsFrom sameBelow setOf stuckAre answers passes
 examples-right = tt

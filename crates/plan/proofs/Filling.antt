@@ -9,7 +9,7 @@ use mathlib.Core.Option.{Option, none, some, Option·none-ne-some, orElse}
 use borrow.Author.Tests.{lt-ltb, le-ltb}
 use lib.ListN.{length, take, set, length-map}
 use lib.Seq.{length-take-le, take-suc-set, append-snoc}
-use Rattle.limits.specs.Limits.{maxBytes, maxForms}
+use Rattle.limits.specs.Limits.{maxBytes}
 use Rattle.text.specs.declared.Form.{Form}
 use Rattle.text.specs.declared.Refusal.{Refusal}
 use Rattle.text.specs.declared.Line.{Line}
@@ -22,7 +22,7 @@ use Rattle.text.proofs.Reading.{formsFrom, unreadableFrom, next-forms, next-unr
 use Rattle.text.proofs.Reading.{next-small, refused-answer, refused-line, ended-forms, ended-readable}
 use Rattle.plan.specs.declared.Reading.{Reading}
 use Rattle.plan.specs.declared.Reading.the-variants.{Accepted, Refused}
-use Rattle.plan.specs.Table.{codeOf, formAt, tableForms, withLine}
+use Rattle.plan.specs.Table.{codeOf, formAt, tableForms, withLine, FormRoom}
 use Rattle.plan.specs.Rules.{refusedAt, tooLong, linesRefusal, inFile, readingOf, readInFile, Tabled}
 use Rattle.plan.proofs.Codes.{form-of-code}
 
@@ -49,10 +49,10 @@ line-put f w n table k = ap (set table n) k
 
 module _ (text table : List ℕ) (p : Place) (n : ℕ) (q : Line) (s : Filling text table p n) (e : q ≡ lineAt text (p .at) (p .line)) where
   module _ (f : Form) (next : ℕ) (g : q ≡ Read f next) (p′ : Place) (a : ReadAlike text (place next (p .line + 1)) p′) where
-    pub filling-more : (table₀ table₁ : List ℕ) → table₁ ≡ withLine q n table → length text ≤ maxBytes → maxForms ≤ length table₀ → length table ≡ length table₀
+    pub filling-more : (table₀ table₁ : List ℕ) → table₁ ≡ withLine q n table → length text ≤ maxBytes → FormRoom text table₀ → length table ≡ length table₀
         → p .at < length text → Stops text (p′ .at) → Filling text table₁ p′ (n + 1)
     filling-more table₀ table₁ k b c d h stops =
-        let room : n < length table = omega (arith, s .pace) in
+        let room : n < length table = omega (arith, s .pace, c .room) in
         let put : table₁ ≡ set table n (codeOf f) = rw g at k in
         let form : formAt (codeOf f) ≡ f = form-of-code f (omega (arith, next-small text (p .at) (p .line) q e f next g)) in
         let one : tableForms (take (n + 1) table₁) ≡ tableForms (take n table) ++ (f ∷ []) =
@@ -85,14 +85,14 @@ module _ (text table : List ℕ) (p : Place) (n : ℕ) (q : Line) (s : Filling t
       }
 
 pub filling-done : (text table table₀ : List ℕ) (p : Place) (n : ℕ) → Filling text table p n → length text ≤ p .at → length text ≤ maxBytes
-    → maxForms ≤ length table₀ → length table ≡ length table₀
+    → FormRoom text table₀ → length table ≡ length table₀
     → Tabled (refusedAt 3 (unreadableLine text)) text (Accepted n) table
 unfolding readingOf
 filling-done text table table₀ p n s h a b c =
     let e : none ≡ unreadableLine text = ended-readable text (p .at) (p .line) h (unreadableLine text) (s .readable) in
     let f : tableForms (take n table) ≡ formsOf text =
     sym (append-nil (tableForms (take n table))) ∙ ap (λ l. tableForms (take n table) ++ l) (ended-forms text (p .at) (p .line) h (formsFrom text (p .at)) refl) ∙ s .read in
-    let k : length (formsOf text) ≡ n = ap length (sym f) ∙ length-map (take n table) formAt ∙ length-take-le n table (omega (arith, s .pace, s .within)) in
+    let k : length (formsOf text) ≡ n = ap length (sym f) ∙ length-map (take n table) formAt ∙ length-take-le n table (omega (arith, s .pace, s .within, b .room)) in
     record { answer = rw (← e, k); forms = λ _. rw k f }
 
 -- an answer that accepts

@@ -1,6 +1,6 @@
--- The rules in checking order, as five refusals: those up to and with 9, the plan's, the verdict's, the pair list's, the tidy copy's. 01, "Rules, in checking order": "A refusal
--- returns its number and a line (0 where none is named) .. Each rule is tested over the whole text before the next." The rules 4 to 10 and 12 are said of the list of forms
--- and name a form by its number, from 1; `inFile` names its line in the file.
+-- The rules in checking order, as four refusals: the plan's, the verdict's, the pair list's, the tidy copy's. 01, "Rules, in checking order": "A refusal returns its number and
+-- a line (0 where none is named) .. Each rule is tested over the whole text before the next." The rules 4 to 9 and 12 are said of the list of forms and name a form by its
+-- number, from 1; `inFile` names its line in the file. 02, change 5, of rule 10: "take it out, its number unused".
 use Prim.Native.Nat.{ℕ, zero, suc, _-_}
 use mathlib.Core.Bool.{Bool, _&&_, cond}
 use mathlib.Core.List.{List, [], _∷_}
@@ -16,7 +16,6 @@ use Rattle.text.specs.Lines.{refusal, formsOf, unreadableLine, lineOf}
 use Rattle.semantics.specs.Plan.{LockPlan}
 use Rattle.semantics.specs.CallMasks.{reaches}
 use Rattle.semantics.specs.Sizes.{sizeOf, threadSizes}
-use Rattle.semantics.specs.Pairs.{pairList}
 use Rattle.plan.specs.Grammar.{planIn}
 use Rattle.plan.specs.Structure.{misplacedForm}
 use Rattle.plan.specs.Table.{tableForms}
@@ -82,15 +81,11 @@ recursive fs = procRefusal 12 fs (λ p. reaches (planIn fs .procs) p p)
 unfoldable pub tooLarge : List Form → Option Refusal
 tooLarge fs = procRefusal 9 fs (λ p. ltb maxSize (sizeOf (planIn fs .procs) p))
 
--- 10: "Some procedure has more than 128 critical pairs"
-unfoldable pub tooManyPairs : List Form → Option Refusal
-tooManyPairs fs = procRefusal 10 fs (λ p. ltb maxPairs (length (pairList (planIn fs .procs) p)))
-
 -- rules 12 and 9, of the forms of a plan: 12 "follows rule 8"
 abbrev pub procsRefusal : List Form → Option Refusal
 procsRefusal fs = orElse (recursive fs) (tooLarge fs)
 
--- the rules over the forms up to and with 9: 4 to 8, 12, 9
+-- the rules over the forms: 4 to 8, 12, 9
 unfoldable pub formsRefusal : List Form → Option Refusal
 formsRefusal fs = orElse (grammarRefusal fs) (procsRefusal fs)
 
@@ -103,23 +98,20 @@ abbrev pub inFile : List ℕ → Option Refusal → Option Refusal
 inFile text none = none
 inFile text (some x) = some (refusalInFile text x)
 
--- 02, change 4: "every rule on it up to and with 9, in checking order": 2 to 8, 12, 9
-unfoldable pub sizesRefusal : List ℕ → Option Refusal
-sizesRefusal text = orElse (linesRefusal text) (inFile text (formsRefusal (formsOf text)))
-
--- the plan's rules: these, then 10
+-- the plan's rules: 2 to 8, 12, 9. For the space that a schedule needs these are 02's, change 4: "every rule on it up to and with 9, in checking order"
 unfoldable pub planRefusal : List ℕ → Option Refusal
-planRefusal text = orElse (sizesRefusal text) (inFile text (tooManyPairs (formsOf text)))
+planRefusal text = orElse (linesRefusal text) (inFile text (formsRefusal (formsOf text)))
 
 -- 1, by 02, change 4: "for schedules rule 1 now means fewer entries than this sum", that of the threads' sizes
 unfoldable pub tooFewEntries : LockPlan → ℕ → Option Refusal
 tooFewEntries plan lent = refusedIf 1 (ltb lent (threadSizes plan))
 
--- the verdict's: the plan's, then 1, which "moves to just after rule 10"
+-- the verdict's: the plan's, then 1. 02, change 5: "the schedule buffer is now tested last of the plan's rules"
 unfoldable pub verdictRefusal : List ℕ → ℕ → Option Refusal
 verdictRefusal text lent = orElse (planRefusal text) (tooFewEntries (planOf text) lent)
 
--- the pair list's: 1, "shorter than .. 128 words for pairs", then the plan's, then 11, "The pairs of a procedure that is not there are requested (line 0)."
+-- the pair list's: 1, shorter than 511 words (02, change 5: "Raise .. the pair buffer to 511 words"), then the plan's, then 11, "The pairs of a procedure that is not there are
+-- requested (line 0)."
 unfoldable pub pairsRefusal : List ℕ → ℕ → ℕ → Option Refusal
 pairsRefusal text p lent = orElse (refusedIf 1 (ltb lent maxPairs)) (orElse (planRefusal text) (refusedIf 11 (leb (length (planOf text .procs)) p)))
 

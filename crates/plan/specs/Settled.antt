@@ -9,7 +9,7 @@ use Rattle.limits.specs.Limits.{maxProcs, maxStatements, maxThreads, maxBracket
 use Rattle.semantics.specs.Plan.{Block, done, skip, call, hold, loop, either, end, LockPlan, bodyIn, Written, WellFormed}
 use Rattle.plan.specs.Grammar.{forms, planIn}
 use Rattle.plan.specs.Table.{tableForms}
-use Rattle.plan.specs.Rules.{recursive, tooLarge, tooManyPairs}
+use Rattle.plan.specs.Rules.{recursive, tooLarge}
 
 -- how many statements a block has, those within others too
 unfoldable pub statements : Block → ℕ
@@ -56,9 +56,8 @@ pub record PlanTable (ws : List ℕ) : Type 0 where
   pub written : tableForms ws ≡ forms (tablePlan ws)
   pub settled : Settled (tablePlan ws)
 
--- the table of a plan that keeps the rules 4 to 10 and 12: what an accepted text leaves (theorem `rules-kept`)
+-- the table of a plan that keeps the rules 4 to 9 and 12: what an accepted text leaves (theorem `rules-kept`)
 pub record RulesKept (ws : List ℕ) : Type 0 where
   pub plan : PlanTable ws
   pub acyclic : recursive (tableForms ws) ≡ none
   pub sizes : tooLarge (tableForms ws) ≡ none
-  pub pairs : tooManyPairs (tableForms ws) ≡ none

@@ -1,15 +1,17 @@
 -- A form as a code in a table: its kind plus 16 times its number. A form is read back from its code (theorem `form-of-code`).
 use mathlib.Core.Bool.{cond}
-use Prim.Native.Nat.{ℕ, _+_, _*_, _/_, _%_}
+use Prim.Native.Nat.{ℕ, _+_, _*_, _/_, _%_, _≤_, min}
 use mathlib.Core.List.{List, map}
 use lib.Dec.{eqb}
-use lib.ListN.{set}
+use lib.ListN.{length, set}
+use Rattle.limits.specs.Limits.{maxBytes}
 use Rattle.text.specs.declared.Form.{Form}
 use Rattle.text.specs.declared.Form.the-variants.{Plan, Proc, Thread, Close, Skip, Call, Hold, Loop, Either, One, Two}
 use Rattle.text.specs.Forms.{kindNumber, numberIn}
 use Rattle.text.specs.declared.Line.{Line}
 use Rattle.text.specs.declared.Line.the-variants.{Read, Refused}
 
+-- the code of a form
 unfoldable pub codeOf : Form → ℕ
 codeOf f = kindNumber f + 16 * numberIn f
 
@@ -40,3 +42,7 @@ tableForms ws = map formAt ws
 abbrev pub withLine : Line → ℕ → List ℕ → List ℕ
 withLine (Read f next) n table = set table n (codeOf f)
 withLine (Refused x) n table = table
+
+-- a table with room for the forms of a text, as far as rule 2 lets it be read: a form's line has two bytes at least
+pub record FormRoom (text table : List ℕ) : Type 0 where
+  pub room : min (length text) maxBytes ≤ 2 * length table

@@ -3,17 +3,16 @@
 ghost use mathlib.Core.Path.{_≡_};
 ghost use Prim.Native.Nat.{_+_, _-_, _≤_, _<_};
 ghost use lib.ListN.{length};
-ghost use Rattle.limits.specs.Limits.{maxBytes, maxForms};
+ghost use Rattle.limits.specs.Limits.{maxBytes};
 ghost use Rattle.text.specs.Forms.{numberIn, isProc};
 ghost use Rattle.text.specs.Lines.{lineAt, unreadableLine};
-ghost use Rattle.plan.specs.Table.{codeOf, formAt, tableForms, withLine};
+ghost use Rattle.plan.specs.Table.{codeOf, formAt, tableForms, withLine, FormRoom};
 ghost use Rattle.plan.specs.Structure.{only, among, closeBlock, onClose, advanceOf, misplacedForm, stackOf, innermost};
 ghost use Rattle.plan.specs.Limits.{Small, addIf, depthAfter, counted, overLimit, pastLimitForm, testedBy, leastBad, breaks, breakingForm, countIf};
 ghost use Rattle.plan.specs.Rules.{refusedAt, linesRefusal, referencesRefusal, grammarRefusal, limitedOf, readingOf, readInFile, Tabled};
 use limits::LOCK_COUNT;
 use limits::MAX_BRACKETS;
 use limits::MAX_BYTES;
-use limits::MAX_FORMS;
 use limits::MAX_PROCS;
 use limits::MAX_STATEMENTS;
 use limits::MAX_THREADS;
@@ -382,7 +381,7 @@ fn put_line(text: &[u8], place: Place, table: &mut [u64], n: usize) -> Line
 // The text's forms into a table, line after line (rule 3), what is to be passed over left out. A form's line has two bytes at least, so a table of half the bytes has
 // room.
 fn fill(text: &[u8], table: &mut [u64]) -> Reading
-    requires { ⌜ (length (now text) ≤ maxBytes) × (maxForms ≤ length (now table)) ⌝ }
+    requires { ⌜ (length (now text) ≤ maxBytes) × FormRoom (now text) (now table) ⌝ }
     ensures { λ r. ⌜ Tabled (refusedAt 3 (unreadableLine (now (text .entry)))) (now (text .entry)) r (now (table .exit)) ⌝ }
 {
     let mut here = text::pass_over(text, Place { at: 0, line: 1 });
@@ -406,9 +405,9 @@ fn fill(text: &[u8], table: &mut [u64]) -> Reading
     Reading::Accepted(n)
 }
 
-// A plan text into a lent table of forms, by the rules 2 and 3. The table is MAX_FORMS long.
+// A plan text into a lent table of forms, by the rules 2 and 3. A table of MAX_FORMS has room for every text.
 pub fn read_forms(text: &[u8], table: &mut [u64]) -> Reading
-    requires { ⌜ maxForms ≤ length (now table) ⌝ }
+    requires { ⌜ FormRoom (now text) (now table) ⌝ }
     ensures { λ r. ⌜ Tabled (linesRefusal (now (text .entry))) (now (text .entry)) r (now (table .exit)) ⌝ }
 {
     if MAX_BYTES < text.len() {

@@ -108,4 +108,4 @@ pub proc-written : (text : List ℕ) (p : ℕ) → planRefusal text ≡ none →
 unfolding procText linesOfProc
 proc-written text p e h =
     rw (e, lt-ltb p (length (planOf text .procs)) h)
-    (spelled-lines text (formsOf text) (planOf text) p (accepted-rules text e .sized .readable) refl (accepted-text text e) h (accepted-settled text e .some-thread))
+    (spelled-lines text (formsOf text) (planOf text) p (accepted-rules text e .readable) refl (accepted-text text e) h (accepted-settled text e .some-thread))

@@ -19,7 +19,7 @@ linesOfProc text p =
     let k = procFormFrom 1 p (formsOf text) in
     formsSpan text k (k + formsToClosing 0 (drop k (formsOf text)))
 
--- "with an empty part and no number if a rule about the plan (here 2 to 10) refuses it or the procedure is absent"; rule 12, of 02, change 2, is about the plan too
+-- "with an empty part and no number if a rule about the plan .. refuses it or the procedure is absent": 2 to 9, and 12, of 02, change 2
 abbrev pub orEmpty : Option Refusal → Bool → Span → Span
 orEmpty none there part = cond there part (span 0 0)
 orEmpty (some r) there part = span 0 0

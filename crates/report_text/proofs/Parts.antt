@@ -13,10 +13,9 @@ use Rattle.semantics.specs.Plan.{Block}
 use Rattle.semantics.specs.Pairs.{pairList}
 use Rattle.plan.specs.Rules.{planOf}
 use Rattle.plan.specs.Settled.{tablePlan, RulesKept}
+use Rattle.plan.proofs.WithinSize.{few-pairs}
 use Rattle.procs.specs.declared.Layout.{Layout}
 use Rattle.procs.specs.Laid.{Laid}
-use Rattle.pairs.specs.Promises.{PairsCollected}
-use Rattle.pairs.proofs.Lists.{few-pairs, pairs-listed}
 use Rattle.laws.specs.Wrote.{Wrote}
 use Rattle.report_lines.specs.Lines.{reportOpen, freeLine, closing, procLines, deadlockLines, refusedLine, procLinesRoom, deadlockRoom}
 use Rattle.laws.proofs.Wrote.{wrote-none, wrote-start}
@@ -29,17 +28,14 @@ use Rattle.report_text.specs.Tables.{partRoom, scheduleLength, scheduleI
 -- ---- a procedure
 
 module _ (ws : List ℕ) (l : Layout) (p n : ℕ) (before list : List ℕ) (w : RulesKept ws) (d : Laid ws l) (h : p < l .procs)
-    (k : PairsCollected (tablePlan ws .procs) p before n list) where
-  there : p < length (tablePlan ws .procs)
-  there = omega (arith, d .procs-all)
-
+    (k : Wrote before list 0 n (pairList (tablePlan ws .procs) p)) where
   pairs : take (n - 0) list ≡ pairList (tablePlan ws .procs) p
   pairs =
       let e : n - 0 ≡ n = omega arith in
-      rw e (wrote-start before list 0 n (pairList (tablePlan ws .procs) p) (pairs-listed ws p (w .pairs) there before n list k) refl)
+      rw e (wrote-start before list 0 n (pairList (tablePlan ws .procs) p) k refl)
 
   few : length (take (n - 0) list) ≤ maxPairs
-  few = rw pairs (few-pairs ws p (w .pairs) there)
+  few = rw pairs (few-pairs ws w p (omega (arith, d .procs-all)))
 
   pub procedure-room : (out : List ℕ) → partRoom ≤ length out → 0 + procLinesRoom (length (take (n - 0) list)) ≤ length out
   procedure-room out r = omega (arith, few)

@@ -16,7 +16,7 @@ use Rattle.text.specs.declared.Refusal.{Refusal}
 use Rattle.plan.specs.Rules.{planRefusal, planOf, Tabled}
 use Rattle.plan.specs.Table.{tableForms}
 use Rattle.plan.specs.Settled.{tablePlan, RulesKept}
-use Rattle.plan.proofs.AcceptedTable.{plan-kept, plan-same, plan-room, rules-kept}
+use Rattle.plan.proofs.AcceptedTable.{plan-kept, plan-same, most-room, plan-room, rules-kept}
 use Rattle.plan.proofs.Filling.{refused-is}
 use Rattle.plan.proofs.WithinSize.{sum-within}
 use Rattle.deadlock.specs.Findings.{TableJudged}
@@ -56,7 +56,7 @@ module _ (text table : List ℕ) (q : Reading) (n : ℕ) (t : Tabled (planRefusa
   plan-prepared table₀ entries j a b x =
       let same = plan-same text table q n t g in
       let kept = plan-kept text table q n t g in
-      let fits : n ≤ length table = plan-room text table q n t g table₀ a b in
+      let fits : n ≤ length table = plan-room text table q n t g table₀ (most-room text table₀ a) b in
       let e : j .forms ≡ n - 0 = x .forms ∙ length-take-le (n - 0) table (omega arith) in
       let judged = rw same at (x .judged) in
       record {

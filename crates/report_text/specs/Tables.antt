@@ -4,20 +4,20 @@ use mathlib.Core.List.{List}
 use mathlib.Core.Option.{none}
 use mathlib.Core.Path.{_≡_}
 use lib.ListN.{length, take}
-use Rattle.limits.specs.Limits.{maxProcs, maxEntries}
+use Rattle.limits.specs.Limits.{maxProcs, maxPairs}
 use Rattle.plan.specs.Rules.{planOf, planRefusal}
 use Rattle.plan.specs.Settled.{tablePlan, RulesKept}
 use Rattle.procs.specs.Laid.{Laid}
-use Rattle.report_lines.specs.Lines.{deadlockRoom}
+use Rattle.report_lines.specs.Lines.{procLinesRoom}
 use Rattle.report_text.specs.declared.Findings.{Findings}
 use Rattle.answers.specs.declared.Verdict.{Verdict}
 use Rattle.answers.specs.declared.Verdict.the-variants.{Free, Deadlock, Refused}
 use Rattle.answers.specs.Judgement.{Judgement}
 use Rattle.report_text.specs.Report.{procedures}
 
--- the room for a part of the report, of which the lines of a deadlock are the longest
+-- the room for a part of the report: that for the lines of a procedure, which is more than that for a deadlock
 abbrev pub partRoom : ℕ
-partRoom = deadlockRoom maxEntries
+partRoom = procLinesRoom maxPairs
 
 -- no report has more parts: the opening, the procedures, the verdict, the closing line
 abbrev pub mostParts : ℕ

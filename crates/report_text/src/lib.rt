@@ -2,7 +2,7 @@
 ghost use Prim.Native.Nat.{_+_, _≤_, _<_};
 ghost use lib.ListN.{length, take};
 ghost use mathlib.Core.Path.{_≡_};
-ghost use Rattle.limits.specs.Limits.{maxForms, pairRoom, maxEntries};
+ghost use Rattle.limits.specs.Limits.{maxForms, maxPairs, maxEntries};
 ghost use Rattle.semantics.specs.Pairs.{pairList};
 ghost use Rattle.plan.specs.Settled.{tablePlan, RulesKept};
 ghost use Rattle.procs.specs.Laid.{Laid};
@@ -11,19 +11,17 @@ ghost use Rattle.report_lines.specs.Lines.{procLines};
 ghost use Rattle.report_text.specs.Report.{verdictPart, partOf};
 ghost use Rattle.report_text.specs.Tables.{partRoom, scheduleLength, scheduleIn, PlanPrepared, Prepared, ProcTables};
 use answers::Verdict;
-use limits::MAX_ENTRIES;
+use limits::MAX_PAIRS;
 use limits::MAX_PROCS;
-use limits::PAIR_ROOM;
 use plan::Reading;
 use procs::Layout;
 
-// Bytes that suffice for a part of the report, of which the lines of a deadlock are the longest: the opening and closing lines, the line of the stuck threads, and a line
-// for each entry of the schedule.
-const STUCK_ROOM: usize = 6 + 64 * 3 + 2;
+// Bytes that suffice for a part of the report, most for the lines of a procedure: the opening and closing lines, and a line for each pair with room for 64 held locks.
+const PROC_OPEN_ROOM: usize = 6 + 20 + 1;
 
-const STEP_ROOM: usize = 6 + 1 + 1 + 4 + 2;
+const PAIR_LINE_ROOM: usize = 6 + 2 + 64 * 3 + 2;
 
-pub const PART_ROOM: usize = 10 + STUCK_ROOM + MAX_ENTRIES * STEP_ROOM + 2;
+pub const PART_ROOM: usize = PROC_OPEN_ROOM + MAX_PAIRS * PAIR_LINE_ROOM + 2;
 
 // No report has more parts: the opening, the procedures, the verdict, the closing line.
 pub const MOST_PARTS: usize = MAX_PROCS + 3;
@@ -77,7 +75,7 @@ fn put_pair_lines(
     list: &mut [u64],
     out: &mut [u8],
 ) -> usize
-    requires { ⌜ RulesKept (now table) × Laid (now table) layout × (p < layout .procs) × (pairRoom ≤ length (now list)) × (partRoom ≤ length (now out)) ⌝ }
+    requires { ⌜ RulesKept (now table) × Laid (now table) layout × (p < layout .procs) × (maxPairs ≤ length (now list)) × (partRoom ≤ length (now out)) ⌝ }
     ensures { λ r. ⌜ Wrote (now (out .entry)) (now (out .exit)) 0 r (procLines p (pairList (tablePlan (now (table .entry)) .procs) p)) ⌝ }
 {
     let n = pairs::collect_pairs(table, layout, p, list);
@@ -90,7 +88,7 @@ fn put_procedure(findings: Findings, table: &[u64], p: usize, out: &mut [u8]) ->
     ensures { λ r. ⌜ Wrote (now (out .entry)) (now (out .exit)) 0 r (procLines p (pairList (tablePlan (take (findings .forms) (now (table .entry))) .procs) p)) ⌝ }
 {
     let forms = findings.forms;
-    let mut list = [0u64; PAIR_ROOM];
+    let mut list = [0u64; MAX_PAIRS];
     put_pair_lines(&table[0..forms], findings.layout, p, &mut list, out)
 }
 

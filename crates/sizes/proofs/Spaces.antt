@@ -7,7 +7,7 @@ use mathlib.Core.Path.{_≡_, refl, sym, ap, _∙_}
 use mathlib.Core.List.{List}
 use mathlib.Core.Logic.{⊎-elim}
 use mathlib.Core.Option.{none}
-use lib.ListN.{length, getD, set, take, length-set}
+use lib.ListN.{length, getD, set, length-set}
 use lib.Seq.{getD-set-same, getD-set-other, getD-take}
 use Rattle.limits.specs.Limits.{maxThreads, sizeRoom}
 use Rattle.laws.specs.Sums.{total}
@@ -93,5 +93,5 @@ module _ (ws sizes : List ℕ) (l : Layout) (plan : PlanTable ws) (d : Laid ws l
     }
 
   pub checks-sizes : (r : Reading) (x : Space) → r ≡ readingOf (tooLarge (tableForms ws)) (length ws) → Summed (l .runs) (l .threads) sizes x
-      → ChecksSizes ws (record { reading = r; space = x })
+      → ChecksSizes (tooLarge (tableForms ws)) ws (record { reading = r; space = x })
   checks-sizes r x e m = record { reading = e; space = λ kept. space-found kept x m }

@@ -34,7 +34,7 @@ pub struct Space {
     pub sum: usize,
 }
 
-// The reading by rule 9, and the space of a plan that keeps it.
+// A reading of a plan's table, and the space of a plan that is not refused.
 pub struct CheckedSizes {
     pub reading: Reading,
     pub space: Space,
@@ -186,7 +186,7 @@ fn thread_space(runs: &[u64], threads: usize, sizes: &[u64]) -> Space
 // Rule 9: the `(proc` of the lowest procedure whose size exceeds MAX_SIZE, where it is known what each procedure reaches; and the space that the plan needs.
 pub fn check_sizes(table: &[u64], layout: Layout, masks: &[u64]) -> CheckedSizes
     requires { ⌜ PlanTable (now table) × Laid (now table) layout × ReachTable (now table) (now masks) × Ranks (tablePlan (now table) .procs) ⌝ }
-    ensures { λ r. ⌜ ChecksSizes (now (table .entry)) r ⌝ }
+    ensures { λ r. ⌜ ChecksSizes (tooLarge (tableForms (now (table .entry)))) (now (table .entry)) r ⌝ }
 {
     let procs = layout.procs;
     let starts = layout.starts;

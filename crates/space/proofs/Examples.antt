@@ -1,6 +1,6 @@
 -- The examples are computed.
 use mathlib.Core.Option.{orElse, bind}
-use mathlib.Core.Path.{_≡_, refl}
+use mathlib.Core.Path.{refl}
 use Rattle.laws.specs.Bytes.{equal}
 use Rattle.laws.specs.Choice.{pick}
 use Rattle.laws.specs.Mask.{bit}
@@ -15,7 +15,7 @@ use Rattle.semantics.specs.Sizes.{sizeWith, sizeAt, sizeOf, threadSize, threadS
 use Rattle.plan.specs.Grammar.{inFront, behind, planIn}
 use Rattle.plan.specs.Structure.{among, only, closeBlock, onClose, advanceOf, misplaced, misplacedForm}
 use Rattle.plan.specs.Limits.{counted, overLimit, pastLimitFrom, pastLimitForm, testedBy, leastBad, breaks, breaking, countIf, breakingForm}
-use Rattle.plan.specs.Rules.{tooLong, linesRefusal, referencesRefusal, grammarRefusal, formsRefusal, planOf, procFormFrom, lowestFrom, procRefusal, recursive, tooLarge, sizesRefusal}
+use Rattle.plan.specs.Rules.{tooLong, linesRefusal, referencesRefusal, grammarRefusal, formsRefusal, planOf, procFormFrom, lowestFrom, procRefusal, recursive, tooLarge, planRefusal}
 use Rattle.report_lines.specs.Lines.{digitsIn, digits, refusedLine}
 use Rattle.space.specs.Slip.{sizeLine, sumLine, sizeLines, slipOf, printedSlip}
 use Rattle.space.specs.Examples.{SlipsRight}
@@ -25,5 +25,5 @@ unfolding printedSlip slipOf sizeLines sizeLine sumLine digits digitsIn refusedL
     afterKeyword numberOf appendDigit leadingOf digitOf split unindented passedOver formsIn formsOf unreadable unreadableLine lineFor lineOf pick orElse bind equal inFront behind
     planIn among only closeBlock onClose advanceOf misplaced misplacedForm counted overLimit pastLimitFrom pastLimitForm testedBy leastBad numberIn kindIn breaks breaking countIf
     breakingForm tooLong linesRefusal referencesRefusal grammarRefusal formsRefusal planOf procFormFrom lowestFrom procRefusal recursive callMask joinThrough warshallRound
-    reachMasks reachMask tooLarge sizesRefusal bodyIn sizeWith sizeAt sizeOf threadSize threadSizes total bit
+    reachMasks reachMask tooLarge planRefusal bodyIn sizeWith sizeAt sizeOf threadSize threadSizes total bit
 slips-right = record { a = refl; threads = refl; empty = refl }

@@ -13,14 +13,12 @@ use Rattle.laws.specs.Wrote.{Wrote}
 use Rattle.laws.proofs.Wrote.{wrote-none, wrote-more, wrote-three}
 use Rattle.text.specs.Lines.{formsOf}
 use Rattle.text.specs.declared.Refusal.{Refusal}
-use Rattle.semantics.specs.Plan.{LockPlan}
 use Rattle.semantics.specs.Sizes.{threadSize}
 use Rattle.plan.specs.declared.Reading.the-variants.{Accepted}
 use Rattle.plan.specs.declared.Reading.the-variants as plan
-use Rattle.plan.specs.Rules.{planOf, sizesRefusal}
+use Rattle.plan.specs.Rules.{planOf, planRefusal}
 use Rattle.plan.proofs.Filling.{refused-is}
-use Rattle.plan.proofs.AcceptedTable.{tabled-kept, sizes-settled}
-use Rattle.sizes.specs.declared.Space.{Space}
+use Rattle.plan.proofs.AcceptedTable.{plan-kept, accepted-settled}
 use Rattle.sizes.specs.Space.{SpaceOf}
 use Rattle.checked.specs.declared.CheckedText.{CheckedText}
 use Rattle.checked.specs.Checks.{Checks}
@@ -52,21 +50,21 @@ lines-same (suc n) size size′ h = rw (lines-same n size size′ (λ t b. h t (
 
 -- ---- the slip of a text
 
-module _ (text table : List ℕ) (c : CheckedText) (t : Checks (sizesRefusal text) text c table) where
+module _ (text table : List ℕ) (c : CheckedText) (t : Checks text c table) where
   pub slip-refused : (x : Refusal) (before after : List ℕ) (r : ℕ) → c .reading ≡ plan.Refused x → Wrote before after 0 r (refusedLine (x .rule) (x .line))
       → Wrote before after 0 r (printedSlip text)
   unfolding printedSlip
-  slip-refused x before after r g w = rw (refused-is (sizesRefusal text) (length (formsOf text)) x (sym (t .tabled .answer) ∙ g)) w
+  slip-refused x before after r g w = rw (refused-is (planRefusal text) (length (formsOf text)) x (sym (t .tabled .answer) ∙ g)) w
 
   module _ (n : ℕ) (g : c .reading ≡ Accepted n) where
-    kept : sizesRefusal text ≡ none
-    kept = tabled-kept (sizesRefusal text) text table (c .reading) n (t .tabled) g
+    kept : planRefusal text ≡ none
+    kept = plan-kept text table (c .reading) n (t .tabled) g
 
     space : SpaceOf (planOf text) (c .space)
     space = t .space kept
 
     pub space-few : c .space .threads ≤ maxThreads
-    space-few = omega (arith, space .threads, sizes-settled text kept .few-threads)
+    space-few = omega (arith, space .threads, accepted-settled text kept .few-threads)
 
     pub space-full : maxThreads ≡ length (c .space .each)
     space-full = space .full

@@ -8,16 +8,16 @@ use Rattle.limits.specs.Limits.{maxThreads}
 use Rattle.laws.specs.Bytes.{bytes}
 use Rattle.semantics.specs.Plan.{LockPlan}
 use Rattle.semantics.specs.Sizes.{threadSize, threadSizes}
-use Rattle.plan.specs.Rules.{planOf, sizesRefusal}
+use Rattle.plan.specs.Rules.{planOf, planRefusal}
 use Rattle.report_lines.specs.Lines.{digits, unlessRefused}
 use Rattle.answers.specs.declared.Counted.{Counted}
 use Rattle.answers.specs.Answers.{countedOf, countedNumber}
 
 -- ---- the calls
 
--- how many entries a schedule needs: the sum of the threads' sizes, or the refusal by the rules up to and with 9
+-- how many entries a schedule needs: the sum of the threads' sizes, or the refusal by the plan's rules
 unfoldable pub neededEntries : List ℕ → Counted
-neededEntries text = countedOf (sizesRefusal text) (threadSizes (planOf text))
+neededEntries text = countedOf (planRefusal text) (threadSizes (planOf text))
 
 -- the answer of the call
 abbrev pub Needs : List ℕ → Counted → Type 0
@@ -48,7 +48,7 @@ slipOf plan = sizeLines (threadSize plan) (length (plan .threads)) ++ sumLine (t
 
 -- what the program prints of a text
 unfoldable pub printedSlip : List ℕ → List ℕ
-printedSlip text = unlessRefused (sizesRefusal text) (slipOf (planOf text))
+printedSlip text = unlessRefused (planRefusal text) (slipOf (planOf text))
 
 -- ---- bytes that suffice: a machine number has at most 20 digits
 

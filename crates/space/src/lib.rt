@@ -23,9 +23,9 @@ fn find_needed(text: &[u8], table: &mut [u64]) -> Counted
     requires { ⌜ maxForms ≤ length (now table) ⌝ }
     ensures { λ r. ⌜ Needs (now (text .entry)) r ⌝ }
 {
-    let sized = checked::read_sizes(text, table);
-    let reading = sized.reading;
-    let space = sized.space;
+    let checked = checked::read_text(text, table);
+    let reading = checked.reading;
+    let space = checked.space;
     match reading {
         Reading::Accepted(_) => Counted::Count(space.sum),
         Reading::Refused(refusal) => Counted::Refused(refusal),
@@ -100,7 +100,7 @@ fn find_slip(text: &[u8], out: &mut [u8], table: &mut [u64]) -> usize
     requires { ⌜ (slipRoom ≤ length (now out)) × (maxForms ≤ length (now table)) ⌝ }
     ensures { λ r. ⌜ Wrote (now (out .entry)) (now (out .exit)) 0 r (printedSlip (now (text .entry))) ⌝ }
 {
-    let checked = checked::read_sizes(text, table);
+    let checked = checked::read_text(text, table);
     let reading = checked.reading;
     match reading {
         Reading::Accepted(_) => put_space(out, checked.space),

@@ -27,10 +27,10 @@ module _ (text : List ℕ) (h : planRefusal text ≡ none) where
 
   -- "The output must hold 32,768 bytes": the copy is no longer than the text, so that it always fits
   pub tidy-short : length (tidyOf text) ≤ length text
-  tidy-short = subst (λ t. length t ≤ length text) (sym tidy-forms) (written-shorter text (accepted-rules text h .sized .readable))
+  tidy-short = subst (λ t. length t ≤ length text) (sym tidy-forms) (written-shorter text (accepted-rules text h .readable))
 
   pub tidy-fits : length (tidyOf text) ≤ maxBytes
-  tidy-fits = omega (arith, tidy-short, accepted-rules text h .sized .short)
+  tidy-fits = omega (arith, tidy-short, accepted-rules text h .short)
 
   -- "Verdict and pairs are those of the tidy copy": both are of the plan, and the plan is the same
   pub tidy-plan : planOf (tidyOf text) ≡ planOf text
@@ -44,7 +44,7 @@ module _ (text : List ℕ) (h : planRefusal text ≡ none) where
       let e : formsOf text ≡ forms (planOf text) = accepted-text text h in
       let fits : length (bareText (planOf text)) ≤ maxBytes = tidy-fits in
       let r = accepted-rules text h in
-      bare-accepted (planOf text) (accepted-settled text h) fits (rw e at (r .sized .acyclic)) (rw e at (r .sized .sizes)) (rw e at (r .pairs))
+      bare-accepted (planOf text) (accepted-settled text h) fits (rw e at (r .acyclic)) (rw e at (r .sizes))
 
   -- "and tidying a tidy copy alters nothing"
   pub tidy-twice : tidyOf (tidyOf text) ≡ tidyOf text

@@ -24,7 +24,7 @@ use Rattle.plan.specs.declared.Reading.the-variants.{Accepted}
 use Rattle.plan.specs.declared.Reading.the-variants as plan
 use Rattle.plan.specs.Settled.{tablePlan}
 use Rattle.plan.specs.Rules.{planOf, planRefusal, tooFewEntries, verdictRefusal, Tabled}
-use Rattle.plan.proofs.AcceptedTable.{plan-kept, plan-same, plan-within, sizes-sum}
+use Rattle.plan.proofs.AcceptedTable.{plan-kept, plan-same, accepted-sum}
 use Rattle.plan.proofs.Filling.{refused-is}
 use Rattle.buffers.specs.LittleEndian.{listBytes}
 use Rattle.sizes.specs.declared.Space.{Space}
@@ -97,7 +97,7 @@ unfolding verdictRefusal orElse
 same-lent text lent = go (planRefusal text) refl
   where
     go : (o : Option Refusal) → planRefusal text ≡ o → orElse o (tooFewEntries (planOf text) (min lent maxEntries)) ≡ orElse o (tooFewEntries (planOf text) lent)
-    go none e = lent-by (planOf text) lent (sizes-sum text (plan-within text e))
+    go none e = lent-by (planOf text) lent (accepted-sum text e)
     go (some x) e = refl
 
 module _ (text before entries entries′ : List ℕ) (r : Verdict) (d : Judged text entries r entries′) (l : length entries ≡ min (length before / 2) maxEntries) where

@@ -23,6 +23,10 @@ pub record JudgedBytes (text before : List ℕ) (r : ℕ) (after : List ℕ) : T
   pub judged : Judgement (verdictRefusal text (length before / 2)) (planOf text) verdict schedule
   pub buffer : after ≡ filled (listBytes 2 schedule) before
 
+-- on the way: a text of at most so many bytes has a short table
+abbrev pub shortBytes : ℕ
+shortBytes = 2048
+
 -- on the way: the verdict on the table of a plan that keeps the plan's rules, where rule 1 is asked of the buffer
 abbrev pub LentJudged : List ℕ → List ℕ → Verdict → List ℕ → Type 0
 LentJudged ws before = Judges (tooFewEntries (tablePlan ws) (length before)) (tablePlan ws) before

@@ -4,10 +4,10 @@ use crate::answer::{Answer, COPIED, DEADLOCK, FREE, PAIRS, REFUSED, SPACE};
 use crate::gateway::replay;
 use crate::guard::Pages;
 use crate::random::Random;
-use crate::reference::{listed, sized, Plan, Refusal, MAX_PAIRS, MAX_SUM};
+use crate::reference::{read, Plan, Refusal, MAX_PAIRS, MAX_SUM};
 use crate::tidy::{tidy, COPY_BYTES};
 use crate::twins::Twins;
-use crate::verdict::{conflict, pairs_of_threads};
+use crate::verdict::deadlocks;
 
 /// Text and output.
 pub type VerdictCall = fn(&[u8], &mut [u8]) -> u64;
@@ -81,6 +81,9 @@ pub enum Outcome {
 #[derive(Clone, Copy, Debug, Default)]
 pub struct Counts {
     pub pair_lists: u64,
+    /// Lent exactly as many whole words as must be, and one less.
+    pub least_words: u64,
+    pub one_word_less: u64,
     pub verdicts: u64,
     /// Of accepted plans, lent exactly the sum of their threads' sizes.
     pub at_the_sum: u64,
@@ -98,10 +101,15 @@ struct Said {
     text: Vec<u8>,
     plan: Result<Plan, Refusal>,
     outcome: Outcome,
-    /// The sum of the threads' sizes, or the refusal by a rule up to 9.
-    sum: Result<u64, Refusal>,
     /// The tidy copy, empty where the text is refused.
     copy: Vec<u8>,
+}
+
+impl Said {
+    /// The sum of the threads' sizes.
+    fn sum(&self) -> Result<u64, Refusal> {
+        self.plan.as_ref().map(Plan::size_of_threads).map_err(|refusal| *refusal)
+    }
 }
 
 /// The memory lent to the calls.
@@ -127,15 +135,27 @@ impl Bench {
 
     /// Compares the calls on a text; the lent lengths and places come from `random`.
     pub fn check(&mut self, calls: Calls, text: &[u8], random: &mut Random) -> Result<Outcome, String> {
+        self.check_known(calls, text, None, random)
+    }
+
+    /// The same where it is known whether an accepted text deadlocks: the reference does
+    /// not search for it.
+    pub fn check_known(
+        &mut self,
+        calls: Calls,
+        text: &[u8],
+        known: Option<bool>,
+        random: &mut Random,
+    ) -> Result<Outcome, String> {
         let said = match self.last.take() {
             Some(last) if last.text == text => last,
-            _ => say(text),
+            _ => say(text, known),
         };
         for proc in requested(&said.plan, random) {
             let lent = self.lend(text, PAIR_LIST.about(random), random);
             self.pairs(calls.pairs, &said.plan, proc, lent)?;
         }
-        for bytes in lent_to_verdicts(said.sum, random) {
+        for bytes in lent_to_verdicts(said.sum(), random) {
             let lent = self.lend(text, bytes, random);
             self.verdict(calls.verdict, &said, lent)?;
         }
@@ -210,6 +230,8 @@ impl Bench {
         lent: Lent,
     ) -> Result<(), String> {
         self.counts.pair_lists += 1;
+        self.counts.least_words += u64::from(lent.len / 8 == MAX_PAIRS);
+        self.counts.one_word_less += u64::from(lent.len / 8 == MAX_PAIRS - 1);
         let number = self.call(&lent, |text, out| call(text, proc, out));
         let mut expected = std::mem::take(&mut self.before);
         let refusal = Bench::refusal(plan, &lent, PAIR_LIST);
@@ -276,7 +298,7 @@ impl Bench {
         self.counts.spaces += 1;
         let number = self.call(&lent, |text, _| call(text));
         let expected = std::mem::take(&mut self.before);
-        let answer = said.sum.map_or_else(Answer::refused, |sum| Answer { kind: SPACE, a: 0, b: sum });
+        let answer = said.sum().map_or_else(Answer::refused, |sum| Answer { kind: SPACE, a: 0, b: sum });
         self.left("space", same_answer(number, answer), expected, &lent)
     }
 
@@ -331,21 +353,19 @@ impl Bench {
 
 /// The outcome by the reference.
 pub fn outcome(text: &[u8]) -> Outcome {
-    say(text).outcome
+    say(text, None).outcome
 }
 
-/// What the reference says of a text.
-fn say(text: &[u8]) -> Said {
-    let sized = sized(text);
-    let sum = sized.as_ref().map(Plan::size_of_threads).map_err(|refusal| *refusal);
-    let plan = sized.and_then(listed);
+/// What the reference says of a text, by what is known of its verdict.
+fn say(text: &[u8], known: Option<bool>) -> Said {
+    let plan = read(text);
     let outcome = match &plan {
         Err(refusal) => Outcome::Refused(refusal.rule),
-        Ok(plan) if conflict(&pairs_of_threads(plan)).is_some() => Outcome::Deadlock,
+        Ok(plan) if known.unwrap_or_else(|| deadlocks(plan)) => Outcome::Deadlock,
         Ok(_) => Outcome::Free,
     };
     let copy = plan.as_ref().map(tidy).unwrap_or_default();
-    Said { text: text.to_vec(), plan, outcome, sum, copy }
+    Said { text: text.to_vec(), plan, outcome, copy }
 }
 
 fn same_answer(number: u64, expected: Answer) -> Result<(), String> {

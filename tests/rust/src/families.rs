@@ -4,9 +4,10 @@ use std::collections::{BTreeMap, BTreeSet};
 use std::ops::Range;
 use std::path::Path;
 
+use crate::full;
 use crate::generate::statements;
 use crate::random::Random;
-use crate::reference::{MAX_PAIRS, MAX_PROCS, MAX_STATEMENTS};
+use crate::reference::{MAX_PROCS, MAX_STATEMENTS};
 
 /// A statement to be printed; the numbers may break the rules.
 #[derive(Clone, Debug, PartialEq, Eq)]
@@ -229,37 +230,56 @@ impl Ring<'_> {
         usize::from(self.guard_lowest) + thread % self.threads * self.group + k
     }
 
+    /// The locks of a thread's group.
+    pub fn locks(&self, thread: usize) -> Range<usize> {
+        self.lock(thread, 0)..self.lock(thread, self.group)
+    }
+
+    /// The lowest of the extra locks.
+    pub fn first_extra(&self) -> usize {
+        self.lock(0, self.threads * self.group)
+    }
+
+    pub fn guard(&self) -> usize {
+        let guard = if self.guard_lowest { 0 } else { self.first_extra() + self.extra };
+        assert!(guard < 32);
+        guard
+    }
+
     /// Each lock of a thread's group around each lock of the next group.
-    fn inner(&self, thread: usize) -> Vec<Tree> {
+    pub fn inner(&self, thread: usize) -> Vec<Tree> {
         let wants = || (0..self.group).map(|w| hold(self.lock(thread + 1, w), vec![])).collect();
         (0..self.group).map(|k| hold(self.lock(thread, k), wants())).collect()
     }
 
     /// Each extra lock around a call of that, and the guard around all.
     fn outer(&self, thread: usize) -> Vec<Tree> {
-        let first = self.lock(0, self.threads * self.group);
+        let first = self.first_extra();
         let body = match self.extra {
             0 => vec![Call(thread)],
             extra => (0..extra).map(|e| hold(first + e, vec![Call(thread)])).collect(),
         };
-        let guard = if self.guard_lowest { 0 } else { first + self.extra };
         if self.guarded.contains(&thread) {
-            assert!(guard < 32);
-            return vec![hold(guard, body)];
+            return vec![hold(self.guard(), body)];
         }
         body
     }
 }
 
-/// Chains of locks, each taken one inside the other, as a block: chains with a
-/// common beginning share its holds.
-fn nested(chains: &BTreeSet<Vec<usize>>) -> Vec<Tree> {
+/// Chains of locks, each taken one inside the other around a statement, as a block:
+/// chains with a common beginning share its holds.
+pub fn nested_around(chains: &BTreeSet<Vec<usize>>, inner: &Tree) -> Vec<Tree> {
     let firsts: BTreeSet<usize> = chains.iter().filter_map(|chain| chain.first().copied()).collect();
     let rests = |first: usize| chains.iter().filter_map(move |chain| chain.strip_prefix(&[first]));
-    firsts
-        .into_iter()
-        .map(|first| hold(first, nested(&rests(first).map(<[usize]>::to_vec).collect())))
-        .collect()
+    let rests = |first: usize| rests(first).map(<[usize]>::to_vec).collect();
+    let ends = chains.iter().any(Vec::is_empty) && (firsts.is_empty() || *inner != Skip);
+    let holds = firsts.into_iter().map(|first| Hold(first, nested_around(&rests(first), inner)));
+    ends.then(|| inner.clone()).into_iter().chain(holds).collect()
+}
+
+/// The same around skips.
+fn nested(chains: &BTreeSet<Vec<usize>>) -> Vec<Tree> {
+    nested_around(chains, &Skip)
 }
 
 /// How many pairs a thread of these chains has.
@@ -269,13 +289,16 @@ fn pairs_of(chains: &BTreeSet<Vec<usize>>) -> usize {
     pairs.collect::<BTreeSet<_>>().len()
 }
 
+/// The pairs that a thread of a ring of lists has at most; `full` has larger ones.
+const PAIRS_OF_LISTS: usize = 128;
+
 /// A block of chains, as many as a sixth of a plan has room for.
 fn full_of(mut chain: impl FnMut() -> Vec<usize>) -> Vec<Tree> {
     let (mut chains, mut block) = (BTreeSet::new(), Vec::new());
     loop {
         chains.insert(chain());
         let next = nested(&chains);
-        if pairs_of(&chains) > MAX_PAIRS || statements(&next) > MAX_STATEMENTS / 6 {
+        if pairs_of(&chains) > PAIRS_OF_LISTS || statements(&next) > MAX_STATEMENTS / 6 {
             return block;
         }
         block = next;
@@ -283,7 +306,7 @@ fn full_of(mut chain: impl FnMut() -> Vec<usize>) -> Vec<Tree> {
 }
 
 /// So many of the locks of a range, ascending.
-fn some_of(range: Range<usize>, count: usize, random: &mut Random) -> Vec<usize> {
+pub fn some_of(range: Range<usize>, count: usize, random: &mut Random) -> Vec<usize> {
     let mut all: Vec<usize> = range.collect();
     random.shuffle(&mut all);
     all.truncate(count);
@@ -377,8 +400,14 @@ pub fn layered_calls() -> Draft {
     Draft { procs, threads: (MAX_PROCS - 6..MAX_PROCS).collect() }.permuted(&random.permutation(MAX_PROCS))
 }
 
-/// The families that are measured: name, plan, whether it deadlocks.
+/// The families that are measured: name, plan, whether it deadlocks. Those of `full` are
+/// the last.
 pub fn all() -> Vec<(String, Draft, bool)> {
+    small().into_iter().chain(full::all()).collect()
+}
+
+/// Those of up to 128 pairs in a procedure.
+pub fn small() -> Vec<(String, Draft, bool)> {
     let mut all = Vec::new();
     for count in 2..=6 {
         all.push((format!("philosophers-{count}"), philosophers(count), true));

@@ -1,9 +1,10 @@
 //! Plan texts by a seed: right ones, small and near every limit, and damaged ones.
 
 use crate::families::{self, hold, nest, skips, Draft, Tree};
+use crate::full;
 use crate::indent::{self, indent, over, padded};
 use crate::random::Random;
-use crate::reference::{read, MAX_BYTES, MAX_PROCS};
+use crate::reference::{read, MAX_BYTES, MAX_PROCS, MAX_SIZE, MOST_PAIRS};
 
 /// A generated text with the name of its kind.
 pub struct Case {
@@ -263,7 +264,7 @@ pub fn circles(random: &mut Random) -> Draft {
         0 => put_call(&mut draft.procs[proc], absent(count, random), random),
         1 => draft.threads[0] = absent(count, random),
         2 => draft.procs.extend([skips(random.between(342, 400)), vec![Tree::Call(count); 3]]),
-        3 => draft.procs[proc].extend(couples(random.between(97, 120), random)),
+        3 => draft.procs[proc].extend(full::around(32)),
         _ => {}
     }
     any_order(draft, random)
@@ -503,36 +504,86 @@ fn reentrant_tower(levels: usize, random: &mut Random) -> Draft {
     Draft { threads: vec![levels, random.between(0, levels), levels], procs }
 }
 
-/// Pairs of a procedure near their limit, from nested chains and calls.
-fn pairs_near_limit(random: &mut Random) -> Draft {
-    // Sometimes a number that is small again in 8 bits.
-    let target = if random.chance(90) { random.between(120, 134) } else { random.between(256, 280) };
-    let mut known = std::collections::HashSet::new();
-    let mut block = Vec::new();
+/// Chains of at most so many locks, taken upwards or in any order, with an exact number
+/// of pairs in a size as allowed. A first lock comes again only behind all others.
+pub fn exact_pairs(
+    target: usize,
+    most: usize,
+    upwards: bool,
+    random: &mut Random,
+) -> Option<Vec<Vec<usize>>> {
+    let (mut known, mut chains) = (std::collections::HashSet::new(), Vec::new());
+    let (mut firsts, mut room) = (random.permutation(32), MAX_SIZE as usize);
     while known.len() < target {
-        let count = random.between(1, 6);
-        let mut chain: Vec<usize> = (0..32).collect();
-        random.shuffle(&mut chain);
-        chain.truncate(count);
-        let before = known.clone();
-        for at in 0..count {
-            let mut held = chain[..at].to_vec();
-            held.sort_unstable();
-            known.insert((held, chain[at]));
+        let left = target - known.len();
+        // So many holds and a skip for each chain.
+        let shortest = left.div_ceil(room.checked_sub(2 * left).filter(|skips| *skips > 0)?);
+        if shortest > most {
+            return None;
         }
-        if known.len() > target {
-            known = before;
-            continue;
+        let length = random.between(shortest, most).min(left);
+        let mut chain = random.permutation(32);
+        if let Some(first) = firsts.pop() {
+            chain.retain(|lock| *lock != first);
+            chain.insert(0, first);
         }
-        block.push(nest(&chain, vec![]));
+        chain.truncate(length);
+        if upwards {
+            chain.sort_unstable();
+        }
+        let held = |at: usize| chain[..at].iter().fold(0_u32, |held, lock| held | 1 << lock);
+        known.extend((0..length).map(|at| (held(at), chain[at])));
+        room = room.checked_sub(2 * length + 1)?;
+        chains.push(chain);
     }
-    // A part of it in a procedure of its own.
-    let cut = random.between(1, block.len() - 1);
-    let first = block.drain(..cut).collect();
-    block.insert(random.below(block.len() + 1), Tree::Call(0));
-    let mut draft = Draft::each(vec![first, block]);
-    draft.threads.extend([1, 1]);
-    draft
+    Some(chains)
+}
+
+/// How many pairs a procedure is to have: more than 128 mostly, as many as there can be,
+/// or about a number that is small again in 8 bits.
+fn pairs_wanted(random: &mut Random) -> usize {
+    match random.below(10) {
+        0 | 1 => MOST_PAIRS,
+        2 => random.between(MOST_PAIRS - 8, MOST_PAIRS),
+        3 => random.between(250, 262),
+        4 => random.between(120, 134),
+        _ => random.between(129, MOST_PAIRS),
+    }
+}
+
+/// Many pairs in a procedure, by itself or through a call, inside a guard or not, in
+/// some threads beside others.
+pub fn many_pairs(random: &mut Random) -> Draft {
+    let (target, upwards, guard) = (pairs_wanted(random), random.chance(40), random.chance(25));
+    let most = if guard { 15 } else { 16 };
+    // Where the chains do not come to the number, as many of those around.
+    let chains = (0..8).find_map(|_| exact_pairs(target, most, upwards, random)).unwrap_or_else(|| {
+        let chain = |first: usize| (first..first + most.min(target - most * first)).map(|lock| lock % 32);
+        (0..target.div_ceil(most)).map(|first| chain(first).collect()).collect()
+    });
+    let mut block: Vec<Tree> = chains.iter().map(|chain| nest(chain, vec![])).collect();
+    let mut procs = Vec::new();
+    if random.chance(50) {
+        // A part of it in a procedure of its own.
+        let cut = random.between(1, block.len() - 1);
+        procs.push(block.drain(..cut).collect());
+        block.insert(random.below(block.len() + 1), Tree::Call(0));
+    }
+    procs.push(if guard { vec![hold(31, block)] } else { block });
+    let large = procs.len() - 1;
+    if random.chance(50) {
+        let chain: Vec<usize> = random.permutation(32).into_iter().take(random.between(1, 4)).collect();
+        procs.push(vec![nest(&chain, vec![])]);
+    }
+    let count = procs.len();
+    let others = (0..random.below(3)).map(|_| random.below(count)).collect::<Vec<_>>();
+    any_order(Draft { procs, threads: [vec![large], others].concat() }, random)
+}
+
+/// As many pairs as a procedure can have, and one chain or skip more or less.
+fn most_pairs(random: &mut Random) -> Draft {
+    let block = [full::around(random.between(30, 32)), skips(random.below(3))].concat();
+    Draft { procs: vec![block], threads: vec![0; random.between(1, 2)] }
 }
 
 /// A right structure of an exact number of bytes.
@@ -580,10 +631,7 @@ fn faulty(random: &mut Random) -> Draft {
             }
             5 => draft.procs[proc].extend(skips(1_030)),
             6 => draft.procs.resize(random.between(64, 66), skips(1)),
-            7 => {
-                let count = random.between(96, 99);
-                draft.procs[proc].extend(couples(count, random));
-            }
+            7 => draft.procs[proc].extend(full::around(random.between(31, 32))),
             _ => {
                 let base = draft.procs.len();
                 draft.procs.push(skips(random.between(400, 520)));
@@ -595,7 +643,7 @@ fn faulty(random: &mut Random) -> Draft {
 }
 
 /// Plans by the space that they need: one thread, threads of one procedure, nearly the
-/// largest sum, and too many pairs beside a sum.
+/// largest sum, and many pairs beside a sum.
 pub fn spaces(random: &mut Random) -> Draft {
     let mut draft = plan(random, &SMALL);
     let proc = random.below(draft.procs.len());
@@ -631,7 +679,7 @@ fn limit(random: &mut Random) -> Case {
             let target = if random.chance(85) { near(random, 1_024) } else { 65_536 + random.below(1_030) };
             ("size 1,024", sized(target as u64, random))
         }
-        5 => ("128 pairs", pairs_near_limit(random)),
+        5 => ("496 pairs", most_pairs(random)),
         6 => {
             let count = near(random, 96);
             let mut draft = Draft::each(vec![couples(count, random)]);
@@ -1047,7 +1095,7 @@ fn noise(random: &mut Random) -> Vec<u8> {
 }
 
 /// The rules from 3 on that a plan can break.
-const RULES: [u8; 9] = [3, 4, 5, 6, 7, 8, 12, 9, 10];
+const RULES: [u8; 8] = [3, 4, 5, 6, 7, 8, 12, 9];
 
 /// A bare text that breaks one of these rules, most of them none before it.
 pub fn breaking(rule: u8, random: &mut Random) -> Vec<u8> {
@@ -1080,10 +1128,13 @@ pub fn breaking(rule: u8, random: &mut Random) -> Vec<u8> {
             put_call(&mut draft.procs[proc], callee, random);
         }
         8 => draft.threads.push(random.between(draft.procs.len(), 999)),
-        9 if random.chance(50) => draft = any_order(doubling(random.between(9, 20)), random),
-        9 => draft = any_order(sized(1_025, random), random),
-        12 => put_circle(&mut draft, circle_length(random), true, random),
-        _ => draft.procs[proc].extend(couples(random.between(97, 120), random)),
+        9 => match random.below(5) {
+            0 => draft.procs[proc].extend(full::around(32)),
+            1 => draft.procs[proc].extend(couples(random.between(205, 240), random)),
+            2 => draft = any_order(sized(1_025, random), random),
+            _ => draft = any_order(doubling(random.between(9, 20)), random),
+        },
+        _ => put_circle(&mut draft, circle_length(random), true, random),
     }
     draft.threads.truncate(if rule == 5 { 9 } else { 6 });
     draft.text()
@@ -1140,7 +1191,7 @@ pub fn generate(random: &mut Random) -> Case {
 /// One text that is not indented, or only by a damage.
 fn plain(random: &mut Random) -> Case {
     let case = |kind, draft: Draft| Case { kind, text: draft.text() };
-    match random.weighted(&[12, 12, 8, 8, 10, 8, 8, 5, 13, 5, 2, 8, 8, 7, 5]) {
+    match random.weighted(&[12, 12, 8, 8, 10, 8, 8, 5, 13, 5, 2, 8, 8, 7, 5, 4]) {
         0 => case("tiny", plan(random, &TINY)),
         1 => case("small", plan(random, &SMALL)),
         2 => case("nested", plan(random, &NESTED)),
@@ -1168,6 +1219,7 @@ fn plain(random: &mut Random) -> Case {
         11 => case("crossings", crossings(random)),
         12 => case("calls", plan(random, &CALLING)),
         13 => case("circles", circles(random)),
-        _ => case("spaces", spaces(random)),
+        14 => case("spaces", spaces(random)),
+        _ => case("many pairs in one", many_pairs(random)),
     }
 }

@@ -2,8 +2,10 @@
 //! the comparison of both with the library.
 
 pub mod answer;
+pub mod climb;
 pub mod compare;
 pub mod families;
+pub mod full;
 pub mod gateway;
 pub mod generate;
 pub mod guard;
@@ -21,5 +23,6 @@ pub mod shelf;
 pub mod slip;
 pub mod standin;
 pub mod tidy;
+pub mod times;
 pub mod twins;
 pub mod verdict;

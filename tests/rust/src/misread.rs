@@ -185,13 +185,32 @@ pub fn size_before_recursion(text: &[u8]) -> Reading {
     })
 }
 
-/// Rule 10 before rule 12.
-pub fn pairs_before_recursion(text: &[u8]) -> Reading {
-    instead(text, 12, |whole| {
+/// A rule about pairs, number 10, as there was once: no more than 128 in a procedure.
+pub fn more_than_128_pairs_refused(text: &[u8]) -> Reading {
+    let plan = read(text)?;
+    match plan.pairs.iter().position(|pairs| pairs.len() > 128) {
+        Some(proc) => refused(10, &plan, proc),
+        None => Ok(plan),
+    }
+}
+
+/// The same for more pairs than a buffer has words, before another rule.
+fn pairs_before(rule: u8, text: &[u8]) -> Reading {
+    instead(text, rule, |whole| {
         let rest = plan(&without_recursion(text, &whole)).ok()?;
         let proc = compositional(&rest).iter().position(|pairs| pairs.len() > MAX_PAIRS)?;
         Some(refused(10, &whole, proc))
     })
+}
+
+/// Before rule 9.
+pub fn pairs_before_sizes(text: &[u8]) -> Reading {
+    pairs_before(9, text)
+}
+
+/// Before rule 12.
+pub fn pairs_before_recursion(text: &[u8]) -> Reading {
+    pairs_before(12, text)
 }
 
 /// Sizes in text order: a callee that stands later has none yet.

@@ -1,4 +1,4 @@
-//! Reading a plan text: rules 2 to 10 and 12, the tree, the calls, the sizes.
+//! Reading a plan text: rules 2 to 9 and 12, the tree, the calls, the sizes.
 
 use std::collections::BTreeSet;
 
@@ -11,7 +11,12 @@ pub const MAX_THREADS: usize = 6;
 pub const MAX_BRACKETS: usize = 16;
 pub const MAX_LOCK: u32 = 31;
 pub const MAX_SIZE: u64 = 1_024;
-pub const MAX_PAIRS: usize = 128;
+/// The words of a pair buffer. A plan that keeps rule 9 has no more pairs in a procedure:
+/// each has a hold of its own, of size 2, and something is inside.
+pub const MAX_PAIRS: usize = (MAX_SIZE as usize - 1) / 2;
+/// The most pairs that a procedure can have: a hold for each, and for each sixteen of
+/// them a statement inside.
+pub const MOST_PAIRS: usize = MAX_SIZE as usize / (2 * MAX_BRACKETS + 1) * MAX_BRACKETS;
 /// The largest sum of threads' sizes: so many entries are enough for every schedule.
 pub const MAX_SUM: usize = MAX_THREADS * MAX_SIZE as usize;
 
@@ -187,9 +192,11 @@ impl Plan {
     }
 }
 
-/// Rules 2 to 8, then 12, 9 and 10.
+/// Rules 2 to 8, then 12 and 9: the plan with its sizes and pairs.
 pub fn read(text: &[u8]) -> Result<Plan, Refusal> {
-    sized(text).and_then(listed)
+    let mut plan = sized(text)?;
+    plan.pairs = pairs::compositional(&plan);
+    Ok(plan)
 }
 
 /// Rules 2 to 8, then 12 and 9: the sizes. Pairs are left empty.
@@ -201,15 +208,6 @@ pub fn sized(text: &[u8]) -> Result<Plan, Refusal> {
     plan.sizes = sizes(&plan);
     if let Some(proc) = plan.sizes.iter().position(|size| *size > MAX_SIZE) {
         return refuse(9, plan.procs[proc].line);
-    }
-    Ok(plan)
-}
-
-/// Rule 10: the pairs of a plan that keeps the rules before.
-pub fn listed(mut plan: Plan) -> Result<Plan, Refusal> {
-    plan.pairs = pairs::compositional(&plan);
-    if let Some(proc) = plan.pairs.iter().position(|pairs| pairs.len() > MAX_PAIRS) {
-        return refuse(10, plan.procs[proc].line);
     }
     Ok(plan)
 }

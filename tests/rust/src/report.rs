@@ -4,7 +4,7 @@ use std::fmt::Write;
 
 use crate::gateway::{entry, replay};
 use crate::reference::{read, Plan, Refusal};
-use crate::verdict::{conflict, judge, pairs_of_threads, Verdict};
+use crate::verdict::{deadlocks, judge, Verdict};
 
 /// The report of a text, with a schedule of the reference's own.
 pub fn report(text: &[u8]) -> Vec<u8> {
@@ -54,11 +54,16 @@ pub fn accepted(plan: &Plan, verdict: &Verdict) -> Vec<u8> {
 /// Whether a program's report of a text is right. A deadlock may have any
 /// schedule that is a run, short enough, with its largest stuck set.
 pub fn check(text: &[u8], printed: &[u8]) -> Result<(), String> {
+    check_known(text, printed, None)
+}
+
+/// The same where it is known whether an accepted text deadlocks.
+pub fn check_known(text: &[u8], printed: &[u8], known: Option<bool>) -> Result<(), String> {
     let plan = match read(text) {
         Ok(plan) => plan,
         Err(refusal) => return same(printed, &refused(refusal)),
     };
-    if conflict(&pairs_of_threads(&plan)).is_none() {
+    if !known.unwrap_or_else(|| deadlocks(&plan)) {
         return same(printed, &accepted(&plan, &Verdict::Free));
     }
     let mut schedule = Vec::new();

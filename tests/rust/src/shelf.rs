@@ -1,6 +1,7 @@
 //! The plans of the reference shelf and other fixed texts, with what they give.
 
 use crate::families::{hold, nest, skips, Draft, Tree};
+use crate::full::around;
 use crate::generate::doubling;
 use crate::indent::{indent, Padding};
 use crate::random::Random;
@@ -23,7 +24,7 @@ pub struct Entry {
     pub words: Vec<Vec<u64>>,
     /// A right schedule, where one is stated.
     pub schedule: Option<Vec<u16>>,
-    /// Sizes by thread, where they are stated; a plan that breaks rule 10 alone has some.
+    /// Sizes by thread, where they are stated.
     pub sizes: Vec<u64>,
 }
 
@@ -43,7 +44,8 @@ impl Entry {
 
 /// All fixed texts.
 pub fn all() -> Vec<Entry> {
-    shelf().into_iter().chain(others()).chain(calls()).chain(remarked()).chain(spaces()).collect()
+    let parts = [shelf(), others(), calls(), remarked(), spaces(), many_pairs()];
+    parts.into_iter().flatten().collect()
 }
 
 /// All fixed texts indented, each at several seeds.
@@ -131,7 +133,7 @@ pub fn shelf() -> Vec<Entry> {
     all.push(entry("1,022 skips", ended(1_022), Refused(9, 2)));
     all.push(entry("1,023 skips", ended(1_023), Refused(5, 1_027)));
     all.push(entry("96 couples", Draft::each(vec![couples(96)]), Free));
-    all.push(entry("97 couples", Draft::each(vec![couples(97)]), Refused(10, 2)));
+    all.push(entry("97 couples", Draft::each(vec![couples(97)]), Free));
     all.push(entry("lock 31", Draft::each(vec![chain(&[31])]), Free));
     all.push(entry("lock 32", Draft::each(vec![chain(&[32])]), Refused(6, 3)));
     let threads = |count| Draft { procs: vec![skips(1)], threads: vec![0; count] };
@@ -201,7 +203,7 @@ pub fn others() -> Vec<Entry> {
             Draft::each(vec![couples(97), vec![Tree::Call(0), Tree::Call(0), Tree::Call(0)]]),
             Refused(9, 2 + 97 * 5 + 2),
         ),
-        entry("the lowest of two", Draft::each(vec![skips(1), couples(97), couples(97)]), Refused(10, 5)),
+        entry("129 pairs in two", Draft::each(vec![skips(1), couples(97), couples(97)]), Free),
         entry("a thread twice", Draft { procs: vec![chain(&[0, 1])], threads: vec![0, 0] }, Free),
         entry(
             "a thread that waits at its first hold",
@@ -354,7 +356,7 @@ fn later_calls() -> Vec<Entry> {
     ]
 }
 
-/// Rules 5, 9 and 10 where callees stand behind their callers.
+/// Rules 5 and 9 where callees stand behind their callers, and pairs of those.
 fn limits_by_later_calls() -> Vec<Entry> {
     use Gives::{Free, Refused};
     // Procedures 8, 11, 9, 10, and then 0 to 7.
@@ -373,13 +375,16 @@ fn limits_by_later_calls() -> Vec<Entry> {
         entry("size 1,025 by a later call", sized(2), Refused(9, 2)),
         // The skip of the last procedure is a statement too many.
         entry("1,024 calls, all different", calls_all_different(1_024), Refused(5, 1 + 1_024 + 2 * 63 + 2)),
-        entry("size by later calls before pairs", calling(&[&[1, 1, 1]], &[couples(97)]), Refused(9, 2)),
-        entry("128 pairs by a later call", calling(&[&[1]], &[couples(96)]), Free),
+        entry("size by later calls of many pairs", calling(&[&[1, 1, 1]], &[couples(97)]), Refused(9, 2)),
+        entry("512 pairs by a later call", calling(&[&[1]], &[around(32)]), Refused(9, 2)),
         entry(
-            "129 pairs by a later call",
-            first(vec![vec![Tree::Call(1), couple], couples(96)]),
-            Refused(10, 2),
+            "512 pairs behind another that is too large",
+            calling(&[&[1, 1, 1]], &[skips(342), around(32)]),
+            Refused(9, 2),
         ),
+        entry("128 pairs by a later call", calling(&[&[1]], &[couples(96)]), Free),
+        entry("129 pairs by a later call", first(vec![vec![Tree::Call(1), couple], couples(96)]), Free),
+        entry("496 pairs by a later call", calling(&[&[1]], &[around(31)]), Free),
     ]
 }
 
@@ -453,7 +458,7 @@ fn circles_and_others() -> Vec<Entry> {
     ]
 }
 
-/// Rule 12 behind rules 5 to 8 and before 9 and 10.
+/// Rule 12 behind rules 5 to 8 and before 9, whatever the pairs are.
 fn rules_beside_recursion() -> Vec<Entry> {
     use Gives::Refused;
     let itself = |threads: &[usize]| Draft { threads: threads.to_vec(), ..circle(0, 1) };
@@ -476,7 +481,12 @@ fn rules_beside_recursion() -> Vec<Entry> {
             first(vec![skips(600), vec![Tree::Call(0), Tree::Call(0), Tree::Call(1)]]),
             Refused(12, 604),
         ),
-        entry("recursion before pairs", first(vec![couples(97), vec![Tree::Call(1)]]), Refused(12, 489)),
+        entry("recursion beside 129 pairs", first(vec![couples(97), vec![Tree::Call(1)]]), Refused(12, 489)),
+        entry(
+            "recursion before size of many pairs",
+            first(vec![around(32), vec![Tree::Call(1)]]),
+            Refused(12, 2 + 32 * 33 + 2),
+        ),
     ]
 }
 
@@ -605,7 +615,7 @@ fn named_in_the_file() -> Vec<Entry> {
     push("rule 5 in the file", threads, 5, 11);
     push("rule 12 in the file", circle(1, 2), 12, 5);
     push("rule 9 in the file", doubling(9), 9, 37);
-    push("rule 10 in the file", Draft::each(vec![skips(1), couples(97)]), 10, 5);
+    push("rule 9 in the file, many pairs", Draft::each(vec![skips(1), around(32)]), 9, 5);
     all
 }
 
@@ -670,23 +680,62 @@ pub fn spaces() -> Vec<Entry> {
         space("6 threads of size 1,023", threads(6, 1_020), &[1_023; 6], Free),
         space("6 threads of size 1,024", threads(6, 1_021), &[1_024; 6], Free),
         entry("6 threads of size 1,025", threads(6, 1_022), Refused(9, 2)),
-        space("129 pairs, one thread", first(vec![couples(97)]), &[485], Refused(10, 2)),
+        space("129 pairs, one thread", first(vec![couples(97)]), &[485], Free),
         space(
             "129 pairs, two threads",
             Draft { procs: vec![couples(97)], threads: vec![0, 0] },
             &[485, 485],
-            Refused(10, 2),
+            Free,
         ),
         space(
             "129 pairs behind others",
             Draft { procs: vec![skips(1), couples(97)], threads: vec![1, 0, 0] },
             &[485, 1, 1],
-            Refused(10, 5),
+            Free,
         ),
+        space("496 pairs, one thread", first(vec![around(31)]), &[1_023], Free),
         entry(
             "129 pairs, and a size of 1,025",
             Draft::each(vec![couples(97), [vec![Tree::Call(0)], skips(539)].concat()]),
             Refused(9, 2 + 97 * 5 + 2),
         ),
+    ]
+}
+
+/// So many couples a[b] with a below b, the last ones first: the pair that holds 30 and
+/// wants 31 is the last of the list.
+fn ascending_couples(count: usize) -> Vec<Tree> {
+    let couples = (0..31).rev().flat_map(|a| (a + 1..32).map(move |b| nest(&[a, b], vec![])));
+    couples.take(count).collect()
+}
+
+/// Fixed texts of many pairs in a procedure.
+pub fn many_pairs() -> Vec<Entry> {
+    use Gives::{Deadlock, Free, Refused};
+    let descending = vec![nest(&[31, 30], vec![])];
+    let skip_more = |chains: usize, more: usize| first(vec![[around(chains), skips(more)].concat()]);
+    let pairs = |chains: usize| {
+        let words = |chain: usize| {
+            let lock = move |at: usize| ((chain + at) % 32) as u64;
+            (0..16).map(move |at| (0..at).map(|k| 1_u64 << lock(k)).sum::<u64>() * 32 + lock(at))
+        };
+        let mut all: Vec<u64> = (0..chains).flat_map(words).collect();
+        all.sort_unstable();
+        all
+    };
+    vec![
+        // The couple that closes the circle is behind more than 128 others.
+        entry("the last of 200 pairs", Draft::each(vec![ascending_couples(181), descending]), Deadlock(3)),
+        entry(
+            "200 pairs, ascending",
+            Draft { procs: vec![ascending_couples(181)], threads: vec![0; 3] },
+            Free,
+        ),
+        Entry { words: vec![pairs(31)], ..entry("496 pairs", skip_more(31, 0), Free) },
+        entry("496 pairs, size 1,024", skip_more(31, 1), Free),
+        entry("496 pairs, size 1,025", skip_more(31, 2), Refused(9, 2)),
+        entry("512 pairs", skip_more(32, 0), Refused(9, 2)),
+        // A circle of 32 locks needs three threads: none holds more than 15 of a chain.
+        entry("496 pairs in two threads", Draft { procs: vec![around(31)], threads: vec![0, 0] }, Free),
     ]
 }

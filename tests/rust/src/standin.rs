@@ -18,7 +18,7 @@ macro_rules! calls_over {
             verdict: |text, out| verdict_of($reading(text), out),
             pairs: |text, proc, out| pairs_of($reading(text), proc, out),
             tidy: |text, out| copy_of($reading(text), out),
-            space: |text| space_of(before_pairs(text, $reading(text)), Plan::size_of_threads),
+            space: |text| space_of($reading(text), Plan::size_of_threads),
         }
     };
 }
@@ -51,15 +51,6 @@ pub fn tidy(text: &[u8], out: &mut [u8]) -> u64 {
 
 pub fn space(text: &[u8]) -> u64 {
     space_of(sized(text), Plan::size_of_threads)
-}
-
-/// What is said of a text that a reading refuses by rule 10, which is none of the space
-/// call's.
-fn before_pairs(text: &[u8], said: Result<Plan, Refusal>) -> Result<Plan, Refusal> {
-    match said {
-        Err(Refusal { rule: 10, .. }) => sized(text),
-        said => said,
-    }
 }
 
 fn short() -> u64 {
@@ -194,7 +185,7 @@ fn without_remark(line: &[u8]) -> Vec<u8> {
 fn forms_for_lines(text: &[u8], number: u64) -> u64 {
     let answer = Answer::new(number);
     match lines(text) {
-        Ok(lines) if refused(number) && matches!(answer.a, 4..=10 | 12) => {
+        Ok(lines) if refused(number) && matches!(answer.a, 4..=9 | 12) => {
             let before = lines.forms.iter().filter(|line| (line.number as u64) < answer.b).count();
             Answer { b: before as u64 + 1, ..answer }.number()
         }
@@ -230,7 +221,7 @@ fn found(number: u64) -> bool {
 }
 
 /// A pair list with a fault each.
-pub const FAULTY_PAIRS: [(&str, PairsCall); 18] = [
+pub const FAULTY_PAIRS: [(&str, PairsCall); 24] = [
     ("one more than there are", |text, proc, out| {
         let number = pairs(text, proc, out);
         if refused(number) {
@@ -306,14 +297,14 @@ pub const FAULTY_PAIRS: [(&str, PairsCall); 18] = [
         if out.len() < MAX_PAIRS {
             return pairs(text, proc, out);
         }
-        let mut copy = vec![0; 1_024];
+        let mut copy = vec![0; 8 * MAX_PAIRS];
         let number = pairs(text, proc, &mut copy);
         let len = if refused(number) { 0 } else { ((number >> 16) as usize * 8).min(out.len()) };
         out[..len].copy_from_slice(&copy[..len]);
         number
     }),
     ("rule 1 behind the others", |text, proc, out| {
-        let number = pairs(text, proc, &mut [0; 1_024]);
+        let number = pairs(text, proc, &mut [0; 8 * MAX_PAIRS]);
         if refused(number) {
             number
         } else {
@@ -335,10 +326,44 @@ pub const FAULTY_PAIRS: [(&str, PairsCall); 18] = [
         Some(number) if out.len() / 8 >= MAX_PAIRS => number,
         _ => pairs(text, proc, out),
     }),
+    ("129 pairs refused", |text, proc, out| pairs_of(misread::more_than_128_pairs_refused(text), proc, out)),
+    ("128 words are enough", |text, proc, out| pairs_lent(text, proc, out, 128)),
+    ("510 words are enough", |text, proc, out| pairs_lent(text, proc, out, MAX_PAIRS - 1)),
+    ("512 words are needed", |text, proc, out| pairs_lent(text, proc, out, MAX_PAIRS + 1)),
+    ("a list cut at 128", |text, proc, out| {
+        let mut copy = out.to_vec();
+        let number = pairs(text, proc, &mut copy);
+        if refused(number) {
+            return number;
+        }
+        let count = (number >> 16).min(128);
+        out[..8 * count as usize].copy_from_slice(&copy[..8 * count as usize]);
+        Answer { kind: PAIRS, a: 0, b: count }.number()
+    }),
+    ("eight bits of the count", |text, proc, out| {
+        let number = pairs(text, proc, out);
+        if refused(number) {
+            number
+        } else {
+            number & 0xff_ffff
+        }
+    }),
 ];
 
+/// The pair list by another least buffer, in words.
+fn pairs_lent(text: &[u8], proc: u64, out: &mut [u8], words: usize) -> u64 {
+    if out.len() / 8 < words {
+        return short();
+    }
+    let mut longer = out.to_vec();
+    longer.resize(out.len().max(8 * MAX_PAIRS), 0);
+    let number = pairs(text, proc, &mut longer);
+    out.copy_from_slice(&longer[..out.len()]);
+    number
+}
+
 /// A verdict with a fault each.
-pub const FAULTY_VERDICTS: [(&str, VerdictCall); 25] = [
+pub const FAULTY_VERDICTS: [(&str, VerdictCall); 27] = [
     ("always free", |text, out| {
         let number = verdict(text, &mut out.to_vec());
         if found(number) {
@@ -450,9 +475,36 @@ pub const FAULTY_VERDICTS: [(&str, VerdictCall); 25] = [
             verdict(text, out)
         }
     }),
-    ("rule 1 before rule 10", |text, out| match sized(text) {
-        Ok(plan) if (out.len() as u64) / 2 < plan.size_of_threads() => short(),
-        _ => verdict(text, out),
+    ("rule 1 before rule 9", |text, out| {
+        let number = verdict(text, out);
+        match named(text) {
+            Ok(plan) if refused(number) && Answer::new(number).a == 9 => {
+                let sizes = sizes(&plan);
+                let sum = plan.threads.iter().fold(0_u64, |sum, proc| sum.saturating_add(sizes[*proc]));
+                if (out.len() as u64) / 2 < sum {
+                    short()
+                } else {
+                    number
+                }
+            }
+            _ => number,
+        }
+    }),
+    ("129 pairs refused", |text, out| verdict_of(misread::more_than_128_pairs_refused(text), out)),
+    ("pairs behind the 128th left out", |text, out| {
+        let number = verdict(text, &mut out.to_vec());
+        match read(text) {
+            Ok(plan) if found(number) => {
+                let mut pairs = pairs_of_threads(&plan);
+                pairs.iter_mut().for_each(|own| own.truncate(128));
+                if conflict(&pairs).is_none() {
+                    FREE
+                } else {
+                    verdict(text, out)
+                }
+            }
+            _ => number,
+        }
     }),
     ("no entry refused first", |text, out| if out.len() < 2 { short() } else { verdict(text, out) }),
     ("written as far as it fits, and then refused", |text, out| {
@@ -502,7 +554,7 @@ pub const FAULTY_VERDICTS: [(&str, VerdictCall); 25] = [
 ];
 
 /// A tidy copy with a fault each.
-pub const FAULTY_TIDIES: [(&str, TidyCall); 31] = [
+pub const FAULTY_TIDIES: [(&str, TidyCall); 32] = [
     ("one byte more than written", |text, out| {
         let number = tidy(text, out);
         if refused(number) {
@@ -639,11 +691,12 @@ pub const FAULTY_TIDIES: [(&str, TidyCall); 31] = [
         Some(number) if out.len() >= COPY_BYTES => number,
         _ => tidy(text, out),
     }),
+    ("129 pairs refused", |text, out| copy_of(misread::more_than_128_pairs_refused(text), out)),
 ];
 
 /// A space call with a fault each.
 pub const FAULTY_SPACES: [(&str, SpaceCall); 6] = [
-    ("129 pairs refused", |text| space_of(read(text), Plan::size_of_threads)),
+    ("129 pairs refused", |text| space_of(misread::more_than_128_pairs_refused(text), Plan::size_of_threads)),
     ("a size of 1,025 let through", |text| {
         let_through(text, |plan| plan.sizes.iter().all(|size| *size <= MAX_SIZE + 1))
     }),
@@ -689,7 +742,7 @@ pub const FAULTY_SUMS: [(&str, Calls); 7] = [
 ];
 
 /// The calls over readings with a fault each.
-pub const FAULTY_READINGS: [(&str, Calls); 16] = [
+pub const FAULTY_READINGS: [(&str, Calls); 18] = [
     ("calls of earlier ones alone", calls_over!(misread::calls_of_earlier_ones_alone)),
     ("absent from 64 on", calls_over!(misread::absent_from_64_on)),
     ("six bits of a callee", calls_over!(misread::six_bits_of_a_callee)),
@@ -703,7 +756,9 @@ pub const FAULTY_READINGS: [(&str, Calls); 16] = [
     ("rule 12 before rule 7", calls_over!(misread::recursion_before_calls)),
     ("rule 12 before rule 8", calls_over!(misread::recursion_before_threads)),
     ("rule 9 before rule 12", calls_over!(misread::size_before_recursion)),
-    ("rule 10 before rule 12", calls_over!(misread::pairs_before_recursion)),
+    ("more than 128 pairs refused", calls_over!(misread::more_than_128_pairs_refused)),
+    ("more than 511 pairs before rule 9", calls_over!(misread::pairs_before_sizes)),
+    ("more than 511 pairs before rule 12", calls_over!(misread::pairs_before_recursion)),
     ("sizes in text order", calls_over!(misread::sizes_in_text_order)),
     ("pairs in text order", calls_over!(misread::pairs_in_text_order)),
 ];

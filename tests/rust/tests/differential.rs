@@ -1,10 +1,11 @@
 //! The library against the reference on generated texts.
 //!
 //!   cargo test --features library --test differential -- [--texts N] [--seed S]
-//!                       [--stack BYTES] [--only NUMBER] [--file PLAN]
+//!                       [--stack BYTES] [--only NUMBER] [--file PLAN] [--without-large]
 //!
 //! LOCKPLAN_TEXTS and LOCKPLAN_SEED stand for the first two. A text that fails
-//! is made shorter and written to a file. Ends with 1 after a difference.
+//! is made shorter and written to a file. Ends with 1 after a difference. The last
+//! option leaves out the large families, on some of which the stand-in does not end.
 
 fn main() {
     let options = differential::options();
@@ -17,16 +18,18 @@ fn main() {
 mod differential {
     use std::collections::BTreeMap;
     use std::path::{Path, PathBuf};
+    use std::rc::Rc;
     use std::time::Instant;
 
     use lockplan_tests::compare::{outcome, shorten, Bench, Outcome};
+    use lockplan_tests::families::Draft;
     use lockplan_tests::generate::{beginnings, beginnings_indented, generate, Case};
     use lockplan_tests::library::CALLS;
     use lockplan_tests::random::Random;
-    use lockplan_tests::{families, guard, lengths, shelf};
+    use lockplan_tests::{families, full, guard, lengths, shelf};
 
     /// Buffers are lent to a fixed text this often.
-    const LENT: u64 = 4;
+    const LENT: usize = 4;
 
     /// Lines of the short texts that are all compared, and of those that are
     /// compared with something passed over at every place.
@@ -42,6 +45,7 @@ mod differential {
         pub stack: usize,
         only: Option<u64>,
         file: Option<PathBuf>,
+        large: bool,
     }
 
     pub fn options() -> Options {
@@ -52,6 +56,7 @@ mod differential {
             stack: 8 << 20,
             only: None,
             file: None,
+            large: true,
         };
         let mut arguments = std::env::args().skip(1);
         while let Some(name) = arguments.next() {
@@ -62,6 +67,7 @@ mod differential {
                 "--stack" => options.stack = number(&name, &value()) as usize,
                 "--only" => options.only = Some(number(&name, &value())),
                 "--file" => options.file = Some(value().into()),
+                "--without-large" => options.large = false,
                 // What cargo hands to every test program.
                 _ => {}
             }
@@ -73,35 +79,62 @@ mod differential {
         value.replace([',', '_'], "").parse().unwrap_or_else(|_| panic!("{name}: no number: {value}"))
     }
 
-    /// Fixed texts first, each several times, then generated ones.
-    fn case(fixed: &[Case], seed: u64, index: u64, random: &mut Random) -> Case {
-        *random = Random::of_text(seed, index);
-        match fixed.get((index / LENT) as usize) {
-            Some(case) => Case { kind: case.kind, text: case.text.clone() },
-            None => generate(random),
+    /// A text that is compared, and whether it deadlocks where this is known.
+    #[derive(Clone)]
+    struct Compared {
+        kind: &'static str,
+        text: Rc<Vec<u8>>,
+        known: Option<bool>,
+    }
+
+    impl Compared {
+        fn new(kind: &'static str, text: Vec<u8>) -> Compared {
+            Compared { kind, text: Rc::new(text), known: None }
         }
+    }
+
+    /// The text of a file, or the fixed ones; each several times, but for large plans.
+    fn fixed(file: &Option<PathBuf>, large: bool) -> Vec<Compared> {
+        let mut all = Vec::new();
+        let mut push = |one: Compared| all.extend(vec![one; LENT]);
+        if let Some(path) = file {
+            push(Compared::new("file", std::fs::read(path).expect("a readable file")));
+            return all;
+        }
+        let entries = shelf::all().into_iter().chain(shelf::all_indented());
+        entries.for_each(|entry| push(Compared::new("fixed", entry.text)));
+        let families = families::small().into_iter();
+        families.for_each(|(_, draft, _)| push(Compared::new("family", draft.text())));
+        lengths::all().into_iter().for_each(|long| push(Compared::new("long", long.text)));
+        let short = beginnings(SHORT).into_iter().chain(beginnings_indented(SHORT_INDENTED));
+        short.for_each(|text| push(Compared::new("short", text)));
+        let known = |(_, draft, deadlock): (String, Draft, bool)| Compared {
+            known: Some(deadlock),
+            ..Compared::new("large family", draft.text())
+        };
+        if large {
+            all.extend(full::all().into_iter().map(known));
+        }
+        all
+    }
+
+    /// Fixed texts first, then generated ones.
+    fn compared(fixed: &[Compared], seed: u64, index: u64, random: &mut Random) -> Compared {
+        *random = Random::of_text(seed, index);
+        fixed.get(index as usize).cloned().unwrap_or_else(|| {
+            let Case { kind, text } = generate(random);
+            Compared::new(kind, text)
+        })
     }
 
     /// The number of differences.
     pub fn run(options: &Options) -> usize {
         let start = Instant::now();
-        let mut fixed: Vec<Case> = Vec::new();
-        if let Some(path) = &options.file {
-            let text = std::fs::read(path).expect("a readable file");
-            fixed.push(Case { kind: "file", text });
-        } else {
-            let entries = shelf::all().into_iter().chain(shelf::all_indented());
-            fixed.extend(entries.map(|entry| Case { kind: "fixed", text: entry.text }));
-            let all = families::all();
-            fixed.extend(all.iter().map(|(_, draft, _)| Case { kind: "family", text: draft.text() }));
-            fixed.extend(lengths::all().into_iter().map(|long| Case { kind: "long", text: long.text }));
-            let short = beginnings(SHORT).into_iter().chain(beginnings_indented(SHORT_INDENTED));
-            fixed.extend(short.map(|text| Case { kind: "short", text }));
-        }
+        let fixed = fixed(&options.file, options.large);
         let numbers = match (&options.file, options.only) {
             (_, Some(only)) => only..only + 1,
-            (Some(_), None) => 0..LENT,
-            (None, None) => 0..LENT * fixed.len() as u64 + options.texts,
+            (Some(_), None) => 0..fixed.len() as u64,
+            (None, None) => 0..fixed.len() as u64 + options.texts,
         };
         guard::report_faults();
         let mut bench = Bench::new(true);
@@ -110,14 +143,14 @@ mod differential {
         let (mut texts, mut bytes, mut differences) = (0_u64, 0_usize, 0);
         let (mut generated, mut accepted) = (0_u64, 0_u64);
         for index in numbers {
-            let case = case(&fixed, options.seed, index, &mut random);
+            let case = compared(&fixed, options.seed, index, &mut random);
             guard::now(options.seed, index);
             texts += 1;
             bytes += case.text.len();
             *kinds.entry(case.kind).or_insert(0_u64) += 1;
-            let by_seed = index / LENT >= fixed.len() as u64;
+            let by_seed = index >= fixed.len() as u64;
             generated += u64::from(by_seed);
-            match bench.check(CALLS, &case.text, &mut random) {
+            match bench.check_known(CALLS, &case.text, case.known, &mut random) {
                 Ok(outcome) => {
                     accepted += u64::from(by_seed && !matches!(outcome, Outcome::Refused(_)));
                     *outcomes.entry(format!("{outcome:?}")).or_insert(0_u64) += 1;
@@ -128,15 +161,11 @@ mod differential {
                         "differential: --seed {} --only {index} ({}): {message}",
                         options.seed, case.kind
                     );
-                    let found = outcome(&case.text);
-                    let mut fails = |text: &[u8]| {
-                        outcome(text) == found
-                            && (0..4).any(|k| bench.check(CALLS, text, &mut Random::new(k)).is_err())
-                    };
-                    let shorter =
-                        if fails(&case.text) { shorten(&case.text, &mut fails) } else { case.text.clone() };
                     keep(&case.text, &format!("{}-{index}.plan", options.seed));
-                    keep(&shorter, &format!("{}-{index}-short.plan", options.seed));
+                    if case.known.is_none() {
+                        let shorter = shorter(&case.text, &mut bench);
+                        keep(&shorter, &format!("{}-{index}-short.plan", options.seed));
+                    }
                     if differences == ENOUGH {
                         break;
                     }
@@ -162,6 +191,19 @@ mod differential {
         );
         println!("differential: {differences} differences");
         differences
+    }
+
+    /// A text with the outcome of one that fails, made shorter while it fails.
+    fn shorter(text: &[u8], bench: &mut Bench) -> Vec<u8> {
+        let found = outcome(text);
+        let mut fails = |text: &[u8]| {
+            outcome(text) == found && (0..4).any(|k| bench.check(CALLS, text, &mut Random::new(k)).is_err())
+        };
+        if fails(text) {
+            shorten(text, &mut fails)
+        } else {
+            text.to_vec()
+        }
     }
 
     fn keep(text: &[u8], name: &str) {

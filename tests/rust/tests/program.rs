@@ -14,7 +14,7 @@ use std::process::{Command, Stdio};
 
 use lockplan_tests::generate::generate;
 use lockplan_tests::random::Random;
-use lockplan_tests::report::{check, same};
+use lockplan_tests::report::{check_known, same};
 use lockplan_tests::shelf::{all, all_indented};
 use lockplan_tests::{families, slip, tidy};
 
@@ -38,22 +38,28 @@ fn prints(program: &str, text: &[u8]) -> Result<Vec<u8>, String> {
 }
 
 /// Whether a program prints a text's report.
-fn reports(program: &str, text: &[u8]) -> Result<(), String> {
-    prints(program, text).and_then(|printed| check(text, &printed))
+fn reports(program: &str, text: &[u8], known: Option<bool>) -> Result<(), String> {
+    prints(program, text).and_then(|printed| check_known(text, &printed, known))
 }
 
 /// Whether a program prints a text's tidy copy or its refusal, byte for byte.
-fn tidies(program: &str, text: &[u8]) -> Result<(), String> {
+fn tidies(program: &str, text: &[u8], _: Option<bool>) -> Result<(), String> {
     prints(program, text).and_then(|found| same(&found, &tidy::printed(text)))
 }
 
 /// Whether a program prints a text's slip or its refusal, byte for byte.
-fn slips(program: &str, text: &[u8]) -> Result<(), String> {
+fn slips(program: &str, text: &[u8], _: Option<bool>) -> Result<(), String> {
     prints(program, text).and_then(|found| same(&found, &slip::printed(text)))
 }
 
+/// A test of a program: its path, a text, and whether that deadlocks where this is known.
+type Test = fn(&str, &[u8], Option<bool>) -> Result<(), String>;
+
 /// A program that is tested: its name, its path and its test.
-type Tested = (&'static str, String, fn(&str, &[u8]) -> Result<(), String>);
+type Tested = (&'static str, String, Test);
+
+/// A text with its name, and whether it deadlocks where this is known.
+type Case = (String, Vec<u8>, Option<bool>);
 
 /// The programs that are named.
 fn programs() -> Vec<Tested> {
@@ -65,13 +71,14 @@ fn programs() -> Vec<Tested> {
 }
 
 /// Fixed texts, families and generated ones, by name.
-fn cases(texts: u64, seed: u64) -> Vec<(String, Vec<u8>)> {
+fn cases(texts: u64, seed: u64) -> Vec<Case> {
     let fixed = all().into_iter().chain(all_indented());
-    let mut cases: Vec<(String, Vec<u8>)> = fixed.map(|entry| (entry.name.to_string(), entry.text)).collect();
-    cases.extend(families::all().into_iter().map(|(name, draft, _)| (name, draft.text())));
+    let mut cases: Vec<Case> = fixed.map(|entry| (entry.name.to_string(), entry.text, None)).collect();
+    let families = families::all().into_iter();
+    cases.extend(families.map(|(name, draft, deadlock)| (name, draft.text(), Some(deadlock))));
     for index in 0..texts {
         let case = generate(&mut Random::of_text(seed, index));
-        cases.push((format!("seed {seed}, text {index} ({})", case.kind), case.text));
+        cases.push((format!("seed {seed}, text {index} ({})", case.kind), case.text, None));
     }
     cases
 }
@@ -85,10 +92,10 @@ fn keep(text: &[u8], name: &str) {
 }
 
 /// The number of differences, 5 at most.
-fn test((program, path, right): &Tested, cases: &[(String, Vec<u8>)]) -> usize {
+fn test((program, path, right): &Tested, cases: &[Case]) -> usize {
     let mut differences = 0;
-    for (name, text) in cases {
-        if let Err(message) = right(path, text) {
+    for (name, text, known) in cases {
+        if let Err(message) = right(path, text, *known) {
             differences += 1;
             println!("{program}: {name}: {message}");
             keep(text, &format!("{program}-{differences}.plan"));

@@ -1,12 +1,11 @@
--- The rules up to and with 9 come first; of the table that they leave, rule 10 decides.
-use Rattle.plan.proofs.AcceptedTable.{sizes-room, sizes-table}
-use Rattle.checked.proofs.Checked.{sizes-laid, sizes-refused, pairs-checked}
+-- Rules 2 and 3 come first; of the forms that they leave, the rules over forms decide, and the form that they name is named by its line.
+use Rattle.checked.proofs.Checked.{text-refused, text-room, text-few, text-checked}
 use borrow.Author.Needs.{needs}
 use Rattle.checked.proofs.read_text.Statement.{statement}
 use Rattle.checked.proofs.read_text.Tie as tie
 
-read-sizes-requires : tie.Need-read-sizes-requires
-read-sizes-requires c κs = search needs
+read-forms-requires : tie.Need-read-forms-requires
+read-forms-requires c κs = search needs
 
 enum-known-read : tie.Need-enum-known-read
 enum-known-read c = search needs
@@ -14,23 +13,26 @@ enum-known-read c = search needs
 enum-told : tie.Need-enum-told
 enum-told c = search needs
 
+refused-text-requires : tie.Need-refused-text-requires
+refused-text-requires c κs = search needs
+
 same-length : tie.Need-same-length
 same-length c = search needs
 
 returns : tie.Need-returns
-returns c = search (sizes-refused, needs)
+returns c = search (text-refused, needs)
 
-sub-check-pairs : tie.Need-sub-check-pairs
-sub-check-pairs c = search needs
+sub-check-table : tie.Need-sub-check-table
+sub-check-table c = search needs
 
-part-check-pairs-start : tie.Need-part-check-pairs-start
-part-check-pairs-start c = search needs
+part-check-table-start : tie.Need-part-check-table-start
+part-check-table-start c = search needs
 
-part-check-pairs-end : tie.Need-part-check-pairs-end
-part-check-pairs-end c = search (sizes-room, needs)
+part-check-table-end : tie.Need-part-check-table-end
+part-check-table-end c = search (text-room, needs)
 
-check-pairs-requires : tie.Need-check-pairs-requires
-check-pairs-requires c κs = search (sizes-table, sizes-laid, needs)
+check-table-requires : tie.Need-check-table-requires
+check-table-requires c κs = search (text-few, needs)
 
 in-file-requires : tie.Need-in-file-requires
 in-file-requires c κs = search needs
@@ -39,21 +41,22 @@ same-length-2 : tie.Need-same-length-2
 same-length-2 c = search needs
 
 returns-2 : tie.Need-returns-2
-returns-2 c = search (pairs-checked, needs)
+returns-2 c = search (text-checked, needs)
 
 pub read-text-spec : {M : Type 1} → statement M
 read-text-spec =
     tie.close
     (tie.spec
-    read-sizes-requires
+    read-forms-requires
     enum-known-read
     enum-told
+    refused-text-requires
     same-length
     returns
-    sub-check-pairs
-    part-check-pairs-start
-    part-check-pairs-end
-    check-pairs-requires
+    sub-check-table
+    part-check-table-start
+    part-check-table-end
+    check-table-requires
     in-file-requires
     same-length-2
     returns-2)

@@ -1,5 +1,5 @@
 -- Rule 1, then the rules of the plan, then the pairs in its table.
-use Rattle.plan.proofs.AcceptedTable.{plan-room, plan-table, plan-few}
+use Rattle.plan.proofs.AcceptedTable.{most-room, plan-room, rules-kept}
 use Rattle.checked.proofs.Checked.{plan-laid}
 use Rattle.listing.proofs.ListedPairs.{text-short, text-refused, text-listed}
 use borrow.Author.Needs.{needs}
@@ -22,10 +22,10 @@ part-table-pairs-start : tie.Need-part-table-pairs-start
 part-table-pairs-start c = search needs
 
 part-table-pairs-end : tie.Need-part-table-pairs-end
-part-table-pairs-end c = search (plan-room, needs)
+part-table-pairs-end c = search (plan-room, most-room, needs)
 
 table-pairs-requires : tie.Need-table-pairs-requires
-table-pairs-requires c κs = search (plan-table, plan-few, plan-laid, needs)
+table-pairs-requires c κs = search (rules-kept, plan-laid, needs)
 
 enum-known-reading-2 : tie.Need-enum-known-reading-2
 enum-known-reading-2 c = search needs

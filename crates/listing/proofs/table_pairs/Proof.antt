@@ -1,4 +1,4 @@
--- Rule 11 by the number of procedures; else the pairs collected are the whole list, for rule 10 refuses nothing.
+-- Rule 11 by the number of procedures; else the pairs collected.
 use Rattle.listing.proofs.ListedPairs.{table-absent, table-listed}
 use borrow.Author.Needs.{needs}
 use Rattle.listing.proofs.table_pairs.Statement.{statement}

@@ -3,14 +3,15 @@ use borrow.Author.Needs.{needs}
 use Prim.Native.Nat.{_-_, _≤_}
 use mathlib.Core.Path.{_≡_}
 use lib.ListN.{length}
-use Rattle.limits.specs.Limits.{maxBytes, maxForms}
+use Rattle.limits.specs.Limits.{maxBytes}
 use Rattle.text.proofs.Reading.{next-within}
+use Rattle.plan.specs.Table.{FormRoom}
 use Rattle.plan.proofs.Filling.{Filling, filling-none, filling-more, filling-less, next-counted, filling-refused, filling-done}
 use Rattle.plan.proofs.fill.Statement.{statement}
 use Rattle.plan.proofs.fill.Tie as tie
 
 abbrev Inv-loop : tie.InvT-loop
-Inv-loop text table₀ here₀ n₀ table here n = (length text ≤ maxBytes) × (maxForms ≤ length table₀) × (length table ≡ length table₀) × Filling text table here n
+Inv-loop text table₀ here₀ n₀ table here n = (length text ≤ maxBytes) × FormRoom text table₀ × (length table ≡ length table₀) × Filling text table here n
 
 abbrev μ-loop : tie.MeasureT-loop
 μ-loop text table₀ here₀ n₀ table here n = length text - here .at

@@ -1,5 +1,5 @@
 -- The part is empty where the plan is refused; else it is that of the procedure in the table.
-use Rattle.plan.proofs.AcceptedTable.{plan-room, plan-table}
+use Rattle.plan.proofs.AcceptedTable.{most-room, plan-room, plan-table}
 use Rattle.checked.proofs.Checked.{plan-laid}
 use Rattle.procedure_text.proofs.ProcText.{part-empty, lines-refused, text-part}
 use borrow.Author.Needs.{needs}
@@ -37,7 +37,7 @@ part-table-text-start : tie.Need-part-table-text-start
 part-table-text-start c = search needs
 
 part-table-text-end : tie.Need-part-table-text-end
-part-table-text-end c = search (plan-room, needs)
+part-table-text-end c = search (plan-room, most-room, needs)
 
 table-text-requires : tie.Need-table-text-requires
 table-text-requires c κs = search (plan-table, plan-laid, needs)

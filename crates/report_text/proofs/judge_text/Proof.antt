@@ -1,6 +1,6 @@
 -- An accepted text leaves the table of its plan; of a refused one the answer is the refusal.
 use Rattle.report_text.proofs.Preparing.{plan-prepared, refused-prepared}
-use Rattle.plan.proofs.AcceptedTable.{plan-room, rules-kept}
+use Rattle.plan.proofs.AcceptedTable.{most-room, plan-room, rules-kept}
 use Rattle.checked.proofs.Checked.{plan-laid}
 use borrow.Author.Needs.{needs}
 use Rattle.report_text.proofs.judge_text.Statement.{statement}
@@ -19,7 +19,7 @@ part-judge-plan-start : tie.Need-part-judge-plan-start
 part-judge-plan-start c = search needs
 
 part-judge-plan-end : tie.Need-part-judge-plan-end
-part-judge-plan-end c = search (plan-room, needs)
+part-judge-plan-end c = search (plan-room, most-room, needs)
 
 judge-plan-requires : tie.Need-judge-plan-requires
 judge-plan-requires c κs = (search (rules-kept, needs), search (plan-laid, needs), search needs)

@@ -1,4 +1,4 @@
--- The pairs are no more than rule 10 allows, since it refuses nothing; so their lines fit.
+-- A plan that keeps the rules has few pairs, so their lines fit.
 use Rattle.report_text.proofs.Parts.{procedure-room, procedure-lines}
 use borrow.Author.Needs.{needs}
 use Rattle.report_text.proofs.put_pair_lines.Statement.{statement}

@@ -4,8 +4,8 @@ use borrow.Author.Needs.{needs}
 use Rattle.space.proofs.find_slip.Statement.{statement}
 use Rattle.space.proofs.find_slip.Tie as tie
 
-read-sizes-requires : tie.Need-read-sizes-requires
-read-sizes-requires c κs = search needs
+read-text-requires : tie.Need-read-text-requires
+read-text-requires c κs = search needs
 
 enum-told : tie.Need-enum-told
 enum-told c = search needs
@@ -41,7 +41,7 @@ pub find-slip-spec : {M : Type 1} → statement M
 find-slip-spec =
     tie.close
     (tie.spec
-    read-sizes-requires
+    read-text-requires
     enum-told
     put-space-requires
     enum-known-reading

@@ -1,5 +1,5 @@
 -- Rule 1, then the rules of the plan, then the lines of the forms in its table.
-use Rattle.plan.proofs.AcceptedTable.{plan-room}
+use Rattle.plan.proofs.AcceptedTable.{most-room, plan-room}
 use Rattle.tidy_text.proofs.Copies.{copy-short, copy-refused, copy-small, copy-room, copy-written}
 use borrow.Author.Needs.{needs}
 use Rattle.tidy_text.proofs.copy_forms.Statement.{statement}
@@ -21,7 +21,7 @@ part-write-forms-start : tie.Need-part-write-forms-start
 part-write-forms-start c = search needs
 
 part-write-forms-end : tie.Need-part-write-forms-end
-part-write-forms-end c = search (plan-room, needs)
+part-write-forms-end c = search (plan-room, most-room, needs)
 
 write-forms-requires : tie.Need-write-forms-requires
 write-forms-requires c κs = search (copy-small, copy-room, needs)

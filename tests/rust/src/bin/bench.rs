@@ -4,7 +4,7 @@
 //! mostly passed over, each beside a bare text of that length.
 //!
 //!   cargo run --release --features library --bin bench -- [--rounds N]
-//!                       [--family NAME] [--spin TABLE] [--write FOLDER]
+//!                       [--family NAME] [--spin TABLE]
 //!   cargo run --release --features library --bin bench -- --lengths [--rounds N]
 
 use std::collections::HashMap;
@@ -15,43 +15,12 @@ use lockplan_tests::answer::{Answer, REFUSED};
 use lockplan_tests::compare::kind;
 use lockplan_tests::reference::{read, MAX_PAIRS, MAX_SUM};
 use lockplan_tests::tidy::COPY_BYTES;
+use lockplan_tests::times::median;
 use lockplan_tests::verdict::{conflict_within, pairs_of_threads};
 use lockplan_tests::{families, lengths, library, standin};
 
 /// Pairs that the reference tries before it gives up.
 const TRIES: u64 = 50_000_000;
-
-/// The processor time of this process so far: other processes do not count.
-fn processor_time() -> Duration {
-    #[repr(C)]
-    struct Time {
-        seconds: i64,
-        nanoseconds: i64,
-    }
-    const PROCESS: i32 = 2;
-    extern "C" {
-        fn clock_gettime(clock: i32, time: *mut Time) -> i32;
-    }
-    let mut time = Time { seconds: 0, nanoseconds: 0 };
-    // SAFETY: the time is lent for the call.
-    assert_eq!(unsafe { clock_gettime(PROCESS, &mut time) }, 0);
-    Duration::new(time.seconds as u64, time.nanoseconds as u32)
-}
-
-/// The median; a call of more than a second is made only once.
-fn median(rounds: usize, mut call: impl FnMut()) -> Duration {
-    let mut times = Vec::new();
-    for _ in 0..rounds {
-        let start = processor_time();
-        call();
-        times.push(processor_time() - start);
-        if times[0] > Duration::from_secs(1) {
-            break;
-        }
-    }
-    times.sort_unstable();
-    times[times.len() / 2]
-}
 
 fn microseconds(time: Duration) -> String {
     format!("{:.1}", time.as_secs_f64() * 1e6)
@@ -183,10 +152,6 @@ fn main() {
             "--rounds" => rounds = value().parse().expect("a number"),
             "--family" => family = value(),
             "--spin" => spin = std::fs::read_to_string(value()).expect("a readable table"),
-            "--write" => {
-                families::write_all(value().as_ref()).expect("a writable folder");
-                return;
-            }
             _ => panic!("unknown: {name}"),
         }
     }
