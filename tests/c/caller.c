@@ -1,7 +1,8 @@
 /* Reads a plan from standard input and prints its report by the C calls: the
  * pairs of each procedure and the verdict, in a buffer of just the entries that the
  * plan needs. With --tidy it prints the plan's tidy copy instead, and with --space
- * the sum of its threads' sizes, or the line of its refusal.
+ * the sum of its threads' sizes, or the line of its refusal. With --time it prints
+ * how many microseconds of processor time a verdict takes.
  *
  *   cc -std=c99 -I ../../include caller.c \
  *      -L ../../target/staticlib -llockplan -o caller
@@ -11,6 +12,7 @@
 #include <stdio.h>
 #include <stdlib.h>
 #include <string.h>
+#include <time.h>
 
 #include "lockplan.h"
 
@@ -130,6 +132,26 @@ static int verdict(size_t length)
     return right ? 0 : 3;
 }
 
+/* The least time of a verdict in 50 batches of 100, with all the entries lent that a
+ * plan can need. */
+static int least_time(size_t length)
+{
+    static uint8_t entries[LOCKPLAN_ENTRY_BYTES];
+    double least = -1;
+    int batch, call;
+    for (batch = 0; batch < 50; batch++) {
+        clock_t begun = clock();
+        double each;
+        for (call = 0; call < 100; call++)
+            lockplan_verdict(text, length, entries, sizeof entries);
+        each = (double)(clock() - begun) * 1e6 / CLOCKS_PER_SEC / 100;
+        if (least < 0 || each < least)
+            least = each;
+    }
+    printf("%.1f\n", least);
+    return 0;
+}
+
 static int report(size_t length)
 {
     uint64_t answer, proc;
@@ -169,5 +191,7 @@ int main(int count, char **arguments)
         return tidy(length);
     if (count > 1 && strcmp(arguments[1], "--space") == 0)
         return space(length);
+    if (count > 1 && strcmp(arguments[1], "--time") == 0)
+        return least_time(length);
     return report(length);
 }

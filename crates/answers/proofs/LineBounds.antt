@@ -1,5 +1,5 @@
--- A refusal's numbers are small: the rule is one of 1 to 12, and the line is 0 or at most one more than the file has lines, of which there are no more than bytes. Of the rules
--- over the forms this asks nothing but their numbers: every line that `lineOf` gives is such a line.
+-- A refusal's numbers are small: the rule is one of 1 to 9 and 11 to 13, and the line is 0 or at most one more than the file has lines, of which there are no more than bytes.
+-- Of the rules over the forms this asks nothing but their numbers: every line that `lineOf` gives is such a line.
 use Prim.Native.Nat.{ℕ, suc, _+_, _^_, _<_, _≤_}
 use native.Mathlib.Omega.{arith}
 use mathlib.Core.Bool.{Bool, true, false, cond}
@@ -21,7 +21,7 @@ use Rattle.semantics.specs.Sizes.{threadSizes}
 use Rattle.plan.specs.Grammar.{planIn}
 use Rattle.plan.specs.Structure.{misplacedForm}
 use Rattle.plan.specs.Limits.{pastLimitForm, breakingForm}
-use Rattle.plan.specs.Rules.{refusedAt, refusedIf, tooLong, linesRefusal, referencesRefusal, grammarRefusal, procForm, lowestFrom, procRefusal, recursive, tooLarge}
+use Rattle.plan.specs.Rules.{refusedAt, refusedIf, tooLong, linesRefusal, referencesRefusal, grammarRefusal, procForm, lowestFrom, procRefusal, recursive, idle, tooLarge}
 use Rattle.plan.specs.Rules.{formsRefusal, inFile, planOf, planRefusal, tooFewEntries, verdictRefusal, pairsRefusal, tidyRefusal}
 use Rattle.plan.proofs.AcceptedTable.{short-enough, lines-short}
 
@@ -107,13 +107,13 @@ module _ (fs : List Form) where
   small-proc rule test h = small-at rule (procForm fs (lowestFrom test 0 (length (planIn fs .procs)))) h
 
   forms-small : If SmallRule (formsRefusal fs)
-  unfolding formsRefusal grammarRefusal referencesRefusal recursive tooLarge
+  unfolding formsRefusal grammarRefusal referencesRefusal recursive idle tooLarge
   forms-small =
       let by : (rule : ℕ) → rule < 256 → If SmallRule (refusedAt rule (breakingForm rule fs)) = λ rule h. small-at rule (breakingForm rule fs) h in
       if-or _ _
       (if-or _ _ (small-at 4 (misplacedForm fs) (omega arith))
       (λ _. if-or _ _ (small-at 5 (pastLimitForm fs) (omega arith)) (λ _. if-or _ _ (by 6 (omega arith)) (λ _. if-or _ _ (by 7 (omega arith)) (λ _. by 8 (omega arith))))))
-      (λ _. if-or _ _ (small-proc 12 _ (omega arith)) (λ _. small-proc 9 _ (omega arith)))
+      (λ _. if-or _ _ (if-or _ _ (small-proc 12 _ (omega arith)) (λ _. small-proc 13 _ (omega arith))) (λ _. small-proc 9 _ (omega arith)))
 
 module _ (text : List ℕ) where
   lines-bounded : length text ≤ maxBytes → If Numbers (refusedAt 3 (unreadableLine text))

@@ -15,8 +15,8 @@ use streams::TEXT_ROOM;
 
 const INDEX_ROOM: usize = 8192;
 
-// Reports and tidy copies are printed of texts with no more bytes: one of 64 procedures and one with thousands of steps are among them.
-pub const REPORTED: usize = 1000;
+// Reports and tidy copies are printed of texts with no more bytes: one of 64 procedures, the exports of forty and one with thousands of steps are among them.
+pub const REPORTED: usize = 1800;
 
 pub fn print_number(pair: &[u8], x: u64) {
     io::write_all(1, pair);

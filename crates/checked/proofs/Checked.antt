@@ -1,4 +1,4 @@
--- The rules in checking order: 2 and 3 leave a table of forms, over which 4 to 8 are tested, then 12 and 9; a form that is named is named by its line. What a text that keeps
+-- The rules in checking order: 2 and 3 leave a table of forms, over which 4 to 8 are tested, then 12, 13 and 9; a form that is named is named by its line. What a text that keeps
 -- them leaves, its layout and the space, is found on the way.
 use Prim.Native.Nat.{ℕ, _-_, _≤_}
 use native.Mathlib.Omega.{arith}
@@ -16,8 +16,8 @@ use Rattle.plan.specs.declared.Reading.{Reading}
 use Rattle.plan.specs.declared.Reading.the-variants.{Accepted, Refused}
 use Rattle.plan.specs.Table.{tableForms, FormRoom}
 use Rattle.plan.specs.Settled.{PlanTable, tablePlan}
-use Rattle.plan.specs.Rules.{linesRefusal, grammarRefusal, recursive, tooLarge, procsRefusal, formsRefusal, inFile, planRefusal, planOf}
-use Rattle.plan.specs.Rules.{readingOf, readInFile, Tabled}
+use Rattle.plan.specs.Rules.{linesRefusal, grammarRefusal, recursive, idle, tooLarge, reachRefusal, procsRefusal, formsRefusal, inFile}
+use Rattle.plan.specs.Rules.{planRefusal, planOf, readingOf, readInFile, Tabled}
 use Rattle.plan.proofs.Passes.{first-refuses, first-passes}
 use Rattle.plan.proofs.Filling.{accepted-none, read-in-file}
 use Rattle.plan.proofs.Ranked.{rules-ranks}
@@ -35,27 +35,29 @@ refused-not : (x : Refusal) (o : Option Refusal) (n : ℕ) → Refused x ≡ rea
 unfolding readingOf
 refused-not x o n e g = let k : _≡_ {A = ℕ} 0 1 = cc in absurd (omega arith)
 
--- ---- the table of a plan: q is the reading by 12
+-- ---- the table of a plan: q is the reading by 12 and 13
 
-module _ (ws : List ℕ) (q : Reading) (e : q ≡ readingOf (recursive (tableForms ws)) (length ws)) where
-  pub recursion-refused : (x : Refusal) (s : Space) → q ≡ Refused x → ChecksSizes (procsRefusal (tableForms ws)) ws (record { reading = q; space = s })
-  recursion-refused x s g =
+module _ (ws : List ℕ) (q : Reading) (e : q ≡ readingOf (reachRefusal (tableForms ws)) (length ws)) where
+  pub reach-refused : (x : Refusal) (s : Space) → q ≡ Refused x → ChecksSizes (procsRefusal (tableForms ws)) ws (record { reading = q; space = s })
+  reach-refused x s g =
       let fs = tableForms ws in
       record {
-        reading = first-refuses (recursive fs) (tooLarge fs) q (length ws) x e g;
-        space = λ k. absurd (refused-not x (recursive fs) (length ws) (sym g ∙ e) (first-none (recursive fs) (tooLarge fs) k .0));
+        reading = first-refuses (reachRefusal fs) (tooLarge fs) q (length ws) x e g;
+        space = λ k. absurd (refused-not x (reachRefusal fs) (length ws) (sym g ∙ e) (first-none (reachRefusal fs) (tooLarge fs) k .0));
       }
 
   module _ (n : ℕ) (g : q ≡ Accepted n) where
-    pub recursion-ranks : PlanTable ws → Ranks (tablePlan ws .procs)
-    recursion-ranks t = rules-ranks _ (t .settled) (accepted-none (recursive (tableForms ws)) (length ws) n (sym e ∙ g))
+    pub reach-ranks : PlanTable ws → Ranks (tablePlan ws .procs)
+    reach-ranks t =
+        let fs = tableForms ws in
+        rules-ranks fs (t .settled) (first-none (recursive fs) (idle fs) (accepted-none (reachRefusal fs) (length ws) n (sym e ∙ g)) .0)
 
-    pub recursion-kept : (r : CheckedSizes) → ChecksSizes (tooLarge (tableForms ws)) ws r → ChecksSizes (procsRefusal (tableForms ws)) ws r
-    recursion-kept r d =
+    pub reach-kept : (r : CheckedSizes) → ChecksSizes (tooLarge (tableForms ws)) ws r → ChecksSizes (procsRefusal (tableForms ws)) ws r
+    reach-kept r d =
         let fs = tableForms ws in
         record {
-          reading = first-passes (recursive fs) (tooLarge fs) q (r .reading) (length ws) n e g (d .reading);
-          space = λ k. d .space (first-none (recursive fs) (tooLarge fs) k .1);
+          reading = first-passes (reachRefusal fs) (tooLarge fs) q (r .reading) (length ws) n e g (d .reading);
+          space = λ k. d .space (first-none (reachRefusal fs) (tooLarge fs) k .1);
         }
 
 -- ---- the rules over a table: q is the reading by 4 to 8

@@ -6,8 +6,9 @@ ghost use lib.ListN.{length};
 ghost use Rattle.limits.specs.Limits.{maxForms};
 ghost use Rattle.plan.specs.Table.{tableForms, FormRoom};
 ghost use Rattle.plan.specs.Settled.{PlanTable};
-ghost use Rattle.plan.specs.Rules.{grammarRefusal, procsRefusal, formsRefusal, readingOf};
+ghost use Rattle.plan.specs.Rules.{grammarRefusal, reachRefusal, procsRefusal, formsRefusal, readingOf};
 ghost use Rattle.procs.specs.Laid.{Laid};
+ghost use Rattle.reach.specs.Reached.{ReachTable};
 ghost use Rattle.sizes.specs.Space.{ChecksSizes};
 ghost use Rattle.checked.specs.Checks.{ChecksTable, Checks};
 use limits::MAX_FORMS;
@@ -59,23 +60,35 @@ fn check_grammar(table: &[u64]) -> Reading
     plan::check_forms(table, &mut stack)
 }
 
-// Rules 12 and 9 over the table of a plan, and the space that a schedule needs.
+// Rules 12 and 13 over the table of a plan, by what its procedures reach.
+fn check_reach(table: &[u64], layout: Layout, masks: &[u64]) -> Reading
+    requires { ⌜ PlanTable (now table) × Laid (now table) layout × ReachTable (now table) (now masks) ⌝ }
+    ensures { λ r. ⌜ r ≡ readingOf (reachRefusal (tableForms (now (table .entry)))) (length (now (table .entry))) ⌝ }
+{
+    let called = reach::check_recursion(table, layout, masks);
+    let Reading::Accepted(_) = called else {
+        return called;
+    };
+    idle::check_idle(table, layout, masks)
+}
+
+// Rules 12, 13 and 9 over the table of a plan, and the space that a schedule needs.
 fn check_procs(table: &[u64], layout: Layout) -> CheckedSizes
     requires { ⌜ PlanTable (now table) × Laid (now table) layout ⌝ }
     ensures { λ r. ⌜ ChecksSizes (procsRefusal (tableForms (now (table .entry)))) (now (table .entry)) r ⌝ }
 {
     let masks = reach::reach_masks(table, layout);
-    let called = reach::check_recursion(table, layout, &masks);
-    let Reading::Accepted(_) = called else {
+    let reached = check_reach(table, layout, &masks);
+    let Reading::Accepted(_) = reached else {
         return CheckedSizes {
-            reading: called,
+            reading: reached,
             space: no_space(),
         };
     };
     sizes::check_sizes(table, layout, &masks)
 }
 
-// Rules 12 and 9 over the table of a plan, the table's layout and the space.
+// Rules 12, 13 and 9 over the table of a plan, the table's layout and the space.
 fn check_plan(table: &[u64]) -> CheckedText
     requires { ⌜ PlanTable (now table) ⌝ }
     ensures { λ r. ⌜ ChecksTable (procsRefusal (tableForms (now (table .entry)))) (now (table .entry)) r ⌝ }
@@ -91,7 +104,7 @@ fn check_plan(table: &[u64]) -> CheckedText
     }
 }
 
-// The rules over a table of forms: 4 to 8, 12, 9.
+// The rules over a table of forms: 4 to 8, 12, 13, 9.
 fn check_table(table: &[u64]) -> CheckedText
     requires { ⌜ length (now table) ≤ maxForms ⌝ }
     ensures { λ r. ⌜ ChecksTable (formsRefusal (tableForms (now (table .entry)))) (now (table .entry)) r ⌝ }
@@ -103,7 +116,7 @@ fn check_table(table: &[u64]) -> CheckedText
     check_plan(table)
 }
 
-// The plan's rules in checking order, 2 to 8, 12, 9; the forms of an accepted text stay in the table.
+// The plan's rules in checking order, 2 to 8, 12, 13, 9; the forms of an accepted text stay in the table.
 pub fn read_text(text: &[u8], table: &mut [u64]) -> CheckedText
     requires { ⌜ FormRoom (now text) (now table) ⌝ }
     ensures { λ r. ⌜ Checks (now (text .entry)) r (now (table .exit)) ⌝ }

@@ -1,3 +1,2 @@
--- What is promised of the search from a path of candidates, and of the search over all candidates.
-pub mod Paths
+-- What is promised of the search for a cycle.
 pub mod Search

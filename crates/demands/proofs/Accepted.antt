@@ -14,7 +14,7 @@ use Rattle.laws.proofs.Tests.{first-none}
 use Rattle.text.specs.Lines.{formsOf, unreadableLine, IsText}
 use Rattle.text.proofs.Splits.{readable-written, text-written}
 use Rattle.semantics.specs.Plan.{LockPlan, Ranks}
-use Rattle.semantics.specs.Calls.{Recursive}
+use Rattle.semantics.specs.Calls.{Recursive, Reachable}
 use Rattle.semantics.specs.Sizes.{sizeOf, threadSizes}
 use Rattle.semantics.specs.Pairs.{pairList}
 use Rattle.semantics.specs.Language.{PublishedCritical}
@@ -28,6 +28,7 @@ use Rattle.plan.proofs.Kept.{unflagged}
 use Rattle.plan.proofs.AcceptedTable.{accepted-rules, rules-accepted, accepted-text, accepted-settled}
 use Rattle.plan.proofs.Allowed.{rules-plan}
 use Rattle.plan.proofs.Ranked.{recursive-exactly}
+use Rattle.plan.proofs.ReachableProcs.{idle-exactly}
 use Rattle.demands.specs.Broken.{TooLarge, planRules, AllUnbroken, AcceptedText}
 use Rattle.demands.proofs.Firsts.{below}
 use Rattle.demands.proofs.Lowest.{none-lowest, lowest-none}
@@ -50,6 +51,7 @@ module _ (text : List ℕ) where
         written = subst (IsText text) written (readable-written text (r .readable));
         settled = accepted-settled text e;
         acyclic = recursive-exactly fs .0 (r .acyclic);
+        reachable = idle-exactly fs .0 (r .reachable);
         sizes = λ p h. not-above (sizeOf ps p) (none-lowest fs written (λ p. ltb maxSize (sizeOf ps p)) TooLarge (λ p h. below maxSize (sizeOf ps p)) 9 (r .sizes) p h);
       }
 
@@ -78,6 +80,8 @@ module _ (text : List ℕ) where
         let ps = planIn fs .procs in
         let same = kept-rules .1 in
         let acyclic : (p : ℕ) → Recursive ps p → ⊥ = subst (λ (q : LockPlan). (p : ℕ) → Recursive (q .procs) p → ⊥) (sym same) (x .acyclic) in
+        let reachable : (p : ℕ) → p < length ps → Reachable (planIn fs) p =
+        subst (λ (q : LockPlan). (p : ℕ) → p < length (q .procs) → Reachable q p) (sym same) (x .reachable) in
         let sizes : (p : ℕ) → p < length ps → sizeOf ps p ≤ maxSize =
         subst (λ (q : LockPlan). (p : ℕ) → p < length (q .procs) → sizeOf (q .procs) p ≤ maxSize) (sym same) (x .sizes) in
         rules-accepted text (record {
@@ -85,6 +89,7 @@ module _ (text : List ℕ) where
           readable = same-forms .0;
           formed = kept-rules .0;
           acyclic = recursive-exactly fs .1 acyclic;
+          reachable = idle-exactly fs .1 reachable;
           sizes = lowest-none fs forms-written (λ p. ltb maxSize (sizeOf ps p)) TooLarge (λ p h. below maxSize (sizeOf ps p)) 9 (λ p h k. omega (arith, sizes p h));
         })
 

@@ -1,6 +1,6 @@
 -- The first number of which something holds: there is at most one, so a search that finds such a number names it (`names-scanned`). Tests, and what they say.
 use Prim.Native.Nat.{ℕ, _<_, _≤_}
-use mathlib.Core.Bool.{Bool, true, false}
+use mathlib.Core.Bool.{Bool, true, false, not}
 use mathlib.Core.Logic.{_⊎_, inl, inr, ⊎-elim, _↔_}
 use mathlib.Core.Option.{Option, none, some, Option·none-ne-some, Option·some-injective}
 use mathlib.Core.Path.{_≡_, refl, sym, ap, subst, _∙_}
@@ -41,6 +41,11 @@ decides-iff b P Q e (inr x) = inr (x .0, λ q. x .1 (e .1 q))
 pub decides-itself : (b : Bool) → Decides b (T b)
 decides-itself true = inl (refl, tt)
 decides-itself false = inr (refl, λ t. t)
+
+-- a test that something fails
+pub decides-not : (b : Bool) (P : Type 0) → Decides b P → Decides (not b) (P → ⊥)
+decides-not b P (inl x) = inr (ap not (x .0), λ f. f (x .1))
+decides-not b P (inr x) = inl (ap not (x .0), x .1)
 
 pub below : (m n : ℕ) → Decides (ltb m n) (m < n)
 below m n = ⊎-elim (λ (h : m < n). inl (lt-ltb m n h, h)) (λ (h : n ≤ m). inr (le-ltb m n h, λ k. omega arith)) (lt-or-le m n)

@@ -10,11 +10,13 @@ pub mod Depth
 pub mod Reading
 pub mod Scan
 pub mod Limits
--- Rules 12 and 9.
+-- Rules 12, 13 and 9.
 pub mod Lowest
-pub mod Recursion
+pub mod ProcRules
 -- All rules.
 pub mod Refusals
 pub mod Accepted
 -- The depth to which calls are followed.
 pub mod CallDepth
+-- The reference cases.
+pub mod Examples

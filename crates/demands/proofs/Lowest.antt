@@ -1,4 +1,4 @@
--- Rules 12 and 9 name the `(proc` of the lowest procedure of which P holds, by its number among the forms, where their test of a procedure says whether P does
+-- Rules 12, 13 and 9 name the `(proc` of the lowest procedure of which P holds, by its number among the forms, where their test of a procedure says whether P does
 -- (`lowest-names`): `procFormFrom` counts the `(proc` forms (`proc-number`).
 use Prim.Native.Nat.{ℕ, zero, suc, _+_, _-_, _<_}
 use mathlib.Core.Bool.{Bool, true, false, cond}
@@ -12,7 +12,7 @@ use Rattle.text.specs.declared.Form.{Form}
 use Rattle.text.specs.declared.Form.the-variants.{Proc}
 use Rattle.text.specs.Forms.{kindIn, isProc}
 use Rattle.text.proofs.Matches.{kind-form}
-use Rattle.semantics.specs.Plan.{Block}
+use Rattle.semantics.specs.Plan.{LockPlan}
 use Rattle.plan.specs.Grammar.{forms, planIn}
 use Rattle.plan.specs.Limits.{countIf}
 use Rattle.plan.specs.Rules.{procFormFrom, procForm, lowestFrom, procRefusal}
@@ -92,25 +92,25 @@ proc-number fs p n h x =
 
 -- ---- the rule
 
-module _ (fs : List Form) (written : fs ≡ forms (planIn fs)) (test : ℕ → Bool) (P : List Block → ℕ → Type 0)
-    (decide : (p : ℕ) → p < length (planIn fs .procs) → Decides (test p) (P (planIn fs .procs) p)) where
+module _ (fs : List Form) (written : fs ≡ forms (planIn fs)) (test : ℕ → Bool) (P : LockPlan → ℕ → Type 0)
+    (decide : (p : ℕ) → p < length (planIn fs .procs) → Decides (test p) (P (planIn fs) p)) where
   there : (p : ℕ) → p < length (planIn fs .procs) → p < countIf isProc fs
   there p h = omega (arith, ap (countIf isProc) written, count-forms (planIn fs))
 
   abbrev n : ℕ
   n = length (planIn fs .procs)
 
-  holds : (p : ℕ) → p < n → test p ≡ true → P (planIn fs .procs) p
+  holds : (p : ℕ) → p < n → test p ≡ true → P (planIn fs) p
   holds p h e = holds-where (test p) _ (decide p h) e
 
-  fails : (p : ℕ) → p < n → test p ≡ false → P (planIn fs .procs) p → ⊥
+  fails : (p : ℕ) → p < n → test p ≡ false → P (planIn fs) p → ⊥
   fails p h e r = fails-where (test p) _ (decide p h) e r
 
   names : (o : Option ℕ) → Lowest test 0 n o → Names (procForm fs o) (LowestProc P (planIn fs))
   names none x m = (λ e. absurd (Option·none-ne-some m e), λ y. absurd (fails (y .proc) (y .present) (x (y .proc) (omega arith) (omega (arith, y .present))) (y .lowest .here)))
   names (some p) x m =
       let present : p < n = omega (arith, x .1) in
-      let first : First (P (planIn fs .procs)) p =
+      let first : First (P (planIn fs)) p =
       record { here = holds p present (x .2); none-before = λ q h. fails q (omega arith) (x .3 q (omega arith) h) } in (
         λ e. record {
           proc = p;
@@ -119,7 +119,7 @@ module _ (fs : List Form) (written : fs ≡ forms (planIn fs)) (test : ℕ → B
           begins = subst (λ gs. FormWhere (BeginsProc p) gs m) written (number-proc fs p m (there p present) (Option·some-injective (procFormFrom 1 p fs) m e));
         },
         λ y.
-            let same : y .proc ≡ p = first-unique (P (planIn fs .procs)) (y .proc) p (y .lowest) first in
+            let same : y .proc ≡ p = first-unique (P (planIn fs)) (y .proc) p (y .lowest) first in
             let at : FormWhere (BeginsProc p) fs m = rw (same, ← written) at (y .begins) in
             ap {B = Option ℕ} some (proc-number fs p m (there p present) at),
       )
@@ -128,8 +128,8 @@ module _ (fs : List Form) (written : fs ≡ forms (planIn fs)) (test : ℕ → B
   lowest-names = names (lowestFrom test 0 n) (lowest test n 0)
 
   -- the rule refuses nothing exactly where P holds of no procedure
-  pub none-lowest : (rule : ℕ) → procRefusal rule fs test ≡ none → (p : ℕ) → p < length (planIn fs .procs) → P (planIn fs .procs) p → ⊥
+  pub none-lowest : (rule : ℕ) → procRefusal rule fs test ≡ none → (p : ℕ) → p < length (planIn fs .procs) → P (planIn fs) p → ⊥
   none-lowest rule e p h = fails p h (proc-refusal-none rule fs test e p h)
 
-  pub lowest-none : (rule : ℕ) → ((p : ℕ) → p < length (planIn fs .procs) → P (planIn fs .procs) p → ⊥) → procRefusal rule fs test ≡ none
+  pub lowest-none : (rule : ℕ) → ((p : ℕ) → p < length (planIn fs .procs) → P (planIn fs) p → ⊥) → procRefusal rule fs test ≡ none
   lowest-none rule h = none-proc-refusal rule fs test (λ p b. false-where (test p) _ (decide p b) (h p b))

@@ -1,7 +1,7 @@
 -- The refusals are those by the first rule broken: the plan's (`refused-exactly`), the verdict's, the pair list's and the tidy copy's. Rule by rule, those from 4 on first over
 -- the forms (`forms-refuses`), then in the file.
 use Prim.Native.Nat.{ℕ, _<_, _≤_}
-use mathlib.Core.Bool.{Bool, true, false, cond}
+use mathlib.Core.Bool.{Bool, true, false, not, cond}
 use mathlib.Core.List.{List, [], _∷_, _++_}
 use mathlib.Core.Logic.{inl, inr, _↔_}
 use mathlib.Core.Option.{Option, none, some, Option·none-ne-some, Option·some-injective}
@@ -13,14 +13,14 @@ use Rattle.laws.proofs.Tests.{first-none}
 use Rattle.text.specs.declared.Form.{Form}
 use Rattle.text.specs.Lines.{refusal, formsOf, unreadableLine, IsText}
 use Rattle.text.proofs.Splits.{readable-written, text-written}
-use Rattle.semantics.specs.Plan.{Block, LockPlan}
-use Rattle.semantics.specs.Calls.{Recursive}
-use Rattle.semantics.specs.CallMasks.{reaches}
+use Rattle.semantics.specs.Plan.{LockPlan}
+use Rattle.semantics.specs.Calls.{Recursive, Idle}
+use Rattle.semantics.specs.CallMasks.{reaches, reachable}
 use Rattle.semantics.specs.Sizes.{sizeOf, threadSizes}
 use Rattle.plan.specs.Grammar.{forms, planIn}
 use Rattle.plan.specs.Structure.{misplacedForm}
 use Rattle.plan.specs.Limits.{pastLimitForm, breakingForm}
-use Rattle.plan.specs.Rules.{refusedAt, refusedIf, tooLong, linesRefusal, referencesRefusal, grammarRefusal, procForm, lowestFrom, procRefusal, recursive, tooLarge}
+use Rattle.plan.specs.Rules.{refusedAt, refusedIf, tooLong, linesRefusal, referencesRefusal, grammarRefusal, procForm, lowestFrom, procRefusal, recursive, idle, tooLarge}
 use Rattle.plan.specs.Rules.{formsRefusal, planOf, planRefusal, tooFewEntries, verdictRefusal, pairsRefusal, tidyRefusal}
 use Rattle.plan.proofs.Trees.{plan-of-forms}
 use Rattle.plan.proofs.Denotes.{accepted-denotes}
@@ -37,7 +37,7 @@ use Rattle.demands.proofs.Firsts.{Decides, below, at-most}
 use Rattle.demands.proofs.Readable.{readable-names}
 use Rattle.demands.proofs.Limits.{limits-names, locks-names, calls-names, threads-names}
 use Rattle.demands.proofs.Lowest.{lowest-names}
-use Rattle.demands.proofs.Recursion.{reaches-itself}
+use Rattle.demands.proofs.ProcRules.{reaches-itself, no-thread-reaches}
 
 -- a rule that names no line
 flag-names : (b : Bool) (P : Type 0) → Decides b P → Names (cond b (some 0) none) (λ n. P × (n ≡ 0))
@@ -99,7 +99,7 @@ module _ (text : List ℕ) where
               h n .1 (subst (λ q. P q n) (sym same) (y .broken)),
         )
 
-    by-proc : (number : ℕ) (P : List Block → ℕ → Type 0) (test : ℕ → Bool) → ((p : ℕ) → p < length (plan .procs) → Decides (test p) (P (plan .procs) p))
+    by-proc : (number : ℕ) (P : LockPlan → ℕ → Type 0) (test : ℕ → Bool) → ((p : ℕ) → p < length (plan .procs) → Decides (test p) (P plan p))
         → RefusesBy (rule number (OfPlan (LowestProc P) text) ∷ []) (procRefusal number (formsOf text) test)
     unfolding plan procRefusal
     by-proc number P test decide =
@@ -107,9 +107,13 @@ module _ (text : List ℕ) where
         let o = procForm fs (lowestFrom test 0 (length (plan .procs))) in
         by-rule (rule number (OfPlan (LowestProc P) text)) o (of-plan (LowestProc P) o (lowest-names fs (accepted-denotes fs structured .1) test P decide))
 
-    rule-12 : RefusesBy (rule 12 (OfPlan (LowestProc Recursive) text) ∷ []) (recursive (formsOf text))
+    rule-12 : RefusesBy (rule 12 (OfPlan (LowestProc (λ plan. Recursive (plan .procs))) text) ∷ []) (recursive (formsOf text))
     unfolding recursive plan
-    rule-12 = by-proc 12 Recursive (λ p. reaches (plan .procs) p p) (λ p h. reaches-itself (plan .procs) p)
+    rule-12 = by-proc 12 (λ plan. Recursive (plan .procs)) (λ p. reaches (plan .procs) p p) (λ p h. reaches-itself (plan .procs) p)
+
+    rule-13 : RefusesBy (rule 13 (OfPlan (LowestProc Idle) text) ∷ []) (idle (formsOf text))
+    unfolding idle plan
+    rule-13 = by-proc 13 Idle (λ p. not (reachable plan p)) (λ p h. no-thread-reaches plan p)
 
     rule-9 : RefusesBy (rule 9 (OfPlan (LowestProc TooLarge) text) ∷ []) (tooLarge (formsOf text))
     unfolding tooLarge plan
@@ -142,7 +146,7 @@ module _ (text : List ℕ) where
         (λ _. then (by-form text readable 6 (λ fs before f. HighLock f) (breakingForm 6 fs) (locks-names fs))
         (λ _. then (by-form text readable 7 (λ fs before f. AbsentCallee fs f) (breakingForm 7 fs) (calls-names fs))
         (λ _. by-form text readable 8 (λ fs before f. AbsentProc fs f) (breakingForm 8 fs) (threads-names fs))))))
-        (λ formed. then (rule-12 text readable formed) (λ _. rule-9 text readable formed))
+        (λ formed. then (then (rule-12 text readable formed) (λ _. rule-13 text readable formed)) (λ _. rule-9 text readable formed))
 
   pub plan-refuses : RefusesBy (planRules text) (planRefusal text)
   unfolding planRules planRefusal linesRefusal

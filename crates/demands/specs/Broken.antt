@@ -1,6 +1,6 @@
 -- What it means that a text breaks a rule, and at which line: said of the text, and of the forms or the plan that its lines spell. A text keeps the rules 2 to
--- 9 and 12 exactly when its plan is not refused (theorems `accepted-exactly`, `unbroken-exactly`), and (r, l) is the refusal exactly when rule r is the first one broken, at
--- line l (`refused-exactly`). Each rule is stated for texts that break none before it, as `FirstBroken` asks: the numbers of brackets count on rule 4, sizes on rules 7 and 12,
+-- 9, 12 and 13 exactly when its plan is not refused (theorems `accepted-exactly`, `unbroken-exactly`), and (r, l) is the refusal exactly when rule r is the first one broken,
+-- at line l (`refused-exactly`). Each rule is stated for texts that break none before it, as `FirstBroken` asks: the numbers of brackets count on rule 4, sizes on rules 7 and 12,
 -- their sum on rule 8 too. 01, "Rules, in checking order".
 use Prim.Native.Nat.{ℕ, _+_, _<_, _≤_}
 use mathlib.Core.List.{List, [], _∷_, _++_}
@@ -13,8 +13,8 @@ use Rattle.text.specs.declared.Form.{Form}
 use Rattle.text.specs.declared.Form.the-variants.{Proc, Thread, Call, Hold}
 use Rattle.text.specs.Forms.{IsForm, isProc, isThread, isStatement, isBracket, isClose}
 use Rattle.text.specs.Lines.{split, endedLine, unindented, passedOver, IsText}
-use Rattle.semantics.specs.Plan.{Block, LockPlan}
-use Rattle.semantics.specs.Calls.{Recursive}
+use Rattle.semantics.specs.Plan.{LockPlan}
+use Rattle.semantics.specs.Calls.{Recursive, Reachable, Idle}
 use Rattle.semantics.specs.Sizes.{sizeOf, threadSizes}
 use Rattle.plan.specs.Grammar.{forms, Grammatical}
 use Rattle.plan.specs.Places.{NoPlace, EndsEarly}
@@ -113,17 +113,19 @@ abbrev pub BeginsProc : ℕ → List Form → Form → Type 0
 BeginsProc p before f = (f ≡ Proc) × (countIf isProc before ≡ p)
 
 -- "`(proc` line of the lowest such", of the procedures of which P holds
-pub record LowestProc (P : List Block → ℕ → Type 0) (plan : LockPlan) (n : ℕ) : Type 0 where
+pub record LowestProc (P : LockPlan → ℕ → Type 0) (plan : LockPlan) (n : ℕ) : Type 0 where
   pub proc : ℕ
   pub present : proc < length (plan .procs)
-  pub lowest : First (P (plan .procs)) proc
+  pub lowest : First (P plan) proc
   pub begins : FormWhere (BeginsProc proc) (forms plan) n
 
 -- 12, 02, change 2: "a procedure that reaches itself, .. names the `(proc` line of the lowest such": `Recursive`
 
+-- 13, 02, change 6: "a procedure that no thread names or reaches through calls", "naming the first idle procedure's `(proc` line": `Idle`
+
 -- 9: "Some procedure's size exceeds 1,024"
-abbrev pub TooLarge : List Block → ℕ → Type 0
-TooLarge ps p = maxSize < sizeOf ps p
+abbrev pub TooLarge : LockPlan → ℕ → Type 0
+TooLarge plan p = maxSize < sizeOf (plan .procs) p
 
 -- 1, for a schedule, by 02, change 4: "fewer entries than this sum", that of the threads' sizes; 01: "(line 0)"
 abbrev pub TooFewEntries : ℕ → LockPlan → ℕ → Type 0
@@ -143,7 +145,7 @@ pub record Rule : Type 1 where
 abbrev pub rule : ℕ → (ℕ → Type 0) → Rule
 rule n broken = record { number = n; broken = broken }
 
--- the rules that name a form by its number: 4 to 8, 12, which "follows rule 8", and 9
+-- the rules that name a form by its number: 4 to 8, 12, which "follows rule 8", 13, which "stands after 12 and before 9", and 9
 unfoldable pub formRules : List ℕ → List Rule
 formRules text =
     rule 4 (OfForms Misplaced text) ∷
@@ -151,7 +153,8 @@ formRules text =
     rule 6 (FirstForm (λ fs before f. HighLock f) text) ∷
     rule 7 (FirstForm (λ fs before f. AbsentCallee fs f) text) ∷
     rule 8 (FirstForm (λ fs before f. AbsentProc fs f) text) ∷
-    rule 12 (OfPlan (LowestProc Recursive) text) ∷
+    rule 12 (OfPlan (LowestProc (λ plan. Recursive (plan .procs))) text) ∷
+    rule 13 (OfPlan (LowestProc Idle) text) ∷
     rule 9 (OfPlan (LowestProc TooLarge) text) ∷
     []
 
@@ -193,11 +196,12 @@ FirstBroken (q ∷ qs) r l = ((q .number ≡ r) × q .broken l) ⊎ (Unbroken q 
 
 -- ---- a text that keeps the rules
 
--- The text is short and its lines spell a plan that keeps what the rules say: `Settled` has those of 4 to 8, then 12 and 9.
+-- The text is short and its lines spell a plan that keeps what the rules say: `Settled` has those of 4 to 8, then 12, 13 and 9.
 pub record AcceptedText (text : List ℕ) : Type 0 where
   pub short : length text ≤ maxBytes
   pub plan : LockPlan
   pub written : IsText text (forms plan)
   pub settled : Settled plan
   pub acyclic : (p : ℕ) → Recursive (plan .procs) p → ⊥
+  pub reachable : (p : ℕ) → p < length (plan .procs) → Reachable plan p
   pub sizes : (p : ℕ) → p < length (plan .procs) → sizeOf (plan .procs) p ≤ maxSize

@@ -1,4 +1,5 @@
--- Tests and what they say; tables that pass one; choices, folds and writes in the shape of a function's needs; equal lists; masks; ascending lists; sums; the pigeonhole.
+-- Tests and what they say; tables that pass one; choices, folds and writes in the shape of a function's needs; equal lists; masks; what stands at a place, and members by their
+-- places; ascending lists; sums; the pigeonhole.
 pub mod Tests
 pub mod Tables
 pub mod Bytes
@@ -8,6 +9,8 @@ pub mod Writes
 pub mod Wrote
 pub mod Bits
 pub mod Masks
+pub mod Places
+pub mod Members
 pub mod Ascending
 pub mod Sums
 pub mod Pigeonhole

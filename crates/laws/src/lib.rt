@@ -1,1 +1,1 @@
-// Laws that every crate cites: folds, choices, writes, masks, ascending lists. No code, and no definition of the product.
+// Laws that every crate cites: tables, folds, choices, bytes, writes, masks, members of lists, ascending lists, sums, the pigeonhole. No code, and no definition of the product.

@@ -6,7 +6,7 @@ use mathlib.Core.Logic.{⊎-elim, _≢_}
 use mathlib.Core.Path.{_≡_, refl, sym, ap, _∙_, subst}
 use native.Mathlib.Omega.{arith}
 use lib.ListN.{length, take, drop, getD, set, length-set}
-use lib.Seq.{getD-take, getD-set-same, getD-set-other, take-suc}
+use lib.Seq.{getD-set-same, getD-set-other, take-suc}
 use Rattle.limits.specs.Limits.{maxThreads, maxPairs}
 use Rattle.laws.specs.Wrote.{Wrote}
 use Rattle.laws.proofs.Tests.{eq-or-ne}
@@ -17,6 +17,7 @@ use Rattle.plan.proofs.WithinSize.{few-pairs}
 use Rattle.candidates.specs.Candidates.{listsBelow, row, rows}
 use Rattle.procs.specs.declared.Layout.{Layout}
 use Rattle.procs.specs.Laid.{Laid}
+use Rattle.procs.proofs.Layouts.{runs-present}
 use Rattle.lists.specs.Lists.{ListsAsked, ThreadLists}
 use Rattle.lists.proofs.Pairs.{pair-small, listed-there, kept-before}
 
@@ -58,9 +59,7 @@ module _ (table : List ℕ) (l : Layout) (lists₀ counts₀ lists counts : List
   few-threads = omega (arith, laid .threads-all, within .plan .settled .few-threads)
 
   present : (u : ℕ) → u < l .threads → getD (l .runs) u 0 < length (tablePlan table .procs)
-  present u h =
-      let e : getD (tablePlan table .threads) u 0 ≡ getD (l .runs) u 0 = ap (λ x. getD x u 0) (sym (laid .runs-are)) ∙ getD-take (l .threads) (l .runs) u 0 h in
-      rw (← e) (within .plan .settled .threads-present u (omega (arith, laid .threads-all)))
+  present u h = runs-present table l laid u h (within .plan)
 
   module _ (n : ℕ) (c : n ≡ l .threads) (h : t < n) where
     pub proc-there : getD (l .runs) t 0 < l .procs

@@ -58,7 +58,7 @@ pub record RuleTenUnused (text : List ℕ) : Type 0 where
   pub lockplan-space : (n : ℕ) → NeedsNumber text n → NeverTen (λ x. readCounted n ≡ Refused x)
 
 pub record PairLimit (text : List ℕ) : Type 0 where
-  -- "Show that rule 10 therefore never occurs": no procedure of a text that keeps the rules before it, 2 to 8, 12 and 9, has more than 511 critical pairs
+  -- "Show that rule 10 therefore never occurs": no procedure of a text that keeps the rules before it, 2 to 8, 12, 13 and 9, has more than 511 critical pairs
   pub few : (x : AcceptedText text) (p : ℕ) → p < length (x .plan .procs) → FewPairs (x .plan .procs) p
   -- "the pair buffer to 511 words": of the pair list, whichever procedure is asked for
   pub pair-list : (p : ℕ) (before : List ℕ) (r : Counted) (after : List ℕ) → Listed text p before r after → ListedWithin (length before) r

@@ -21,8 +21,8 @@ use Rattle.plan.specs.declared.Reading.the-variants.{Accepted}
 use Rattle.plan.specs.Table.{formAt, tableForms, FormRoom}
 use Rattle.plan.specs.Grammar.{forms, planIn}
 use Rattle.plan.specs.Settled.{Settled, tablePlan, PlanTable, RulesKept}
-use Rattle.plan.specs.Rules.{refusedAt, tooLong, linesRefusal, grammarRefusal, recursive, tooLarge, procsRefusal, formsRefusal, inFile}
-use Rattle.plan.specs.Rules.{planRefusal, planOf, Tabled}
+use Rattle.plan.specs.Rules.{refusedAt, tooLong, linesRefusal, grammarRefusal, recursive, idle, tooLarge, reachRefusal, procsRefusal, formsRefusal}
+use Rattle.plan.specs.Rules.{inFile, planRefusal, planOf, Tabled}
 use Rattle.plan.proofs.Kept.{kept, no-line, unflagged}
 use Rattle.plan.proofs.Denotes.{accepted-denotes}
 use Rattle.plan.proofs.Filling.{accepted-none, accepted-count}
@@ -36,6 +36,7 @@ pub record AcceptedRules (text : List ℕ) : Type 0 where
   pub readable : unreadableLine text ≡ none
   pub formed : grammarRefusal (formsOf text) ≡ none
   pub acyclic : recursive (formsOf text) ≡ none
+  pub reachable : idle (formsOf text) ≡ none
   pub sizes : tooLarge (formsOf text) ≡ none
 
 pub file-none : (text : List ℕ) (o : Option Refusal) → inFile text o ≡ none → o ≡ none
@@ -57,18 +58,20 @@ accepted-rules text e =
     let fs = formsOf text in
     let x = first-none (orElse (tooLong text) (refusedAt 3 (unreadableLine text))) (inFile text (orElse (grammarRefusal fs) (procsRefusal fs))) e in
     let y = first-none (grammarRefusal fs) (procsRefusal fs) (file-none text _ (x .1)) in
-    let z = first-none (recursive fs) (tooLarge fs) (y .1) in
+    let z = first-none (reachRefusal fs) (tooLarge fs) (y .1) in
+    let reach = first-none (recursive fs) (idle fs) (z .0) in
     record {
       short = lines-short text (x .0);
       readable = no-line 3 (unreadableLine text) (first-none (tooLong text) (refusedAt 3 (unreadableLine text)) (x .0) .1);
       formed = y .0;
-      acyclic = z .0;
+      acyclic = reach .0;
+      reachable = reach .1;
       sizes = z .1;
     }
 
 pub rules-accepted : (text : List ℕ) → AcceptedRules text → planRefusal text ≡ none
 unfolding planRefusal linesRefusal tooLong formsRefusal orElse
-rules-accepted text r = rw (le-ltb maxBytes (length text) (r .short), r .readable, r .formed, r .acyclic, r .sizes)
+rules-accepted text r = rw (le-ltb maxBytes (length text) (r .short), r .readable, r .formed, r .acyclic, r .reachable, r .sizes)
 
 -- the forms of an accepted text are those of its plan; rules 4 to 8 settle the plan, with rule 12 its procedures have ranks, and with rule 9 they have few pairs
 module _ (text : List ℕ) (e : planRefusal text ≡ none) where

@@ -5,13 +5,14 @@ pub mod States
 pub mod Accepts
 pub mod Denotes
 pub mod FirstMisplaced
--- Rules 5 to 8, and a rule of procedures.
+-- Rules 5 to 8, and the rules of procedures.
 pub mod Counting
 pub mod Kept
 pub mod Sound
 pub mod Allowed
 pub mod Lowest
 pub mod Ranked
+pub mod ReachableProcs
 pub mod WithinSize
 -- A form as a code in a table, and the table while it is filled.
 pub mod Codes
@@ -19,5 +20,3 @@ pub mod Filling
 pub mod AcceptedTable
 -- The laws that the proofs of the functions cite.
 pub mod Passes
--- The reference cases.
-pub mod Examples

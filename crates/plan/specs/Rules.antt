@@ -1,8 +1,8 @@
 -- The rules in checking order, as four refusals: the plan's, the verdict's, the pair list's, the tidy copy's. 01, "Rules, in checking order": "A refusal returns its number and
--- a line (0 where none is named) .. Each rule is tested over the whole text before the next." The rules 4 to 9 and 12 are said of the list of forms and name a form by its
--- number, from 1; `inFile` names its line in the file. 02, change 5, of rule 10: "take it out, its number unused".
+-- a line (0 where none is named) .. Each rule is tested over the whole text before the next." The rules 4 to 9, 12 and 13 are said of the list of forms and name a form by
+-- its number, from 1; `inFile` names its line in the file. 02, change 5, of rule 10: "take it out, its number unused".
 use Prim.Native.Nat.{ℕ, zero, suc, _-_}
-use mathlib.Core.Bool.{Bool, _&&_, cond}
+use mathlib.Core.Bool.{Bool, not, _&&_, cond}
 use mathlib.Core.List.{List, [], _∷_}
 use mathlib.Core.Option.{Option, none, some, orElse}
 use mathlib.Core.Path.{_≡_}
@@ -14,7 +14,7 @@ use Rattle.text.specs.declared.Refusal.{Refusal}
 use Rattle.text.specs.Forms.{isProc}
 use Rattle.text.specs.Lines.{refusal, formsOf, unreadableLine, lineOf}
 use Rattle.semantics.specs.Plan.{LockPlan}
-use Rattle.semantics.specs.CallMasks.{reaches}
+use Rattle.semantics.specs.CallMasks.{reaches, reachable}
 use Rattle.semantics.specs.Sizes.{sizeOf, threadSizes}
 use Rattle.plan.specs.Grammar.{planIn}
 use Rattle.plan.specs.Structure.{misplacedForm}
@@ -77,15 +77,23 @@ procRefusal rule fs test = refusedAt rule (procForm fs (lowestFrom test 0 (lengt
 unfoldable pub recursive : List Form → Option Refusal
 recursive fs = procRefusal 12 fs (λ p. reaches (planIn fs .procs) p p)
 
+-- 13, 02, change 6: "a procedure that no thread names or reaches through calls", "naming the first idle procedure's `(proc` line"
+unfoldable pub idle : List Form → Option Refusal
+idle fs = procRefusal 13 fs (λ p. not (reachable (planIn fs) p))
+
 -- 9: "Some procedure's size exceeds 1,024"
 unfoldable pub tooLarge : List Form → Option Refusal
 tooLarge fs = procRefusal 9 fs (λ p. ltb maxSize (sizeOf (planIn fs .procs) p))
 
--- rules 12 and 9, of the forms of a plan: 12 "follows rule 8"
-abbrev pub procsRefusal : List Form → Option Refusal
-procsRefusal fs = orElse (recursive fs) (tooLarge fs)
+-- rules 12 and 13, of the forms of a plan: by what its procedures reach
+abbrev pub reachRefusal : List Form → Option Refusal
+reachRefusal fs = orElse (recursive fs) (idle fs)
 
--- the rules over the forms: 4 to 8, 12, 9
+-- rules 12, 13 and 9: 12 "follows rule 8", 13 "stands after 12 and before 9"
+abbrev pub procsRefusal : List Form → Option Refusal
+procsRefusal fs = orElse (reachRefusal fs) (tooLarge fs)
+
+-- the rules over the forms: 4 to 8, 12, 13, 9
 unfoldable pub formsRefusal : List Form → Option Refusal
 formsRefusal fs = orElse (grammarRefusal fs) (procsRefusal fs)
 
@@ -98,7 +106,7 @@ abbrev pub inFile : List ℕ → Option Refusal → Option Refusal
 inFile text none = none
 inFile text (some x) = some (refusalInFile text x)
 
--- the plan's rules: 2 to 8, 12, 9. For the space that a schedule needs these are 02's, change 4: "every rule on it up to and with 9, in checking order"
+-- the plan's rules: 2 to 8, 12, 13, 9. For the space that a schedule needs these are 02's, change 4: "every rule on it up to and with 9, in checking order"
 unfoldable pub planRefusal : List ℕ → Option Refusal
 planRefusal text = orElse (linesRefusal text) (inFile text (formsRefusal (formsOf text)))
 

@@ -56,7 +56,7 @@ pub record PlanTable (ws : List ℕ) : Type 0 where
   pub written : tableForms ws ≡ forms (tablePlan ws)
   pub settled : Settled (tablePlan ws)
 
--- the table of a plan that keeps the rules 4 to 9 and 12: what an accepted text leaves (theorem `rules-kept`)
+-- the table of a plan that keeps the rules 4 to 9 and 12, as that of an accepted text does (theorem `rules-kept`). Rule 13 is not asked: nothing rests on it
 pub record RulesKept (ws : List ℕ) : Type 0 where
   pub plan : PlanTable ws
   pub acyclic : recursive (tableForms ws) ≡ none

@@ -1,6 +1,5 @@
--- Where the procedures of a plan stand among its forms. A block has no `(proc`, so the places after those forms are the first places of the
--- procedures' blocks (`places-starts`), one for each procedure (`places-count`), and the numbers of those forms too (`places-numbers`). The threads are
--- those of the plan (`threads-of`).
+-- Where the procedures of a plan stand among its forms. A block has no `(proc`, so the places after those forms are the first places of the procedures' blocks
+-- (`places-starts`), one for each procedure (`places-count`), and the numbers of those forms too (`places-numbers`). The threads are those of the plan (`threads-of`).
 use Prim.Native.Nat.{ℕ, zero, suc, _+_, _-_, _<_, _≤_}
 use native.Mathlib.Numerals.{add-one}
 use native.Mathlib.Omega.{arith}
@@ -9,8 +8,9 @@ use mathlib.Core.List.{List, [], _∷_, map}
 use mathlib.Core.Bool.{Bool, true, false, _&&_, cond}
 use lib.Dec.{eqb, eqb·suc-zero}
 use lib.ListN.{length, take, drop, getD, length-map, length-drop, length-take}
-use lib.Seq.{drop-drop, getD-take}
+use lib.Seq.{drop-drop}
 use Rattle.limits.specs.Limits.{maxProcs}
+use Rattle.laws.proofs.Places.{front-at}
 use Rattle.text.specs.declared.Form.{Form}
 use Rattle.text.specs.declared.Form.the-variants.{Proc, Close, Two}
 use Rattle.text.specs.Forms.{numberIn, kindIn, isProc}
@@ -190,7 +190,7 @@ module _ (ws : List ℕ) (t : PlanTable ws) where
   places-starts starts n h e =
       let m : n ≡ length (tablePlan ws .procs) = omega (arith, length-take n starts, ap length e, table-places) in
       let at : (p : ℕ) → p < length (tablePlan ws .procs) → getD starts p 0 ≡ getD (placesFrom 0 (tableForms ws)) p 0 =
-      λ p k. sym (getD-take n starts p 0 (omega arith)) ∙ ap (λ l. getD l p 0) e in
+      λ p k. front-at n starts (placesFrom 0 (tableForms ws)) e p 0 (omega arith) in
       record {
         room = omega arith;
         stands = λ p k. rw (at p k) (stands-placed _ _ _ (table-placed p k));

@@ -8,9 +8,10 @@ use mathlib.Core.Bool.{Bool, true, false}
 use mathlib.Core.List.{List, map}
 use lib.Bits.{bitOr}
 use lib.ListN.{length, take, getD, set, length-map, length-take}
-use lib.Seq.{getD-take, take-length}
+use lib.Seq.{take-length}
 use Rattle.limits.specs.Limits.{maxProcs}
 use Rattle.laws.specs.Mask.{inMask}
+use Rattle.laws.proofs.Places.{front-at}
 use Rattle.laws.proofs.Writes.{map-made}
 use Rattle.semantics.specs.Plan.{Block}
 use Rattle.semantics.specs.CallMasks.{callMask, joinThrough, warshallRound, reachMasks, reachMask}
@@ -100,7 +101,7 @@ module _ (table : List ℕ) (procs : ℕ) (t : PlanTable table) (c : procs ≡ l
     rounds-done h i =
         let z : k ≡ length ps = omega arith in
         let at : (p : ℕ) → p < length ps → getD masks p 0 ≡ reachMask ps p =
-        λ p b. sym (getD-take procs masks p 0 (omega arith)) ∙ ap (λ l. getD l p 0) e ∙ ap (λ d. getD (reachMasks d ps) p 0) z in
+        λ p b. front-at procs masks (reachMasks k ps) e p 0 (omega arith) ∙ ap (λ d. getD (reachMasks d ps) p 0) z in
         record {
           room = omega (arith, length-take procs masks, ap length e, rounds-length k);
           exact = λ p b q. rw (at p b) (reaches-is ps p q);

@@ -1,6 +1,6 @@
 -- One move over the lent tables is a move of the theory (`step-back`, `jump-back`), so the way back goes on leading to the target; and the sum of the
 -- positions falls. The theory's positions are the first n of the table.
-use Prim.Native.Nat.{ℕ, zero, suc, _+_, _-_, _*_, _<_, _≤_}
+use Prim.Native.Nat.{ℕ, suc, _+_, _-_, _<_, _≤_}
 use native.Mathlib.Nat.{eq-zero-or-pos}
 use native.Mathlib.Omega.{arith}
 use mathlib.Core.Path.{_≡_, sym, ap, _∙_, subst}
@@ -13,7 +13,6 @@ use lib.Seq.{drop-length, length-take-le, getD-take, getD-set-same, getD-set-oth
 use Rattle.limits.specs.Limits.{maxSize, maxEntries}
 use Rattle.laws.proofs.Tests.{eq-or-ne}
 use Rattle.laws.proofs.Bits.{bit-none}
-use Rattle.laws.specs.Sums.{total}
 use Rattle.laws.proofs.Sums.{total-lt, total-most, total-at}
 use Rattle.semantics.specs.Plan.{Block}
 use Rattle.semantics.specs.Run.{ThreadState}

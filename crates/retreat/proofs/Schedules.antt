@@ -13,7 +13,6 @@ use Rattle.limits.specs.Limits.{maxThreads, lockCount, maskSize, maxSize, maxEn
 use Rattle.laws.specs.Mask.{inMask}
 use Rattle.laws.specs.Wrote.{Wrote}
 use Rattle.laws.proofs.Tests.{search-below}
-use Rattle.laws.specs.Sums.{total}
 use Rattle.semantics.specs.Plan.{Block, done, hold, _⨾_, bodyIn, LockPlan, Plain}
 use Rattle.semantics.specs.Run.{ThreadState, thread, initial, unlocked}
 use Rattle.semantics.specs.Sizes.{sizeOf, threadSize, threadSizes}

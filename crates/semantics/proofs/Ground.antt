@@ -1,5 +1,6 @@
--- Groundwork: lock sets as masks, tables of threads, the depth to which calls are followed.
+-- Groundwork: lock sets as masks, members that pass a test, tables of threads, the depth to which calls are followed.
 pub mod LockSets
+pub mod Members
 pub mod Tables
 pub mod CallDepth
 pub mod SizeDepth

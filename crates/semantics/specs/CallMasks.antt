@@ -1,12 +1,12 @@
 -- What each procedure reaches, computed: a mask of procedures for each, closed over the calls by Warshall's algorithm. Digit q of p's mask says whether p reaches q (theorem
--- `reaches-is`).
+-- `reaches-is`). From these masks the one of the procedures that are reachable from the threads (theorem `reachable-is`).
 use Prim.Native.Nat.{ℕ, zero, suc, _^_}
 use mathlib.Core.Bool.{Bool, cond}
-use mathlib.Core.List.{List, map}
+use mathlib.Core.List.{List, foldl, map}
 use lib.Bits.{bitOr}
 use lib.ListN.{length, getD}
 use Rattle.laws.specs.Mask.{inMask}
-use Rattle.semantics.specs.Plan.{Block, done, skip, call, hold, loop, either, end}
+use Rattle.semantics.specs.Plan.{Block, done, skip, call, hold, loop, either, end, LockPlan}
 
 -- the procedures that a block calls
 unfoldable pub callMask : Block → ℕ
@@ -38,3 +38,15 @@ reachMask ps p = getD (reachMasks (length ps) ps) p 0
 -- whether p reaches q (theorem `reaches-is`)
 abbrev pub reaches : List Block → ℕ → ℕ → Bool
 reaches ps p q = inMask (reachMask ps p) q
+
+-- a procedure n and, by the masks, those that it reaches, joined to m
+unfoldable pub joinReached : List ℕ → ℕ → ℕ → ℕ
+joinReached masks m n = bitOr m (bitOr (2 ^ n) (getD masks n 0))
+
+-- the procedures ns and those that they reach
+abbrev pub reachableMask : List ℕ → List ℕ → ℕ
+reachableMask masks ns = foldl (joinReached masks) 0 ns
+
+-- whether some thread of a plan names p or reaches it (theorem `reachable-is`)
+abbrev pub reachable : LockPlan → ℕ → Bool
+reachable plan p = inMask (reachableMask (reachMasks (length (plan .procs)) (plan .procs)) (plan .threads)) p

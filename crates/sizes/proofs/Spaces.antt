@@ -3,12 +3,12 @@
 use Prim.Native.Nat.{ℕ, _+_, _*_, _^_, _<_, _≤_, min}
 use native.Mathlib.Omega.{arith}
 use native.Mathlib.Nat.{eq-or-lt-of-le}
-use mathlib.Core.Path.{_≡_, refl, sym, ap, _∙_}
+use mathlib.Core.Path.{_≡_, refl, ap, _∙_}
 use mathlib.Core.List.{List}
 use mathlib.Core.Logic.{⊎-elim}
 use mathlib.Core.Option.{none}
 use lib.ListN.{length, getD, set, length-set}
-use lib.Seq.{getD-set-same, getD-set-other, getD-take}
+use lib.Seq.{getD-set-same, getD-set-other}
 use Rattle.limits.specs.Limits.{maxThreads, sizeRoom}
 use Rattle.laws.specs.Sums.{total}
 use Rattle.laws.proofs.Sums.{total-same, total-last}
@@ -21,6 +21,7 @@ use Rattle.plan.specs.Rules.{tooLarge, readingOf}
 use Rattle.plan.proofs.WithinSize.{thread-within}
 use Rattle.procs.specs.declared.Layout.{Layout}
 use Rattle.procs.specs.Laid.{Laid}
+use Rattle.procs.proofs.Layouts.{runs-at}
 use Rattle.sizes.specs.declared.Space.{Space}
 use Rattle.sizes.specs.Passes.{knownSize}
 use Rattle.sizes.specs.Sized.{Sized, ThreadsCut, Summed}
@@ -67,13 +68,9 @@ module _ (ws sizes : List ℕ) (l : Layout) (plan : PlanTable ws) (d : Laid ws l
   abbrev p : LockPlan
   p = tablePlan ws
 
-  -- the procedure that a thread runs
-  runs-at : (t : ℕ) → t < length (p .threads) → getD (l .runs) t 0 ≡ getD (p .threads) t 0
-  runs-at t h = sym (getD-take (l .threads) (l .runs) t 0 (omega (arith, d .threads-all))) ∙ ap (λ ns. getD ns t 0) (d .runs-are)
-
   size-at : (t : ℕ) → t < length (p .threads) → knownSize sizes (getD (l .runs) t 0) ≡ min sizeRoom (threadSize p t)
   unfolding threadSize
-  size-at t h = rw (runs-at t h) (s .entries (getD (p .threads) t 0) (plan .settled .threads-present t h))
+  size-at t h = rw (runs-at ws l d t (omega (arith, d .threads-all))) (s .entries (getD (p .threads) t 0) (plan .settled .threads-present t h))
 
   pub threads-cut : ThreadsCut (l .runs) (l .threads) sizes
   threads-cut = record { cut = λ t h. omega (arith, size-at t (omega (arith, d .threads-all))) }

@@ -10,12 +10,12 @@ use Rattle.text.specs.Kinds.{kindOf, planKind, twoKind, threadKind, callKind, h
 use Rattle.text.specs.Kinds.{betweenKeyword, afterKeyword, numberOf, appendDigit, leadingOf, digitOf}
 use Rattle.text.specs.Lines.{split, unindented, passedOver, formsIn, formsOf, unreadable, unreadableLine, lineFor, lineOf}
 use Rattle.semantics.specs.Plan.{bodyIn}
-use Rattle.semantics.specs.CallMasks.{callMask, joinThrough, warshallRound, reachMasks, reachMask}
+use Rattle.semantics.specs.CallMasks.{callMask, joinThrough, warshallRound, reachMasks, reachMask, joinReached}
 use Rattle.semantics.specs.Sizes.{sizeWith, sizeAt, sizeOf, threadSize, threadSizes}
 use Rattle.plan.specs.Grammar.{inFront, behind, planIn}
 use Rattle.plan.specs.Structure.{among, only, closeBlock, onClose, advanceOf, misplaced, misplacedForm}
 use Rattle.plan.specs.Limits.{counted, overLimit, pastLimitFrom, pastLimitForm, testedBy, leastBad, breaks, breaking, countIf, breakingForm}
-use Rattle.plan.specs.Rules.{tooLong, linesRefusal, referencesRefusal, grammarRefusal, formsRefusal, planOf, procFormFrom, lowestFrom, procRefusal, recursive, tooLarge, planRefusal}
+use Rattle.plan.specs.Rules.{tooLong, linesRefusal, referencesRefusal, grammarRefusal, formsRefusal, planOf, procFormFrom, lowestFrom, procRefusal, recursive, idle, tooLarge, planRefusal}
 use Rattle.report_lines.specs.Lines.{digitsIn, digits, refusedLine}
 use Rattle.space.specs.Slip.{sizeLine, sumLine, sizeLines, slipOf, printedSlip}
 use Rattle.space.specs.Examples.{SlipsRight}
@@ -25,5 +25,5 @@ unfolding printedSlip slipOf sizeLines sizeLine sumLine digits digitsIn refusedL
     afterKeyword numberOf appendDigit leadingOf digitOf split unindented passedOver formsIn formsOf unreadable unreadableLine lineFor lineOf pick orElse bind equal inFront behind
     planIn among only closeBlock onClose advanceOf misplaced misplacedForm counted overLimit pastLimitFrom pastLimitForm testedBy leastBad numberIn kindIn breaks breaking countIf
     breakingForm tooLong linesRefusal referencesRefusal grammarRefusal formsRefusal planOf procFormFrom lowestFrom procRefusal recursive callMask joinThrough warshallRound
-    reachMasks reachMask tooLarge planRefusal bodyIn sizeWith sizeAt sizeOf threadSize threadSizes total bit
+    reachMasks reachMask idle joinReached tooLarge planRefusal bodyIn sizeWith sizeAt sizeOf threadSize threadSizes total bit
 slips-right = record { a = refl; threads = refl; empty = refl }

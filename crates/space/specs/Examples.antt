@@ -1,5 +1,5 @@
 -- Texts with what the program `slip` prints of them. That each row is right is the theorem `slips-right`.
-use mathlib.Core.List.{List, [], _∷_}
+use mathlib.Core.List.{List, []}
 use Prim.Native.Nat.{ℕ}
 use mathlib.Core.Path.{_≡_}
 use Rattle.laws.specs.Bytes.{bytes}

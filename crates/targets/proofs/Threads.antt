@@ -6,7 +6,7 @@ use mathlib.Core.Logic.{⊎-elim, _≢_}
 use mathlib.Core.Path.{_≡_, refl, sym, ap, _∙_}
 use borrow.Rule.Slice.PartMut.{putMid}
 use lib.ListN.{length, getD, set, take, drop, length-drop, replicate, getD-replicate}
-use lib.Seq.{length-take-le, getD-take, getD-set-same, getD-set-other}
+use lib.Seq.{length-take-le, getD-set-same, getD-set-other}
 use Rattle.limits.specs.Limits.{maxThreads, maxSize, maxEntries}
 use Rattle.laws.proofs.Tests.{eq-or-ne}
 use Rattle.semantics.specs.Plan.{bodyIn}
@@ -18,6 +18,7 @@ use Rattle.plan.proofs.WithinSize.{sizes-within}
 use Rattle.paths.specs.Walks.{PathAsked, PathWritten}
 use Rattle.paths.specs.Wanted.{FirstWantedAt}
 use Rattle.procs.specs.declared.Layout.{Layout}
+use Rattle.procs.proofs.Layouts.{runs-at}
 use Rattle.retreat.specs.declared.Targets.{Targets}
 use Rattle.targets.specs.Tables.{procOf, beginOf, LaidPlan, BeginMasks, AtStarts, Target, RowWritten, MemberPut}
 use Rattle.targets.proofs.Rows.{row-same, row-other}
@@ -28,7 +29,7 @@ few-threads ws l a = rw (a .laid .threads-all) (a .plan .settled .few-threads)
 module _ (ws : List ℕ) (l : Layout) (t : ℕ) (a : LaidPlan ws l) (h : t < l .threads) where
   pub proc-is : getD (l .runs) t 0 ≡ procOf ws t
   unfolding procOf
-  proc-is = sym (getD-take (l .threads) (l .runs) t 0 h) ∙ ap (λ x. getD x t 0) (a .laid .runs-are)
+  proc-is = runs-at ws l (a .laid) t h
 
   proc-in : procOf ws t < length (tablePlan ws .procs)
   unfolding procOf

@@ -1,5 +1,5 @@
 -- The bare text of a plan within the rules is read as the forms of that plan (`bare-read`), since their numbers are below 1,000. So it denotes the plan, two such plans with
--- one bare text are one, and it is accepted where it is short enough and the plan keeps rules 12 and 9.
+-- one bare text are one, and it is accepted where it is short enough and the plan keeps rules 12, 13 and 9.
 use Prim.Native.Nat.{ℕ, suc, _<_, _≤_}
 use native.Mathlib.Omega.{arith}
 use mathlib.Core.Path.{_≡_, sym, ap, subst, _∙_}
@@ -16,7 +16,7 @@ use Rattle.text.proofs.Splits.{written-readable}
 use Rattle.semantics.specs.Plan.{Block, done, skip, call, hold, loop, either, end, LockPlan, bodyIn, Written}
 use Rattle.plan.specs.Grammar.{blockForms, procForms, threadForms, forms, planIn}
 use Rattle.plan.specs.Settled.{Settled}
-use Rattle.plan.specs.Rules.{recursive, tooLarge, planRefusal, planOf}
+use Rattle.plan.specs.Rules.{recursive, idle, tooLarge, planRefusal, planOf}
 use Rattle.plan.proofs.Trees.{plan-of-forms}
 use Rattle.plan.proofs.Allowed.{settled-grammatical, settled-accepted}
 use Rattle.plan.proofs.AcceptedTable.{rules-accepted}
@@ -79,11 +79,12 @@ module _ (plan : LockPlan) (x : Settled plan) where
   unfolding planOf
   bare-plan = ap planIn (bare-read .0) ∙ plan-of-forms plan (settled-grammatical plan x)
 
-  pub bare-accepted : length (bareText plan) ≤ maxBytes → recursive (forms plan) ≡ none → tooLarge (forms plan) ≡ none → planRefusal (bareText plan) ≡ none
-  bare-accepted h acyclic large =
+  pub bare-accepted : length (bareText plan) ≤ maxBytes → recursive (forms plan) ≡ none → idle (forms plan) ≡ none → tooLarge (forms plan) ≡ none
+      → planRefusal (bareText plan) ≡ none
+  bare-accepted h acyclic reachable large =
       let e : formsOf (bareText plan) ≡ forms plan = bare-read .0 in
       rules-accepted (bareText plan)
-      (record { short = h; readable = bare-read .1; formed = rw e (settled-accepted plan x); acyclic = rw e acyclic; sizes = rw e large })
+      (record { short = h; readable = bare-read .1; formed = rw e (settled-accepted plan x); acyclic = rw e acyclic; reachable = rw e reachable; sizes = rw e large })
 
 pub bare-injective : (a b : LockPlan) → Settled a → Settled b → bareText a ≡ bareText b → a ≡ b
 bare-injective a b x y e = sym (bare-plan a x) ∙ ap planOf e ∙ bare-plan b y

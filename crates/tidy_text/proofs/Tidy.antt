@@ -44,7 +44,7 @@ module _ (text : List ℕ) (h : planRefusal text ≡ none) where
       let e : formsOf text ≡ forms (planOf text) = accepted-text text h in
       let fits : length (bareText (planOf text)) ≤ maxBytes = tidy-fits in
       let r = accepted-rules text h in
-      bare-accepted (planOf text) (accepted-settled text h) fits (rw e at (r .acyclic)) (rw e at (r .sizes))
+      bare-accepted (planOf text) (accepted-settled text h) fits (rw e at (r .acyclic)) (rw e at (r .reachable)) (rw e at (r .sizes))
 
   -- "and tidying a tidy copy alters nothing"
   pub tidy-twice : tidyOf (tidyOf text) ≡ tidyOf text

@@ -108,7 +108,23 @@ impl Chains {
         self.draft().text()
     }
 
-    /// Takes chains out, one after the other, until no rule refuses the plan.
+    /// The same without the bodies that no thread comes to, from the last on: a body is
+    /// called by those behind it alone.
+    fn without_idle(mut self) -> Chains {
+        for body in (0..self.bodies.len()).rev() {
+            let called = self.bodies.iter().flatten().any(|chain| chain.call == Some(body));
+            if !called && !self.threads.contains(&body) {
+                self.bodies.remove(body);
+                let calls = self.bodies.iter_mut().flatten().filter_map(|chain| chain.call.as_mut());
+                let numbers = calls.chain(&mut self.threads).filter(|number| **number > body);
+                numbers.for_each(|number| *number -= 1);
+            }
+        }
+        self
+    }
+
+    /// Takes chains out, one after the other, and bodies that are idle, until no rule
+    /// refuses the plan.
     fn fitted(mut self, random: &mut Random) -> Option<Chains> {
         for _ in 0..400 {
             match sized(&self.text()) {
@@ -120,6 +136,7 @@ impl Chains {
                         chains.remove(random.below(chains.len()));
                     }
                 }
+                Err(Refusal { rule: 13, .. }) => self = self.without_idle(),
                 Err(_) => return None,
             }
         }

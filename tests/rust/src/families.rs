@@ -383,18 +383,26 @@ pub fn call_chain() -> Draft {
     Draft { procs, threads: vec![0; 6] }
 }
 
-/// 64 procedures in any order of the text and in four layers, each with about twenty
-/// calls of those below, 1,024 statements in all. All locks ascend: free.
+/// 64 procedures in any order of the text and in four layers, of 16, 30, 12 and 6, each
+/// with about twenty calls of those below, 1,024 statements in all. Most calls are of any of
+/// the lowest layer; each procedure of the next two is called once, so that the threads of
+/// the highest reach all. All locks ascend: free.
 pub fn layered_calls() -> Draft {
     let random = &mut Random::new(0);
-    let mut calls = |layer: usize, count: usize| -> Vec<Tree> {
-        (0..count).map(|_| Call(16 * layer + random.below(16))).collect()
-    };
-    let body = |proc: usize| match proc / 16 {
-        0 => vec![nest(&[8 + proc, 16 + proc], vec![])],
-        1 => calls(0, 20),
-        2 => [calls(0, 9), calls(1, 1), vec![hold(proc % 8, [calls(0, 9), calls(1, 1)].concat())]].concat(),
-        _ => [calls(0, 17), calls(1, 1), calls(2, 2)].concat(),
+    let mut lowest = |count: usize| -> Vec<Tree> { (0..count).map(|_| Call(random.below(16))).collect() };
+    let body = |proc: usize| match proc {
+        0..16 => vec![nest(&[8 + proc, 16 + proc], vec![])],
+        16..20 => lowest(21),
+        20..46 => lowest(20),
+        46..58 => {
+            let callee = 16 + 2 * (proc - 46);
+            let inside = [lowest(9), vec![Call(callee)]].concat();
+            [lowest(9), vec![Call(callee + 1), hold(proc % 8, inside)]].concat()
+        }
+        _ => {
+            let (one, two) = (40 + (proc - 58), 46 + 2 * (proc - 58));
+            [lowest(17), vec![Call(one), Call(two), Call(two + 1)]].concat()
+        }
     };
     let procs = (0..MAX_PROCS).map(body).collect();
     Draft { procs, threads: (MAX_PROCS - 6..MAX_PROCS).collect() }.permuted(&random.permutation(MAX_PROCS))

@@ -257,23 +257,26 @@ pub fn lists_of_any(mut lists: impl FnMut(usize) -> Vec<Vec<usize>>) -> Draft {
 }
 
 /// 64 procedures in four layers as in `layered_calls`, with longer chains in the lowest
-/// and locks around calls in the others. All locks ascend: free.
+/// and locks around calls in the others: of any of the lowest, and of the others in turn,
+/// so that the threads reach all. All locks ascend: free.
 pub fn layered_calls() -> Draft {
     let random = &mut Random::new(0);
     let mut procs: Vec<Vec<Tree>> =
         (0..16).map(|_| vec![nest(&some_of(12..LOCKS, 6, random), vec![])]).collect();
-    let mut calls = |layer: usize, count: usize| -> Vec<Tree> {
-        (0..count).map(|_| Call(16 * layer + random.below(16))).collect()
-    };
-    // So many locks of four, each around so many calls.
-    for (layer, locks, around) in [(1, 2, 4), (2, 2, 1), (3, 4, 1)] {
+    let mut below = 0..16;
+    // So many procedures, in each so many locks of four, each around so many calls.
+    for (layer, count, locks, around) in [(1, 26, 2, 4), (2, 16, 2, 1), (3, MAX_THREADS, 4, 1)] {
+        let mut turns = below.cycle();
+        let mut call = |_| match layer {
+            1 => Call(random.below(16)),
+            _ => Call(turns.next().expect("a layer below")),
+        };
         let lock = |proc: usize, at: usize| 4 * (3 - layer) + (proc + at) % 4;
-        let mut body =
-            |proc: usize| (0..locks).map(|at| hold(lock(proc, at), calls(layer - 1, around))).collect();
-        procs.extend((0..16).map(&mut body));
+        let mut hold_at = |proc, at| hold(lock(proc, at), (0..around).map(&mut call).collect());
+        below = procs.len()..procs.len() + count;
+        procs.extend((0..count).map(|proc| (0..locks).map(|at| hold_at(proc, at)).collect()));
     }
-    let threads = (MAX_PROCS - MAX_THREADS..MAX_PROCS).collect();
-    Draft { procs, threads }.permuted(&random.permutation(MAX_PROCS))
+    Draft { procs, threads: below.collect() }.permuted(&random.permutation(MAX_PROCS))
 }
 
 /// The families: name, plan, whether it deadlocks.

@@ -2,9 +2,10 @@
 
 use crate::families::{self, hold, nest, skips, Draft, Tree};
 use crate::full;
+use crate::idle::{about_idle, employed, with_idle};
 use crate::indent::{self, indent, over, padded};
 use crate::random::Random;
-use crate::reference::{read, MAX_BYTES, MAX_PROCS, MAX_SIZE, MOST_PAIRS};
+use crate::reference::{read, MAX_BYTES, MAX_PROCS, MAX_SIZE, MAX_THREADS, MOST_PAIRS};
 
 /// A generated text with the name of its kind.
 pub struct Case {
@@ -157,8 +158,8 @@ pub fn body(random: &mut Random, shape: &Shape, sizes: &[u64]) -> Vec<Tree> {
     block
 }
 
-/// A random plan in which no procedure reaches itself; sizes and counts of the smaller
-/// shapes are within the limits.
+/// A random plan in which no procedure reaches itself and none is idle; sizes and counts
+/// of the smaller shapes are within the limits.
 pub fn plan(random: &mut Random, shape: &Shape) -> Draft {
     let mut draft = Draft::default();
     let mut sizes = Vec::new();
@@ -176,12 +177,12 @@ pub fn plan(random: &mut Random, shape: &Shape) -> Draft {
         let low = if random.chance(50) { count / 2 } else { 0 };
         draft.threads.push(random.between(low, count - 1));
     }
-    any_order(draft, random)
+    any_order(employed(draft, random), random)
 }
 
 /// The same plan with its procedures as they stand, from the last to the first, or
 /// in any order.
-fn any_order(draft: Draft, random: &mut Random) -> Draft {
+pub fn any_order(draft: Draft, random: &mut Random) -> Draft {
     match random.below(5) {
         0 => draft,
         1 => draft.reversed(),
@@ -190,7 +191,7 @@ fn any_order(draft: Draft, random: &mut Random) -> Draft {
 }
 
 /// Puts a call somewhere into a block.
-fn put_call(block: &mut Vec<Tree>, callee: usize, random: &mut Random) {
+pub fn put_call(block: &mut Vec<Tree>, callee: usize, random: &mut Random) {
     let at = random.below(block.len());
     let deeper = random.chance(70);
     match &mut block[at] {
@@ -205,7 +206,7 @@ fn put_call(block: &mut Vec<Tree>, callee: usize, random: &mut Random) {
 /// Puts calls into a plan along so many of its procedures, and from the last of them
 /// to the first where the circle is closed; and some between one of them and others. A
 /// plan of too few gets more.
-fn put_circle(draft: &mut Draft, length: usize, closed: bool, random: &mut Random) {
+pub fn put_circle(draft: &mut Draft, length: usize, closed: bool, random: &mut Random) {
     let (calling, count) = (random.chance(30), (length + random.below(3)).min(MAX_PROCS));
     while draft.procs.len() < count {
         let callee = random.below(draft.procs.len());
@@ -223,7 +224,7 @@ fn put_circle(draft: &mut Draft, length: usize, closed: bool, random: &mut Rando
 }
 
 /// How many procedures a circle has.
-fn circle_length(random: &mut Random) -> usize {
+pub fn circle_length(random: &mut Random) -> usize {
     match random.below(10) {
         0 | 1 => 1,
         2 | 3 => 2,
@@ -235,7 +236,7 @@ fn circle_length(random: &mut Random) -> usize {
 }
 
 /// A number that none of so many procedures has.
-fn absent(count: usize, random: &mut Random) -> usize {
+pub fn absent(count: usize, random: &mut Random) -> usize {
     let number = match random.below(4) {
         0 => count,
         1 => random.between(count, 999),
@@ -246,7 +247,8 @@ fn absent(count: usize, random: &mut Random) -> usize {
     number.max(count)
 }
 
-/// Circles of calls, closed or not, and sometimes another rule broken with them.
+/// Circles of calls, closed or not, and sometimes another rule broken with them; most
+/// without idle procedures.
 pub fn circles(random: &mut Random) -> Draft {
     let mut draft = match random.below(4) {
         0 => plan(random, &TINY),
@@ -258,16 +260,28 @@ pub fn circles(random: &mut Random) -> Draft {
         let (length, closed) = (circle_length(random), random.chance(75));
         put_circle(&mut draft, length, closed, random);
     }
+    let (fault, proc) = (random.below(12), random.below(draft.procs.len()));
+    match fault {
+        0 => draft.procs.extend([skips(random.between(342, 400)), vec![Tree::Call(draft.procs.len()); 3]]),
+        1 => draft.procs[proc].extend(full::around(32)),
+        _ => {}
+    }
+    if random.chance(85) {
+        draft = employed(draft, random);
+    }
     let count = draft.procs.len();
-    let proc = random.below(count);
-    match random.below(12) {
-        0 => put_call(&mut draft.procs[proc], absent(count, random), random),
-        1 => draft.threads[0] = absent(count, random),
-        2 => draft.procs.extend([skips(random.between(342, 400)), vec![Tree::Call(count); 3]]),
-        3 => draft.procs[proc].extend(full::around(32)),
+    match fault {
+        2 => put_call(&mut draft.procs[proc % count], absent(count, random), random),
+        3 => put_thread(&mut draft, absent(count, random)),
         _ => {}
     }
     any_order(draft, random)
+}
+
+/// Puts a thread before the others, in place of the first where there are enough.
+fn put_thread(draft: &mut Draft, proc: usize) {
+    let first = usize::from(draft.threads.len() >= MAX_THREADS);
+    draft.threads.splice(..first, [proc]);
 }
 
 /// Locks in an order that is ascending but for a few changes.
@@ -393,18 +407,20 @@ pub fn doubling(last: usize) -> Draft {
     Draft { procs, threads: vec![last] }
 }
 
-/// Procedures without a common statement, and a thread of the last.
+/// Procedures without a common statement, and a thread of the last, which calls all.
 fn many_procs(count: usize) -> Draft {
-    let procs = (0..count).map(|proc| vec![hold(proc % 32, vec![])]).collect();
+    let mut procs: Vec<Vec<Tree>> = (0..count).map(|proc| vec![hold(proc % 32, vec![])]).collect();
+    procs[count - 1].extend((0..count - 1).map(Tree::Call));
     Draft { procs, threads: vec![count - 1] }
 }
 
-/// A number of statements in all, in bodies of at most 600.
+/// A number of statements in all, in up to six bodies, most of at most 600. Each has a
+/// thread, some have more.
 fn many_statements(count: usize, random: &mut Random) -> Draft {
     let mut procs = Vec::new();
     let mut left = count;
     while left > 0 {
-        let here = random.between(1, left.min(600));
+        let here = if procs.len() + 1 < MAX_THREADS { random.between(1, left.min(600)) } else { left };
         let mut block = skips(here);
         if here >= 2 && random.chance(60) {
             block.truncate(here - 1);
@@ -415,7 +431,8 @@ fn many_statements(count: usize, random: &mut Random) -> Draft {
         procs.push(block);
     }
     let count = procs.len();
-    Draft { threads: (0..random.between(1, 6)).map(|_| random.below(count)).collect(), procs }
+    let more = (count..random.between(count, MAX_THREADS)).map(|_| random.below(count)).collect::<Vec<_>>();
+    Draft { threads: [random.permutation(count), more].concat(), procs }
 }
 
 /// Brackets open together, of all kinds.
@@ -439,10 +456,14 @@ pub fn brackets(count: usize, random: &mut Random) -> Draft {
     Draft::each(procs)
 }
 
-/// A body of an exact size, with calls of the procedures before.
+/// A body of an exact size, with calls of the procedures before, of the last at least.
 fn exact(target: u64, sizes: &[u64], random: &mut Random) -> Vec<Tree> {
     let mut block = Vec::new();
     let mut left = target;
+    if let Some(last) = sizes.len().checked_sub(1) {
+        block.push(Tree::Call(last));
+        left -= sizes[last] + 1;
+    }
     while left > 0 {
         let callee = (!sizes.is_empty()).then(|| random.below(sizes.len()));
         match callee {
@@ -466,7 +487,7 @@ fn exact(target: u64, sizes: &[u64], random: &mut Random) -> Vec<Tree> {
     block
 }
 
-/// The last procedures have a given size; the text stays short.
+/// The last procedure has a given size and reaches all; the text stays short.
 pub fn sized(target: u64, random: &mut Random) -> Draft {
     let mut procs = vec![exact(random.between(30, 60) as u64, &[], random)];
     let mut sizes = vec![size(&procs[0], &[])];
@@ -570,14 +591,14 @@ pub fn many_pairs(random: &mut Random) -> Draft {
         block.insert(random.below(block.len() + 1), Tree::Call(0));
     }
     procs.push(if guard { vec![hold(31, block)] } else { block });
-    let large = procs.len() - 1;
+    let mut threads = vec![procs.len() - 1];
     if random.chance(50) {
         let chain: Vec<usize> = random.permutation(32).into_iter().take(random.between(1, 4)).collect();
+        threads.push(procs.len());
         procs.push(vec![nest(&chain, vec![])]);
     }
-    let count = procs.len();
-    let others = (0..random.below(3)).map(|_| random.below(count)).collect::<Vec<_>>();
-    any_order(Draft { procs, threads: [vec![large], others].concat() }, random)
+    threads.extend((0..random.below(3)).map(|_| random.below(procs.len())));
+    any_order(Draft { procs, threads }, random)
 }
 
 /// As many pairs as a procedure can have, and one chain or skip more or less.
@@ -612,7 +633,7 @@ fn sum_of_lines(bytes: usize) -> bool {
     })
 }
 
-/// Texts with several broken rules at once, of right structure.
+/// Texts with several broken rules at once, of right structure; most without idle procedures.
 fn faulty(random: &mut Random) -> Draft {
     let mut draft = plan(random, random.clone().pick(&[TINY, SMALL, CROOKED]));
     for _ in 0..random.between(1, 3) {
@@ -639,6 +660,9 @@ fn faulty(random: &mut Random) -> Draft {
             }
         }
     }
+    if random.chance(85) {
+        draft = employed(draft, random);
+    }
     draft
 }
 
@@ -658,7 +682,7 @@ pub fn spaces(random: &mut Random) -> Draft {
         }
         _ => draft.procs[proc].extend(couples(random.between(97, 120), random)),
     }
-    any_order(draft, random)
+    any_order(employed(draft, random), random)
 }
 
 /// A text of an exact kind near a limit.
@@ -671,7 +695,7 @@ fn limit(random: &mut Random) -> Case {
             let mut draft = plan(random, &SMALL);
             let count = draft.procs.len();
             draft.threads = (0..near(random, 6)).map(|_| random.below(count)).collect();
-            ("6 threads", draft)
+            ("6 threads", employed(draft, random))
         }
         3 => ("16 brackets", brackets(near(random, 16), random)),
         4 => {
@@ -718,7 +742,7 @@ fn limit(random: &mut Random) -> Case {
             let mut draft = families::philosophers(6);
             random.shuffle(&mut draft.threads);
             if random.chance(50) {
-                draft.threads.truncate(5);
+                draft.procs[random.below(6)] = skips(1);
             }
             ("six in a ring", draft)
         }
@@ -1095,7 +1119,7 @@ fn noise(random: &mut Random) -> Vec<u8> {
 }
 
 /// The rules from 3 on that a plan can break.
-const RULES: [u8; 8] = [3, 4, 5, 6, 7, 8, 12, 9];
+const RULES: [u8; 9] = [3, 4, 5, 6, 7, 8, 12, 13, 9];
 
 /// A bare text that breaks one of these rules, most of them none before it.
 pub fn breaking(rule: u8, random: &mut Random) -> Vec<u8> {
@@ -1134,6 +1158,7 @@ pub fn breaking(rule: u8, random: &mut Random) -> Vec<u8> {
             2 => draft = any_order(sized(1_025, random), random),
             _ => draft = any_order(doubling(random.between(9, 20)), random),
         },
+        13 => draft = with_idle(random),
         _ => put_circle(&mut draft, circle_length(random), true, random),
     }
     draft.threads.truncate(if rule == 5 { 9 } else { 6 });
@@ -1161,6 +1186,12 @@ fn padded_text(random: &mut Random) -> Vec<u8> {
         return vec![10; length];
     }
     padded(&text, length, random)
+}
+
+/// Whether enough of the generated texts are accepted: more than a third of them. A
+/// share of less than a thousand says nothing.
+pub fn enough_accepted(accepted: u64, generated: u64) -> bool {
+    generated < 1_000 || 3 * accepted > generated
 }
 
 /// One text of a seed.
@@ -1191,7 +1222,7 @@ pub fn generate(random: &mut Random) -> Case {
 /// One text that is not indented, or only by a damage.
 fn plain(random: &mut Random) -> Case {
     let case = |kind, draft: Draft| Case { kind, text: draft.text() };
-    match random.weighted(&[12, 12, 8, 8, 10, 8, 8, 5, 13, 5, 2, 8, 8, 7, 5, 4]) {
+    match random.weighted(&[12, 12, 8, 8, 10, 8, 8, 5, 13, 5, 2, 8, 8, 9, 5, 4, 9]) {
         0 => case("tiny", plan(random, &TINY)),
         1 => case("small", plan(random, &SMALL)),
         2 => case("nested", plan(random, &NESTED)),
@@ -1220,6 +1251,7 @@ fn plain(random: &mut Random) -> Case {
         12 => case("calls", plan(random, &CALLING)),
         13 => case("circles", circles(random)),
         14 => case("spaces", spaces(random)),
-        _ => case("many pairs in one", many_pairs(random)),
+        15 => case("many pairs in one", many_pairs(random)),
+        _ => case("idle procedures", about_idle(random)),
     }
 }

@@ -59,7 +59,7 @@ fn padded(padding: Padding) -> Vec<Long> {
         long("3-at-the-end", [&a(vec![0, 1])[..end], b"x\n"].concat(), 1, Some(3), "bare-3-at-the-end"),
         long("4-at-the-end", [&a(vec![0, 1])[..], b")\n"].concat(), 1, Some(4), "bare-4-too-early"),
         long("4-too-early", a(vec![0, 1])[..end].to_vec(), 1, Some(4), "bare-4-too-early"),
-        long("8-at-the-end", a(vec![0, 2]), 2, Some(8), "bare-5"),
+        long("8-at-the-end", a(vec![0, 1, 2]), 2, Some(8), "bare-5"),
     ]
 }
 

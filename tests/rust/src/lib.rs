@@ -9,6 +9,7 @@ pub mod full;
 pub mod gateway;
 pub mod generate;
 pub mod guard;
+pub mod idle;
 pub mod indent;
 pub mod lengths;
 #[cfg(feature = "library")]

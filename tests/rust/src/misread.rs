@@ -1,11 +1,11 @@
-//! Readings of a text with a fault each in the rules about calls, and sums of sizes
-//! with a fault each.
+//! Readings of a text with a fault each in the rules about calls and idle procedures,
+//! and sums of sizes with a fault each.
 
 use std::collections::BTreeSet;
 
 use crate::pairs::compositional;
 use crate::reference::{
-    bare, lines, read, sizes, structure, Form, Plan, Refusal, MAX_PAIRS, MAX_PROCS, MAX_SIZE,
+    bare, lines, named, read, sizes, structure, Form, Plan, Refusal, Stmt, MAX_PAIRS, MAX_PROCS, MAX_SIZE,
 };
 
 type Reading = Result<Plan, Refusal>;
@@ -58,6 +58,27 @@ fn instead(text: &[u8], rule: u8, other: impl FnOnce(Plan) -> Option<Reading>) -
 /// A refusal that names a procedure.
 fn refused(rule: u8, plan: &Plan, proc: usize) -> Reading {
     Err(Refusal { rule, line: plan.procs[proc].line })
+}
+
+/// A procedure whose size passes the limit, the lowest of some.
+fn too_large(sizes: &[u64], mut procs: impl Iterator<Item = usize>) -> Option<usize> {
+    procs.find(|proc| sizes[*proc] > MAX_SIZE)
+}
+
+/// The reading of a text by another rule 13, which tells the procedure that it names.
+fn by_idle(text: &[u8], idle: impl FnOnce(&Plan) -> Option<usize>) -> Reading {
+    let plan = named(text)?;
+    if let Some(proc) = plan.recursive().first() {
+        return refused(12, &plan, *proc);
+    }
+    if let Some(proc) = idle(&plan) {
+        return refused(13, &plan, proc);
+    }
+    let plan = Plan { sizes: sizes(&plan), ..plan };
+    match too_large(&plan.sizes, 0..plan.procs.len()) {
+        Some(proc) => refused(9, &plan, proc),
+        None => Ok(Plan { pairs: compositional(&plan), ..plan }),
+    }
 }
 
 /// Rule 7 as it was: no call of the caller itself or of one behind it.
@@ -180,8 +201,140 @@ pub fn recursion_before_threads(text: &[u8]) -> Reading {
 pub fn size_before_recursion(text: &[u8]) -> Reading {
     instead(text, 12, |whole| {
         let rest = plan(&without_recursion(text, &whole)).ok()?;
-        let proc = sizes(&rest).iter().position(|size| *size > MAX_SIZE)?;
-        Some(refused(9, &whole, proc))
+        Some(refused(9, &whole, too_large(&sizes(&rest), 0..rest.procs.len())?))
+    })
+}
+
+/// Rule 13 is not asked.
+pub fn idle_let_through(text: &[u8]) -> Reading {
+    by_idle(text, |_| None)
+}
+
+/// Rule 13 before rule 8, absent threads passed over.
+pub fn idle_before_threads(text: &[u8]) -> Reading {
+    instead(text, 8, |plan| {
+        let present = plan.threads.iter().copied().filter(|proc| *proc < plan.procs.len()).collect();
+        let plan = Plan { threads: present, ..plan };
+        Some(refused(13, &plan, *plan.idle().first()?))
+    })
+}
+
+/// Rule 13 before rule 12.
+pub fn idle_before_recursion(text: &[u8]) -> Reading {
+    instead(text, 12, |plan| Some(refused(13, &plan, *plan.idle().first()?)))
+}
+
+/// Rule 9 before rule 13.
+pub fn size_before_idle(text: &[u8]) -> Reading {
+    instead(text, 13, |plan| Some(refused(9, &plan, too_large(&sizes(&plan), 0..plan.procs.len())?)))
+}
+
+/// Rule 13 names the highest idle procedure.
+pub fn highest_idle(text: &[u8]) -> Reading {
+    by_idle(text, |plan| plan.idle().last().copied())
+}
+
+/// Rule 13 names the lowest procedure that is not among the used ones that are told.
+fn by_used(text: &[u8], used: impl FnOnce(&Plan) -> BTreeSet<usize>) -> Reading {
+    by_idle(text, |plan| {
+        let used = used(plan);
+        (0..plan.procs.len()).find(|proc| !used.contains(proc))
+    })
+}
+
+/// A thread's procedure, and those that it reaches.
+fn used_by(plan: &Plan, thread: usize) -> BTreeSet<usize> {
+    let mut used = plan.reached(plan.threads[thread]);
+    used.insert(plan.threads[thread]);
+    used
+}
+
+/// The procedures that threads name, and those that so many calls one after the other
+/// lead to.
+fn used_by_rounds(plan: &Plan, rounds: usize, callees: fn(&Plan, usize) -> Vec<usize>) -> BTreeSet<usize> {
+    let mut used: BTreeSet<usize> = plan.threads.iter().copied().collect();
+    for _ in 0..rounds {
+        used.extend(used.clone().into_iter().flat_map(|proc| callees(plan, proc)));
+    }
+    used
+}
+
+fn all_callees(plan: &Plan, proc: usize) -> Vec<usize> {
+    plan.callees(proc).collect()
+}
+
+/// A procedure that another one calls is used, also where that one is idle.
+pub fn called_by_any_for_used(text: &[u8]) -> Reading {
+    by_used(text, |plan| {
+        let called = (0..plan.procs.len()).flat_map(|proc| plan.callees(proc));
+        called.chain(plan.threads.iter().copied()).collect()
+    })
+}
+
+/// A procedure is used where a thread names it, or one calls it that a thread names.
+pub fn one_call_alone(text: &[u8]) -> Reading {
+    by_used(text, |plan| used_by_rounds(plan, 1, all_callees))
+}
+
+/// Calls of calls are followed 62 times, one less than can be needed.
+pub fn calls_62_deep_alone(text: &[u8]) -> Reading {
+    by_used(text, |plan| used_by_rounds(plan, MAX_PROCS - 2, all_callees))
+}
+
+/// Calls inside holds, loops and eithers are overlooked.
+pub fn calls_outside_alone(text: &[u8]) -> Reading {
+    fn outside(plan: &Plan, proc: usize) -> Vec<usize> {
+        let call = |stmt: &Stmt| match stmt {
+            Stmt::Call(callee) => Some(*callee),
+            _ => None,
+        };
+        plan.blocks[plan.procs[proc].body].iter().filter_map(call).collect()
+    }
+    by_used(text, |plan| used_by_rounds(plan, MAX_PROCS, outside))
+}
+
+/// A procedure is used where a thread names it, and by no call.
+pub fn named_alone(text: &[u8]) -> Reading {
+    by_used(text, |plan| used_by_rounds(plan, 0, all_callees))
+}
+
+/// A procedure is used where it is called, and by no thread line.
+pub fn called_alone(text: &[u8]) -> Reading {
+    by_used(text, |plan| plan.threads.iter().flat_map(|proc| plan.reached(*proc)).collect())
+}
+
+/// What the first thread does not use is idle.
+pub fn first_thread_alone(text: &[u8]) -> Reading {
+    by_used(text, |plan| used_by(plan, 0))
+}
+
+/// What the last thread does not use is idle.
+pub fn last_thread_alone(text: &[u8]) -> Reading {
+    by_used(text, |plan| used_by(plan, plan.threads.len() - 1))
+}
+
+/// A thread's number taken for that of its procedure.
+pub fn used_by_thread_numbers(text: &[u8]) -> Reading {
+    by_used(text, |plan| {
+        let threads = (0..plan.threads.len().min(plan.procs.len())).collect();
+        let plan = Plan { threads, ..plan.clone() };
+        used_by_rounds(&plan, MAX_PROCS, all_callees)
+    })
+}
+
+/// A procedure is used where one 32 before or behind it is.
+pub fn five_bits_of_a_used_one(text: &[u8]) -> Reading {
+    by_used(text, |plan| {
+        let used = used_by_rounds(plan, MAX_PROCS, all_callees);
+        used.into_iter().flat_map(|proc| [proc % 32, proc % 32 + 32]).collect()
+    })
+}
+
+/// Rule 9 is for the procedures that threads name.
+pub fn size_of_threads_alone(text: &[u8]) -> Reading {
+    instead(text, 9, |plan| {
+        let named: BTreeSet<usize> = plan.threads.iter().copied().collect();
+        Some(refused(9, &plan, too_large(&sizes(&plan), named.into_iter())?))
     })
 }
 
@@ -215,13 +368,13 @@ pub fn pairs_before_recursion(text: &[u8]) -> Reading {
 
 /// Sizes in text order: a callee that stands later has none yet.
 pub fn sizes_in_text_order(text: &[u8]) -> Reading {
-    instead(text, 9, |_| Some(read(&without(text, |caller, callee| callee > caller))))
+    instead(text, 9, |_| Some(idle_let_through(&without(text, |caller, callee| callee > caller))))
 }
 
 /// Pairs in text order: a callee that stands later has none yet.
 pub fn pairs_in_text_order(text: &[u8]) -> Reading {
     let plan = read(text)?;
-    let pairs = read(&without(text, |caller, callee| callee > caller))?.pairs;
+    let pairs = idle_let_through(&without(text, |caller, callee| callee > caller))?.pairs;
     Ok(Plan { pairs, ..plan })
 }
 

@@ -1,4 +1,4 @@
-//! Reading a plan text: rules 2 to 9 and 12, the tree, the calls, the sizes.
+//! Reading a plan text: rules 2 to 9, 12 and 13, the tree, the calls, the sizes.
 
 use std::collections::BTreeSet;
 
@@ -155,21 +155,31 @@ impl Plan {
         })
     }
 
-    /// The procedures that a procedure reaches through one call or more.
-    pub fn reached(&self, proc: usize) -> BTreeSet<usize> {
-        let mut reached = BTreeSet::new();
-        let mut left: Vec<usize> = self.callees(proc).collect();
-        while let Some(callee) = left.pop() {
-            if reached.insert(callee) {
-                left.extend(self.callees(callee));
+    /// Some procedures, and those that they reach through calls.
+    fn walked(&self, mut left: Vec<usize>) -> BTreeSet<usize> {
+        let mut walked = BTreeSet::new();
+        while let Some(proc) = left.pop() {
+            if walked.insert(proc) {
+                left.extend(self.callees(proc));
             }
         }
-        reached
+        walked
+    }
+
+    /// The procedures that a procedure reaches through one call or more.
+    pub fn reached(&self, proc: usize) -> BTreeSet<usize> {
+        self.walked(self.callees(proc).collect())
     }
 
     /// The procedures that reach themselves, ascending.
     pub fn recursive(&self) -> Vec<usize> {
         (0..self.procs.len()).filter(|proc| self.reached(*proc).contains(proc)).collect()
+    }
+
+    /// The procedures that no thread names or reaches through calls, ascending.
+    pub fn idle(&self) -> Vec<usize> {
+        let used = self.walked(self.threads.clone());
+        (0..self.procs.len()).filter(|proc| !used.contains(proc)).collect()
     }
 
     /// All procedures, each behind those that it calls. None may reach itself.
@@ -192,18 +202,21 @@ impl Plan {
     }
 }
 
-/// Rules 2 to 8, then 12 and 9: the plan with its sizes and pairs.
+/// Rules 2 to 8, then 12, 13 and 9: the plan with its sizes and pairs.
 pub fn read(text: &[u8]) -> Result<Plan, Refusal> {
     let mut plan = sized(text)?;
     plan.pairs = pairs::compositional(&plan);
     Ok(plan)
 }
 
-/// Rules 2 to 8, then 12 and 9: the sizes. Pairs are left empty.
+/// Rules 2 to 8, then 12, 13 and 9: the sizes. Pairs are left empty.
 pub fn sized(text: &[u8]) -> Result<Plan, Refusal> {
     let mut plan = named(text)?;
     if let Some(proc) = plan.recursive().first() {
         return refuse(12, plan.procs[*proc].line);
+    }
+    if let Some(proc) = plan.idle().first() {
+        return refuse(13, plan.procs[*proc].line);
     }
     plan.sizes = sizes(&plan);
     if let Some(proc) = plan.sizes.iter().position(|size| *size > MAX_SIZE) {

@@ -44,7 +44,7 @@ impl Entry {
 
 /// All fixed texts.
 pub fn all() -> Vec<Entry> {
-    let parts = [shelf(), others(), calls(), remarked(), spaces(), many_pairs()];
+    let parts = [shelf(), others(), calls(), idle_procedures(), remarked(), spaces(), many_pairs()];
     parts.into_iter().flatten().collect()
 }
 
@@ -190,12 +190,12 @@ pub fn others() -> Vec<Entry> {
         entry("an absent thread", Draft { procs: vec![skips(1)], threads: vec![0, 1, 2] }, Refused(8, 6)),
         entry(
             "lock before call before thread",
-            Draft { procs: vec![vec![Tree::Call(3), hold(32, vec![])]], threads: vec![9] },
+            Draft { procs: vec![vec![Tree::Call(3), hold(32, vec![])]], threads: vec![0, 9] },
             Refused(6, 4),
         ),
         entry(
             "call before thread",
-            Draft { procs: vec![vec![Tree::Call(3)]], threads: vec![9] },
+            Draft { procs: vec![vec![Tree::Call(3)]], threads: vec![0, 9] },
             Refused(7, 3),
         ),
         entry(
@@ -252,9 +252,8 @@ pub fn others() -> Vec<Entry> {
     };
     all.push(entry("8 eithers", eithers(8), Free));
     all.push(entry("9 eithers", eithers(9), Refused(5, 3 + 16)));
-    let procs = |count| Draft { procs: vec![skips(1); count], threads: vec![0] };
-    all.push(entry("64 procedures", procs(64), Free));
-    all.push(entry("65 procedures", procs(65), Refused(5, 2 + 64 * 3)));
+    all.push(entry("64 procedures", calls_of_all_others(64, 63), Free));
+    all.push(entry("65 procedures", calls_of_all_others(65, 64), Refused(5, 2 + 64 * 3)));
     let statements = |count: usize| Draft::each(vec![skips(count / 2), skips(count - count / 2)]);
     all.push(entry("1,024 statements", statements(1_024), Free));
     all.push(entry("1,025 statements", statements(1_025), Refused(5, 2 + 512 + 2 + 513)));
@@ -306,15 +305,26 @@ pub fn calls_of_all_behind(count: usize) -> Draft {
     first(procs)
 }
 
-/// So many calls, no two of them alike, in 64 procedures: the first 37 call 27 others,
-/// but for the last of them, and the 26 behind call the one that is left, a skip.
+/// So many procedures, of which one calls all others, skips.
+fn calls_of_all_others(count: usize, caller: usize) -> Draft {
+    let mut procs = vec![skips(1); count];
+    procs[caller] = (0..count).filter(|callee| *callee != caller).map(Tree::Call).collect();
+    Draft { procs, threads: vec![caller] }
+}
+
+/// So many calls, no two of them alike, in 64 procedures. The first six, which have a
+/// thread each, call the next 31, each another part of them; these 31 call the 27 behind
+/// them, of which 26 call the last, a skip. The calls that are left are of these 27, by the
+/// first six.
 pub fn calls_all_different(count: usize) -> Draft {
-    let body = |calls: usize| (37..37 + calls).map(Tree::Call).collect();
-    let mut procs: Vec<Vec<Tree>> = vec![body(27); 36];
-    procs.push(body(count - 36 * 27 - 26));
+    let part = |first: usize| (6 + first..37).step_by(6).map(Tree::Call).collect();
+    let mut procs: Vec<Vec<Tree>> = (0..6).map(part).collect();
+    procs.extend(vec![(37..64).map(Tree::Call).collect(); 31]);
     procs.extend(vec![vec![Tree::Call(63)]; 26]);
     procs.push(skips(1));
-    first(procs)
+    let left = count - 31 - 31 * 27 - 26;
+    (0..left).for_each(|at| procs[at / 27].push(Tree::Call(37 + at % 27)));
+    Draft { procs, threads: (0..6).collect() }
 }
 
 /// Accepted plans with calls of later procedures.
@@ -379,7 +389,7 @@ fn limits_by_later_calls() -> Vec<Entry> {
         entry("512 pairs by a later call", calling(&[&[1]], &[around(32)]), Refused(9, 2)),
         entry(
             "512 pairs behind another that is too large",
-            calling(&[&[1, 1, 1]], &[skips(342), around(32)]),
+            Draft { threads: vec![0, 2], ..calling(&[&[1, 1, 1]], &[skips(342), around(32)]) },
             Refused(9, 2),
         ),
         entry("128 pairs by a later call", calling(&[&[1]], &[couples(96)]), Free),
@@ -392,9 +402,9 @@ fn limits_by_later_calls() -> Vec<Entry> {
 fn absent_calls() -> Vec<Entry> {
     use Gives::{Free, Refused};
     let of_64 = |caller: usize, callee: usize| {
-        let mut procs = vec![skips(1); 64];
-        procs[caller] = vec![Tree::Call(callee)];
-        first(procs)
+        let mut draft = calls_of_all_others(64, caller);
+        draft.procs[caller].insert(0, Tree::Call(callee));
+        draft
     };
     let second = |callee| Draft::each(vec![skips(1), vec![Tree::Call(callee)]]);
     vec![
@@ -409,10 +419,13 @@ fn absent_calls() -> Vec<Entry> {
     ]
 }
 
-/// Skips, and behind them so many procedures that call each other around.
+/// Skips, and behind them so many procedures that call each other around; the first of
+/// these calls the skips too, and has a thread.
 fn circle(before: usize, count: usize) -> Draft {
     let call = |at: usize| vec![Tree::Call(before + (at + 1) % count)];
-    first(vec![skips(1); before].into_iter().chain((0..count).map(call)).collect())
+    let mut procs: Vec<Vec<Tree>> = vec![skips(1); before].into_iter().chain((0..count).map(call)).collect();
+    procs[before].extend((0..before).map(Tree::Call));
+    Draft { procs, threads: vec![before] }
 }
 
 /// Rule 12: circles of calls.
@@ -426,7 +439,7 @@ fn circles() -> Vec<Entry> {
         entry("a call of itself by the last of 64", circle(63, 1), Refused(12, 2 + 3 * 63)),
         entry("a call of itself inside", first(vec![inside]), Refused(12, 2)),
         entry("a circle of 2", circle(0, 2), Refused(12, 2)),
-        entry("a circle of 2 that no thread reaches", circle(1, 2), Refused(12, 5)),
+        entry("a circle of 2 behind another", circle(1, 2), Refused(12, 5)),
         entry("a circle of 3", circle(0, 3), Refused(12, 2)),
         entry("a circle of 63", circle(1, 63), Refused(12, 5)),
         entry("a circle of 64", circle(0, 64), Refused(12, 2)),
@@ -434,20 +447,37 @@ fn circles() -> Vec<Entry> {
     ]
 }
 
+/// The same with other threads.
+fn run_by(threads: &[usize], draft: Draft) -> Draft {
+    Draft { threads: threads.to_vec(), ..draft }
+}
+
 /// Rule 12 names a procedure of a circle, and none that only reaches one.
 fn circles_and_others() -> Vec<Entry> {
     use Gives::Refused;
     let to_the_last = calls_forward(64, vec![Tree::Call(63)]);
     vec![
-        entry("before and behind a circle", calling(&[&[1], &[2], &[1], &[2]], &[]), Refused(12, 5)),
-        entry("reached by a circle", calling(&[&[3], &[2, 0], &[1]], &[skips(1)]), Refused(12, 5)),
+        entry(
+            "before and behind a circle",
+            run_by(&[0, 3], calling(&[&[1], &[2], &[1], &[2]], &[])),
+            Refused(12, 5),
+        ),
+        entry(
+            "reached by a circle",
+            run_by(&[1], calling(&[&[3], &[2, 0], &[1]], &[skips(1)])),
+            Refused(12, 5),
+        ),
         // Procedures 2 and 3 reach 1, which reaches 4 and 5.
         entry(
             "between two circles",
-            calling(&[&[6], &[4], &[3, 1], &[2], &[5], &[4]], &[skips(1)]),
+            run_by(&[0, 2], calling(&[&[6], &[4], &[3, 1], &[2], &[5], &[4]], &[skips(1)])),
             Refused(12, 8),
         ),
-        entry("a circle around another", calling(&[&[3], &[2], &[1], &[0]], &[]), Refused(12, 2)),
+        entry(
+            "a circle around another",
+            run_by(&[0, 1], calling(&[&[3], &[2], &[1], &[0]], &[])),
+            Refused(12, 2),
+        ),
         entry(
             "two circles through one procedure",
             calling(&[&[3], &[2], &[1, 2], &[1]], &[]),
@@ -461,32 +491,203 @@ fn circles_and_others() -> Vec<Entry> {
 /// Rule 12 behind rules 5 to 8 and before 9, whatever the pairs are.
 fn rules_beside_recursion() -> Vec<Entry> {
     use Gives::Refused;
-    let itself = |threads: &[usize]| Draft { threads: threads.to_vec(), ..circle(0, 1) };
+    let itself = |threads: &[usize]| run_by(threads, circle(0, 1));
     let mut doubled = doubling(9).reversed();
     doubled.procs.push(vec![Tree::Call(10)]);
+    doubled.threads.push(10);
     vec![
         entry("threads before recursion", itself(&[0; 7]), Refused(5, 11)),
         entry("lock before recursion", first(vec![vec![hold(32, vec![Tree::Call(0)])]]), Refused(6, 3)),
         entry("call before recursion", calling(&[&[0, 1]], &[]), Refused(7, 4)),
-        entry("call behind a circle before recursion", calling(&[&[1], &[0], &[3]], &[]), Refused(7, 9)),
+        entry(
+            "call behind a circle before recursion",
+            run_by(&[0, 2], calling(&[&[1], &[0], &[3]], &[])),
+            Refused(7, 9),
+        ),
         entry("thread before recursion", itself(&[0, 1]), Refused(8, 6)),
         entry(
             "call before thread before recursion",
-            Draft { threads: vec![9], ..calling(&[&[0, 1]], &[]) },
+            run_by(&[0, 9], calling(&[&[0, 1]], &[])),
             Refused(7, 4),
         ),
         entry("recursion before size", doubled, Refused(12, 2 + 9 * 4 + 3)),
         entry(
             "recursion before size in one procedure",
-            first(vec![skips(600), vec![Tree::Call(0), Tree::Call(0), Tree::Call(1)]]),
+            run_by(&[1], first(vec![skips(600), vec![Tree::Call(0), Tree::Call(0), Tree::Call(1)]])),
             Refused(12, 604),
         ),
-        entry("recursion beside 129 pairs", first(vec![couples(97), vec![Tree::Call(1)]]), Refused(12, 489)),
+        entry(
+            "recursion beside 129 pairs",
+            Draft::each(vec![couples(97), vec![Tree::Call(1)]]),
+            Refused(12, 489),
+        ),
         entry(
             "recursion before size of many pairs",
-            first(vec![around(32), vec![Tree::Call(1)]]),
+            Draft::each(vec![around(32), vec![Tree::Call(1)]]),
             Refused(12, 2 + 32 * 33 + 2),
         ),
+    ]
+}
+
+/// Fixed texts of rule 13, and of plans that nearly break it. No others have an idle
+/// procedure.
+pub fn idle_procedures() -> Vec<Entry> {
+    let mut all = exports();
+    all.extend(named_idle());
+    all.extend(idle_in_the_file());
+    all.extend(rules_beside_idle());
+    all.extend(used_by_little());
+    all
+}
+
+/// So many trees of ten procedures, of which the first calls the others.
+fn trees(count: usize) -> Draft {
+    let tree = |at: usize| {
+        let calls = (10 * at + 1..10 * at + 10).map(Tree::Call).collect();
+        std::iter::once(calls).chain(vec![skips(1); 9])
+    };
+    Draft { procs: (0..count).flat_map(tree).collect(), threads: (0..count).map(|at| 10 * at).collect() }
+}
+
+/// Exports of forty procedures whose thread lines are lost or made remarks.
+fn exports() -> Vec<Entry> {
+    use Gives::{Free, Refused};
+    let forty = |thread: usize| Draft { procs: vec![skips(1); 40], threads: vec![thread] };
+    let remarks: Vec<u8> = trees(4).text().split_inclusive(|byte| *byte == 10).fold(vec![], |text, line| {
+        let lost = line.starts_with(b"(thread ") && line != b"(thread 0)\n";
+        [text.as_slice(), if lost { b"; " } else { b"  " }, line].concat()
+    });
+    vec![
+        entry("forty procedures and one thread line", forty(0), Refused(13, 5)),
+        entry("forty procedures and a line of the last", forty(39), Refused(13, 2)),
+        entry("forty procedures and a line of one between", forty(17), Refused(13, 2)),
+        entry("forty procedures and four thread lines", trees(4), Free),
+        entry("forty procedures, three threads lost", run_by(&[0], trees(4)), Refused(13, 40)),
+        entry("forty procedures, the first thread lost", run_by(&[10, 20, 30], trees(4)), Refused(13, 2)),
+        entry("forty procedures, the last thread lost", run_by(&[0, 10, 20], trees(4)), Refused(13, 116)),
+        text("forty procedures, three threads made remarks", &remarks, 13, 40),
+        entry(
+            "64 procedures, each calls the next, a thread of the last",
+            run_by(&[63], calls_forward(64, skips(1))),
+            Refused(13, 2),
+        ),
+        entry(
+            "64 procedures, each calls the one before, a thread of the first",
+            run_by(&[0], calls_forward(64, skips(1)).reversed()),
+            Refused(13, 5),
+        ),
+    ]
+}
+
+/// Rule 13 names the lowest idle procedure, whoever calls it and whatever it calls.
+fn named_idle() -> Vec<Entry> {
+    use Gives::Refused;
+    let last_of_64 = {
+        let mut draft = calls_forward(63, skips(1));
+        draft.procs.push(skips(1));
+        draft
+    };
+    vec![
+        entry("the last of two idle", first(vec![skips(1); 2]), Refused(13, 5)),
+        entry("the first of two idle", run_by(&[1], first(vec![skips(1); 2])), Refused(13, 2)),
+        entry("the last procedure idle", calling(&[&[1]], &[skips(1), skips(1)]), Refused(13, 8)),
+        entry("the last of 64 procedures idle", last_of_64, Refused(13, 2 + 3 * 63)),
+        entry(
+            "an idle one called by a later idle one",
+            calling(&[], &[skips(1), skips(1), vec![Tree::Call(1)]]),
+            Refused(13, 5),
+        ),
+        entry(
+            "an idle one called by an earlier idle one",
+            calling(&[&[3], &[2]], &[chain(&[1]), skips(1)]),
+            Refused(13, 5),
+        ),
+        entry(
+            "an idle one that calls a used one",
+            first(vec![chain(&[0]), vec![Tree::Call(0)]]),
+            Refused(13, 7),
+        ),
+        entry(
+            "a callee of a used and of an idle one",
+            calling(&[&[2], &[2]], &[chain(&[7])]),
+            Refused(13, 5),
+        ),
+        entry("an idle one between two threads", run_by(&[0, 2], first(vec![skips(1); 3])), Refused(13, 5)),
+        entry(
+            "two idle ones, six threads",
+            run_by(&[2, 2, 4, 4, 0, 0], first(vec![skips(1); 5])),
+            Refused(13, 5),
+        ),
+        entry(
+            "an idle one that would deadlock",
+            run_by(&[0, 0], first(vec![chain(&[0, 1]), chain(&[1, 0])])),
+            Refused(13, 9),
+        ),
+    ]
+}
+
+/// Rule 13 names the line in the file.
+fn idle_in_the_file() -> Vec<Entry> {
+    let indented =
+        b"; the pump\n(plan\n\n  (proc\n    (call 2)\n  )\n  ; never run\n\n  (proc\n    (hold 3\n\
+        \x20     (skip)\n    )\n  )\n  ;\n  (proc\n    (skip)\n  )\n  (thread 0)\n  ;(thread 1)\n)\n";
+    vec![
+        text("an idle one, indented with remarks", indented, 13, 9),
+        text("rule 13 in the file", &remark_first(first(vec![skips(1); 2])), 13, 2 * 5),
+    ]
+}
+
+/// Rule 13 behind rules 5 to 8 and 12, and before 9.
+fn rules_beside_idle() -> Vec<Entry> {
+    use Gives::Refused;
+    let with_skip = |mut draft: Draft| {
+        draft.procs.push(skips(1));
+        draft
+    };
+    let locked = first(vec![skips(1), vec![hold(32, vec![])]]);
+    // Procedure 1 is idle, and 2 and 3 call each other.
+    let beside_circle = |body| first(vec![body, skips(1), vec![Tree::Call(3)], vec![Tree::Call(2)]]);
+    vec![
+        entry("procedures before an idle one", first(vec![skips(1); 65]), Refused(5, 2 + 64 * 3)),
+        entry("lock before an idle one", locked, Refused(6, 6)),
+        entry("call before an idle one", first(vec![skips(1), vec![Tree::Call(2)]]), Refused(7, 6)),
+        entry("thread before an idle one", run_by(&[0, 2], first(vec![skips(1); 2])), Refused(8, 9)),
+        entry("an absent thread and no other", run_by(&[2], first(vec![skips(1); 2])), Refused(8, 8)),
+        entry("a circle of 2 that no thread reaches", run_by(&[0], circle(1, 2)), Refused(12, 5)),
+        entry("recursion before an idle one", beside_circle(vec![Tree::Call(2)]), Refused(12, 8)),
+        entry("recursion of idle ones behind another", beside_circle(skips(1)), Refused(12, 8)),
+        entry("an idle one before size", with_skip(doubling(9)), Refused(13, 41)),
+        entry("an idle one before size, from the last", with_skip(doubling(9)).reversed(), Refused(13, 2)),
+        entry("an idle one that is too large", first(vec![skips(1), around(32)]), Refused(13, 5)),
+        entry(
+            "an idle one behind one that is too large",
+            run_by(&[0], Draft::each(vec![around(32), skips(1)])),
+            Refused(13, 2 + 32 * 33 + 2),
+        ),
+    ]
+}
+
+/// Accepted plans with procedures that one call or one thread alone uses.
+fn used_by_little() -> Vec<Entry> {
+    use Gives::{Deadlock, Free};
+    let call = |callee: usize| vec![Tree::Call(callee)];
+    let inside = vec![hold(3, call(1)), Tree::Loop(call(2)), Tree::Either(call(3), call(4))];
+    let chain_of_63 = {
+        let mut draft = calls_forward(63, chain(&[0, 1]));
+        draft.procs.push(chain(&[1, 0]));
+        run_by(&[63, 63, 63, 63, 63, 0], draft)
+    };
+    vec![
+        entry("six procedures, a thread each", Draft::each(vec![skips(1); 6]), Free),
+        entry("named by the sixth thread alone", run_by(&[0, 0, 0, 0, 0, 1], first(vec![skips(1); 2])), Free),
+        entry(
+            "called by the last thread's alone",
+            run_by(&[0, 0, 1], calling(&[&[3], &[2]], &[skips(1), skips(1)])),
+            Free,
+        ),
+        entry("62 calls of the sixth thread", chain_of_63, Deadlock(0b11_1111)),
+        entry("called inside", first([vec![inside], vec![skips(1); 4]].concat()), Free),
+        entry("called in both blocks", first(vec![vec![Tree::Either(call(1), call(1))], skips(1)]), Free),
     ]
 }
 
@@ -589,7 +790,12 @@ fn not_ended() -> Vec<Entry> {
     ]
 }
 
-/// Every rule from 3 on with lines that are passed over before the named one.
+/// A text with a remark before each line.
+fn remark_first(draft: Draft) -> Vec<u8> {
+    draft.text().split_inclusive(|byte| *byte == 10).flat_map(|line| [b";\n", line].concat()).collect()
+}
+
+/// Every other rule from 3 on with lines that are passed over before the named one.
 fn named_in_the_file() -> Vec<Entry> {
     let mut all = vec![
         text("rule 3 in the file", b";\n(plan\n\n(proc\n  (skip\n)\n(thread 0)\n)\n", 3, 5),
@@ -604,13 +810,8 @@ fn named_in_the_file() -> Vec<Entry> {
             10,
         ),
     ];
-    let remark_first = |draft: Draft| {
-        draft.text().split_inclusive(|byte| *byte == 10).flat_map(|line| [b";\n", line].concat()).collect()
-    };
-    let mut push = |name, draft: Draft, rule, line: usize| {
-        let bytes: Vec<u8> = remark_first(draft);
-        all.push(text(name, &bytes, rule, 2 * line));
-    };
+    let mut push =
+        |name, draft: Draft, rule, line: usize| all.push(text(name, &remark_first(draft), rule, 2 * line));
     let threads = Draft { procs: vec![skips(1)], threads: vec![0; 7] };
     push("rule 5 in the file", threads, 5, 11);
     push("rule 12 in the file", circle(1, 2), 12, 5);

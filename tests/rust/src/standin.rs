@@ -185,7 +185,7 @@ fn without_remark(line: &[u8]) -> Vec<u8> {
 fn forms_for_lines(text: &[u8], number: u64) -> u64 {
     let answer = Answer::new(number);
     match lines(text) {
-        Ok(lines) if refused(number) && matches!(answer.a, 4..=9 | 12) => {
+        Ok(lines) if refused(number) && matches!(answer.a, 4..=9 | 12 | 13) => {
             let before = lines.forms.iter().filter(|line| (line.number as u64) < answer.b).count();
             Answer { b: before as u64 + 1, ..answer }.number()
         }
@@ -221,7 +221,7 @@ fn found(number: u64) -> bool {
 }
 
 /// A pair list with a fault each.
-pub const FAULTY_PAIRS: [(&str, PairsCall); 24] = [
+pub const FAULTY_PAIRS: [(&str, PairsCall); 25] = [
     ("one more than there are", |text, proc, out| {
         let number = pairs(text, proc, out);
         if refused(number) {
@@ -327,6 +327,7 @@ pub const FAULTY_PAIRS: [(&str, PairsCall); 24] = [
         _ => pairs(text, proc, out),
     }),
     ("129 pairs refused", |text, proc, out| pairs_of(misread::more_than_128_pairs_refused(text), proc, out)),
+    ("idle procedures let through", |text, proc, out| pairs_of(misread::idle_let_through(text), proc, out)),
     ("128 words are enough", |text, proc, out| pairs_lent(text, proc, out, 128)),
     ("510 words are enough", |text, proc, out| pairs_lent(text, proc, out, MAX_PAIRS - 1)),
     ("512 words are needed", |text, proc, out| pairs_lent(text, proc, out, MAX_PAIRS + 1)),
@@ -363,7 +364,7 @@ fn pairs_lent(text: &[u8], proc: u64, out: &mut [u8], words: usize) -> u64 {
 }
 
 /// A verdict with a fault each.
-pub const FAULTY_VERDICTS: [(&str, VerdictCall); 27] = [
+pub const FAULTY_VERDICTS: [(&str, VerdictCall); 29] = [
     ("always free", |text, out| {
         let number = verdict(text, &mut out.to_vec());
         if found(number) {
@@ -475,21 +476,9 @@ pub const FAULTY_VERDICTS: [(&str, VerdictCall); 27] = [
             verdict(text, out)
         }
     }),
-    ("rule 1 before rule 9", |text, out| {
-        let number = verdict(text, out);
-        match named(text) {
-            Ok(plan) if refused(number) && Answer::new(number).a == 9 => {
-                let sizes = sizes(&plan);
-                let sum = plan.threads.iter().fold(0_u64, |sum, proc| sum.saturating_add(sizes[*proc]));
-                if (out.len() as u64) / 2 < sum {
-                    short()
-                } else {
-                    number
-                }
-            }
-            _ => number,
-        }
-    }),
+    ("rule 1 before rule 9", |text, out| short_before(9, text, out)),
+    ("rule 1 before rule 13", |text, out| short_before(13, text, out)),
+    ("idle procedures let through", |text, out| verdict_of(misread::idle_let_through(text), out)),
     ("129 pairs refused", |text, out| verdict_of(misread::more_than_128_pairs_refused(text), out)),
     ("pairs behind the 128th left out", |text, out| {
         let number = verdict(text, &mut out.to_vec());
@@ -553,8 +542,25 @@ pub const FAULTY_VERDICTS: [(&str, VerdictCall); 27] = [
     }),
 ];
 
+/// The verdict with rule 1 before another rule, by the sizes that the threads would have.
+fn short_before(rule: u64, text: &[u8], out: &mut [u8]) -> u64 {
+    let number = verdict(text, out);
+    match named(text) {
+        Ok(plan) if refused(number) && Answer::new(number).a == rule => {
+            let sizes = sizes(&plan);
+            let sum = plan.threads.iter().fold(0_u64, |sum, proc| sum.saturating_add(sizes[*proc]));
+            if (out.len() as u64) / 2 < sum {
+                short()
+            } else {
+                number
+            }
+        }
+        _ => number,
+    }
+}
+
 /// A tidy copy with a fault each.
-pub const FAULTY_TIDIES: [(&str, TidyCall); 32] = [
+pub const FAULTY_TIDIES: [(&str, TidyCall); 33] = [
     ("one byte more than written", |text, out| {
         let number = tidy(text, out);
         if refused(number) {
@@ -692,16 +698,27 @@ pub const FAULTY_TIDIES: [(&str, TidyCall); 32] = [
         _ => tidy(text, out),
     }),
     ("129 pairs refused", |text, out| copy_of(misread::more_than_128_pairs_refused(text), out)),
+    ("idle procedures let through", |text, out| copy_of(misread::idle_let_through(text), out)),
 ];
 
 /// A space call with a fault each.
 pub const FAULTY_SPACES: [(&str, SpaceCall); 6] = [
     ("129 pairs refused", |text| space_of(misread::more_than_128_pairs_refused(text), Plan::size_of_threads)),
+    ("idle procedures let through", |text| space_of(misread::idle_let_through(text), Plan::size_of_threads)),
     ("a size of 1,025 let through", |text| {
-        let_through(text, |plan| plan.sizes.iter().all(|size| *size <= MAX_SIZE + 1))
-    }),
-    ("sizes of threads alone", |text| {
-        let_through(text, |plan| plan.threads.iter().all(|proc| plan.sizes[*proc] <= MAX_SIZE))
+        let number = space(text);
+        match named(text) {
+            Ok(plan) if refused(number) && Answer::new(number).a == 9 => {
+                let plan = Plan { sizes: sizes(&plan), ..plan };
+                let let_through = plan.sizes.iter().all(|size| *size <= MAX_SIZE + 1);
+                if let_through {
+                    space_of(Ok(plan), Plan::size_of_threads)
+                } else {
+                    number
+                }
+            }
+            _ => number,
+        }
     }),
     ("a refusal for nothing needed", |text| {
         let number = space(text);
@@ -715,21 +732,6 @@ pub const FAULTY_SPACES: [(&str, SpaceCall); 6] = [
     ("too early behind the last form", |text| behind_the_last_form(text, space(text))),
 ];
 
-/// The space call that lets some plans through that rule 9 refuses.
-fn let_through(text: &[u8], told: fn(&Plan) -> bool) -> u64 {
-    let number = space(text);
-    if Answer::new(number).a != 9 {
-        return number;
-    }
-    let plan = named(text).expect("the rules before 9 are kept");
-    let plan = Plan { sizes: sizes(&plan), ..plan };
-    if told(&plan) {
-        space_of(Ok(plan), Plan::size_of_threads)
-    } else {
-        number
-    }
-}
-
 /// The calls that go by the sum, over sums with a fault each.
 pub const FAULTY_SUMS: [(&str, Calls); 7] = [
     ("one too small", calls_by_sum!(misread::one_too_small)),
@@ -742,7 +744,7 @@ pub const FAULTY_SUMS: [(&str, Calls); 7] = [
 ];
 
 /// The calls over readings with a fault each.
-pub const FAULTY_READINGS: [(&str, Calls); 18] = [
+pub const FAULTY_READINGS: [(&str, Calls); 34] = [
     ("calls of earlier ones alone", calls_over!(misread::calls_of_earlier_ones_alone)),
     ("absent from 64 on", calls_over!(misread::absent_from_64_on)),
     ("six bits of a callee", calls_over!(misread::six_bits_of_a_callee)),
@@ -756,6 +758,22 @@ pub const FAULTY_READINGS: [(&str, Calls); 18] = [
     ("rule 12 before rule 7", calls_over!(misread::recursion_before_calls)),
     ("rule 12 before rule 8", calls_over!(misread::recursion_before_threads)),
     ("rule 9 before rule 12", calls_over!(misread::size_before_recursion)),
+    ("rule 13 not asked", calls_over!(misread::idle_let_through)),
+    ("rule 13 before rule 8", calls_over!(misread::idle_before_threads)),
+    ("rule 13 before rule 12", calls_over!(misread::idle_before_recursion)),
+    ("rule 9 before rule 13", calls_over!(misread::size_before_idle)),
+    ("the highest idle one", calls_over!(misread::highest_idle)),
+    ("called by any for used", calls_over!(misread::called_by_any_for_used)),
+    ("used by one call alone", calls_over!(misread::one_call_alone)),
+    ("used by 62 calls alone", calls_over!(misread::calls_62_deep_alone)),
+    ("used by calls outside alone", calls_over!(misread::calls_outside_alone)),
+    ("used by name alone", calls_over!(misread::named_alone)),
+    ("used by calls alone", calls_over!(misread::called_alone)),
+    ("used by the first thread alone", calls_over!(misread::first_thread_alone)),
+    ("used by the last thread alone", calls_over!(misread::last_thread_alone)),
+    ("used by threads' numbers", calls_over!(misread::used_by_thread_numbers)),
+    ("five bits of a used one", calls_over!(misread::five_bits_of_a_used_one)),
+    ("rule 9 of the threads' procedures alone", calls_over!(misread::size_of_threads_alone)),
     ("more than 128 pairs refused", calls_over!(misread::more_than_128_pairs_refused)),
     ("more than 511 pairs before rule 9", calls_over!(misread::pairs_before_sizes)),
     ("more than 511 pairs before rule 12", calls_over!(misread::pairs_before_recursion)),

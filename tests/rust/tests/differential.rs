@@ -4,15 +4,16 @@
 //!                       [--stack BYTES] [--only NUMBER] [--file PLAN] [--without-large]
 //!
 //! LOCKPLAN_TEXTS and LOCKPLAN_SEED stand for the first two. A text that fails
-//! is made shorter and written to a file. Ends with 1 after a difference. The last
-//! option leaves out the large families, on some of which the stand-in does not end.
+//! is made shorter and written to a file. Ends with 1 after a difference, and where no
+//! more than a third of a thousand generated texts or more are accepted. The last option
+//! leaves out the large families, on some of which the stand-in does not end.
 
 fn main() {
     let options = differential::options();
     let stack = options.stack;
     let worker = std::thread::Builder::new().stack_size(stack).spawn(move || differential::run(&options));
-    let differences = worker.expect("a thread").join();
-    std::process::exit(i32::from(!matches!(differences, Ok(0))));
+    let right = worker.expect("a thread").join();
+    std::process::exit(i32::from(!matches!(right, Ok(true))));
 }
 
 mod differential {
@@ -23,7 +24,7 @@ mod differential {
 
     use lockplan_tests::compare::{outcome, shorten, Bench, Outcome};
     use lockplan_tests::families::Draft;
-    use lockplan_tests::generate::{beginnings, beginnings_indented, generate, Case};
+    use lockplan_tests::generate::{beginnings, beginnings_indented, enough_accepted, generate, Case};
     use lockplan_tests::library::CALLS;
     use lockplan_tests::random::Random;
     use lockplan_tests::{families, full, guard, lengths, shelf};
@@ -127,8 +128,39 @@ mod differential {
         })
     }
 
-    /// The number of differences.
-    pub fn run(options: &Options) -> usize {
+    /// What the generated texts gave.
+    #[derive(Default)]
+    struct Generated {
+        texts: u64,
+        accepted: u64,
+        /// Refused by rule 13.
+        idle: u64,
+    }
+
+    impl Generated {
+        fn count(&mut self, outcome: Option<Outcome>) {
+            self.texts += 1;
+            self.accepted += u64::from(matches!(outcome, Some(Outcome::Free | Outcome::Deadlock)));
+            self.idle += u64::from(outcome == Some(Outcome::Refused(13)));
+        }
+
+        /// Prints the counts and says whether enough texts are accepted.
+        fn enough(&self) -> bool {
+            let Generated { texts, accepted, idle } = *self;
+            let share = 100.0 * accepted as f64 / texts.max(1) as f64;
+            println!(
+                "  {accepted} of {texts} generated texts accepted ({share:.1} %), {idle} refused by rule 13"
+            );
+            let enough = enough_accepted(accepted, texts);
+            if !enough {
+                println!("differential: no more than a third of the generated texts are accepted");
+            }
+            enough
+        }
+    }
+
+    /// Whether there were no differences, and enough accepted texts.
+    pub fn run(options: &Options) -> bool {
         let start = Instant::now();
         let fixed = fixed(&options.file, options.large);
         let numbers = match (&options.file, options.only) {
@@ -141,20 +173,19 @@ mod differential {
         let mut random = Random::new(0);
         let (mut outcomes, mut kinds) = (BTreeMap::new(), BTreeMap::new());
         let (mut texts, mut bytes, mut differences) = (0_u64, 0_usize, 0);
-        let (mut generated, mut accepted) = (0_u64, 0_u64);
+        let mut generated = Generated::default();
         for index in numbers {
             let case = compared(&fixed, options.seed, index, &mut random);
             guard::now(options.seed, index);
             texts += 1;
             bytes += case.text.len();
             *kinds.entry(case.kind).or_insert(0_u64) += 1;
-            let by_seed = index >= fixed.len() as u64;
-            generated += u64::from(by_seed);
-            match bench.check_known(CALLS, &case.text, case.known, &mut random) {
-                Ok(outcome) => {
-                    accepted += u64::from(by_seed && !matches!(outcome, Outcome::Refused(_)));
-                    *outcomes.entry(format!("{outcome:?}")).or_insert(0_u64) += 1;
-                }
+            let outcome = bench.check_known(CALLS, &case.text, case.known, &mut random);
+            if index >= fixed.len() as u64 {
+                generated.count(outcome.as_ref().ok().copied());
+            }
+            match outcome {
+                Ok(outcome) => *outcomes.entry(format!("{outcome:?}")).or_insert(0_u64) += 1,
                 Err(message) => {
                     differences += 1;
                     println!(
@@ -179,7 +210,7 @@ mod differential {
         );
         println!("  kinds: {kinds:?}");
         println!("  results: {outcomes:?}");
-        println!("  {accepted} of {generated} generated texts accepted");
+        let enough = generated.enough();
         println!("  {:?}", bench.counts);
         println!(
             "  couples of accepted texts: {} of one plan, {} of two",
@@ -190,7 +221,7 @@ mod differential {
             bench.twins.shuffled, bench.twins.shuffled_refused
         );
         println!("differential: {differences} differences");
-        differences
+        differences == 0 && enough
     }
 
     /// A text with the outcome of one that fails, made shorter while it fails.

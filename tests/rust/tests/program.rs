@@ -14,6 +14,7 @@ use std::process::{Command, Stdio};
 
 use lockplan_tests::generate::generate;
 use lockplan_tests::random::Random;
+use lockplan_tests::reference::read;
 use lockplan_tests::report::{check_known, same};
 use lockplan_tests::shelf::{all, all_indented};
 use lockplan_tests::{families, slip, tidy};
@@ -120,6 +121,10 @@ fn main() {
         std::env::var(name).map_or(default, |value| value.parse().expect("a number"))
     };
     let cases = cases(number("LOCKPLAN_TEXTS", 500), number("LOCKPLAN_SEED", 1));
+    let rules: Vec<u8> = cases.iter().filter_map(|(_, text, _)| Some(read(text).err()?.rule)).collect();
+    let idle = rules.iter().filter(|rule| **rule == 13).count();
+    let (texts, accepted) = (cases.len(), cases.len() - rules.len());
+    println!("program: {texts} texts, {accepted} accepted, {idle} refused by rule 13");
     let differences: usize = programs.iter().map(|program| test(program, &cases)).sum();
     std::process::exit(i32::from(differences > 0));
 }

@@ -9,7 +9,8 @@ use lockplan_tests::compare::{Bench, Calls, Outcome};
 use lockplan_tests::families::{self, Draft, Tree};
 use lockplan_tests::full::{self, most_pairs};
 use lockplan_tests::gateway::{replay, Automaton, State};
-use lockplan_tests::generate::{self, generate};
+use lockplan_tests::generate::{self, enough_accepted, generate};
+use lockplan_tests::idle::{employed, idle};
 use lockplan_tests::indent::{self, indent, over, padded, Padding};
 use lockplan_tests::pairs::{by_execution, compositional, Pair};
 use lockplan_tests::random::Random;
@@ -192,6 +193,8 @@ fn slips_as_they_are_printed() {
     assert_eq!(slip("doubling, procedure 9"), "(refused 9 37)\n");
     assert_eq!(slip("J"), "(refused 4 1)\n");
     assert_eq!(slip("a circle of 2 that no thread reaches"), "(refused 12 5)\n");
+    assert_eq!(slip("forty procedures and one thread line"), "(refused 13 5)\n");
+    assert_eq!(slip("an idle one before size"), "(refused 13 41)\n");
 }
 
 #[test]
@@ -228,7 +231,8 @@ fn text_of_a_procedure() {
     let text = b"(plan\n(proc\n(call 1)\n)\n(proc\n(skip)\n)\n(thread 0)\n)\n";
     assert_eq!(proc_text(text, 0), b"(proc\n(call 1)\n)\n");
     assert_eq!(proc_text(b"(plan\n(proc\n(call 0)\n)\n(thread 0)\n)\n", 0), b"");
-    let text = b"(plan\n;a\n  (proc\n\n (skip)\n ;b\n    )\n;c\n\n  (proc\n(skip)\n)\n  ;d\n(thread 1)\n)\n";
+    assert_eq!(proc_text(b"(plan\n(proc\n(skip)\n)\n(proc\n(skip)\n)\n(thread 0)\n)\n", 0), b"");
+    let text = b"(plan\n;a\n  (proc\n\n (skip)\n ;b\n    )\n;c\n\n  (proc\n(skip)\n)\n  ;d\n(thread 1)\n(thread 0)\n)\n";
     assert_eq!(proc_text(text, 0), b"  (proc\n\n (skip)\n ;b\n    )\n");
     assert_eq!(proc_text(text, 1), b"  (proc\n(skip)\n)\n");
     let (mut accepted, mut indented) = (0, 0);
@@ -292,6 +296,8 @@ fn a_refused_text_has_no_copy() {
     assert_eq!(printed(&[10; 32_769]), b"(refused 2 0)\n");
     assert_eq!(printed(b" (plan\n\t\n"), b"(refused 3 2)\n");
     assert_eq!(printed(b"(plan\n;\n(proc\n(call 0)\n)\n(thread 0)\n)\n"), b"(refused 12 3)\n");
+    let idle = b"(plan\n;\n(proc\n(skip)\n)\n;\n(proc\n(call 0)\n)\n(thread 0)\n)\n";
+    assert_eq!(printed(idle), b"(refused 13 7)\n");
 }
 
 /// What is passed over alters nothing but the lines that are named.
@@ -615,9 +621,8 @@ fn reading_is_the_inverse_of_printing() {
     }
 }
 
-/// The procedures that reach themselves a second time: where a way of so many calls
-/// leads back, for every number of calls. From the lines and not from the tree.
-fn by_ways(lines: &Lines) -> Vec<usize> {
+/// What each procedure calls, from the lines and not from the tree.
+fn calls_of(lines: &Lines) -> Vec<BTreeSet<usize>> {
     let mut calls: Vec<BTreeSet<usize>> = Vec::new();
     for line in &lines.forms {
         match line.form {
@@ -626,6 +631,13 @@ fn by_ways(lines: &Lines) -> Vec<usize> {
             _ => {}
         }
     }
+    calls
+}
+
+/// The procedures that reach themselves a second time: where a way of so many calls
+/// leads back, for every number of calls.
+fn by_ways(lines: &Lines) -> Vec<usize> {
+    let calls = calls_of(lines);
     let mut found = BTreeSet::new();
     let mut ends = calls.clone();
     for _ in 0..calls.len() {
@@ -634,6 +646,122 @@ fn by_ways(lines: &Lines) -> Vec<usize> {
         ends = ends.iter().map(one_more).collect();
     }
     found.into_iter().collect()
+}
+
+/// The idle procedures a second time: back from each over its callers and theirs, and none
+/// of them is one that a thread line names.
+fn by_callers(lines: &Lines) -> Vec<usize> {
+    let calls = calls_of(lines);
+    let named = |proc: usize| lines.forms.iter().any(|line| line.form == Form::Thread(proc as u32));
+    let used = |proc: usize| {
+        let mut behind = BTreeSet::from([proc]);
+        for _ in 0..calls.len() {
+            let callers = (0..calls.len()).filter(|caller| !calls[*caller].is_disjoint(&behind));
+            behind.extend(callers.collect::<Vec<_>>());
+        }
+        behind.into_iter().any(named)
+    };
+    (0..calls.len()).filter(|proc| !used(*proc)).collect()
+}
+
+/// Rule 13, in three ways.
+#[test]
+fn idle_procedures_are_those_without_a_thread_behind() {
+    let (mut none, mut some, mut named_first) = (0, 0, 0);
+    for index in 0..texts(20_000) {
+        let case = generate(&mut Random::of_text(37, index));
+        let Ok(plan) = named(&case.text) else {
+            continue;
+        };
+        let found = plan.idle();
+        assert_eq!(found, by_callers(&lines(&case.text).unwrap()), "{}", case.kind);
+        assert_eq!(found, idle(&tree(&plan)), "{}", case.kind);
+        let line = found.first().map(|proc| plan.procs[*proc].line);
+        match (line, plan.recursive().is_empty(), read(&case.text)) {
+            (Some(line), true, said) => {
+                assert_eq!(said.err(), Some(Refusal { rule: 13, line }), "{}", case.kind);
+                named_first += 1;
+            }
+            (_, _, said) => assert!(said.err().is_none_or(|refusal| refusal.rule != 13), "{}", case.kind),
+        }
+        none += usize::from(line.is_none());
+        some += usize::from(line.is_some());
+    }
+    println!("{none} plans without an idle procedure, {some} with, {named_first} of them refused by rule 13");
+    assert!(none > 4_000 && some > 400 && named_first > 300);
+}
+
+/// The plans in `examples` that have an idle procedure.
+const IDLE_EXAMPLES: [&str; 8] = [
+    "forty-procedures-one-thread",
+    "idle-called-by-idle",
+    "idle-recursion",
+    "indented-idle-procedure",
+    "last-procedure-idle",
+    "rule-8-before-13",
+    "rule-12-before-13",
+    "rule-13-before-9",
+];
+
+/// Idle procedures only where a text is about them.
+#[test]
+fn fixed_texts_have_no_idle_procedures() {
+    let on_shelf = shelf::idle_procedures().into_iter().map(|entry| entry.name);
+    let about: BTreeSet<&str> = on_shelf.chain(IDLE_EXAMPLES).collect();
+    let shelf = all().into_iter().chain(all_indented()).map(|entry| (entry.name.to_string(), entry.text));
+    let long = lengths::all().into_iter().map(|long| (long.name.to_string(), long.text));
+    let files = ["../c", "../../examples"].into_iter().flat_map(plans_in);
+    let texts: Vec<(String, Vec<u8>)> = shelf.chain(long).chain(files).collect();
+    let draft_of = |text: &[u8]| lines(text).and_then(|lines| structure(&lines)).map(|plan| tree(&plan)).ok();
+    let drafts = texts.into_iter().filter_map(|(name, text)| Some((name, draft_of(&text)?)));
+    let families = families::all().into_iter().map(|(name, draft, _)| (name, draft));
+    let (met, checked): (Vec<_>, Vec<_>) =
+        drafts.chain(families).partition(|(name, _)| about.contains(name.as_str()));
+    checked.iter().for_each(|(name, draft)| assert_eq!(idle(draft), [], "{name}"));
+    let met: Vec<&str> =
+        met.iter().filter(|(_, draft)| !idle(draft).is_empty()).map(|(name, _)| name.as_str()).collect();
+    IDLE_EXAMPLES.iter().for_each(|name| assert!(met.contains(name), "{name}"));
+    println!("{} texts without an idle procedure, {} with", checked.len(), met.len());
+    assert!(checked.len() > 600 && met.len() > 100);
+}
+
+/// The plans in the files of a folder, whose path is from this package on, by name.
+fn plans_in(folder: &str) -> Vec<(String, Vec<u8>)> {
+    let files = std::fs::read_dir(format!("{}/{folder}", env!("CARGO_MANIFEST_DIR"))).unwrap();
+    let paths = files.map(|file| file.unwrap().path());
+    let plans = paths.filter(|path| path.extension().is_some_and(|end| end == "plan"));
+    plans
+        .map(|path| (path.file_stem().unwrap().display().to_string(), std::fs::read(&path).unwrap()))
+        .collect()
+}
+
+/// What is drawn for a plan without idle procedures has none and breaks the rule that it
+/// broke, if any, but 13.
+#[test]
+fn employed_procedures() {
+    let (mut idle_before, mut kept) = (0, 0);
+    for index in 0..texts(6_000) {
+        let random = &mut Random::of_text(38, index);
+        let Ok(plan) = named(&generate(random).text) else {
+            continue;
+        };
+        let draft = tree(&plan);
+        let employed = employed(draft.clone(), random);
+        assert_eq!(idle(&employed), []);
+        if idle(&draft).is_empty() {
+            assert_eq!(employed, draft);
+            continue;
+        }
+        idle_before += 1;
+        kept += usize::from(employed.procs.len() == draft.procs.len());
+        let rule = |draft: &Draft| read(&draft.text()).err().map(|refusal| refusal.rule);
+        match rule(&draft) {
+            Some(13) => assert_ne!(rule(&employed), Some(13)),
+            before => assert_eq!(rule(&employed), before),
+        }
+    }
+    println!("{idle_before} plans with idle procedures, {kept} of them with all procedures still there");
+    assert!(idle_before > 100 && 10 * kept > 9 * idle_before);
 }
 
 /// Rule 12, and the order in which sizes and pairs are found.
@@ -926,6 +1054,26 @@ fn climbs() {
     assert!(conflict(&pairs_of_threads(&read(&text).unwrap())).is_none());
 }
 
+/// A climb never comes to a refused plan, also from a start with bodies that no thread
+/// comes to.
+#[test]
+fn climbs_over_accepted_plans() {
+    let (mut idle_starts, mut steps) = (0, 0);
+    for seed in 0..texts(60) {
+        let start = Chains::random(&mut Random::new(seed));
+        idle_starts += usize::from(!idle(&start.draft()).is_empty());
+        let measure =
+            |text: &[u8], _: u64| Some((false, read(text).expect("an accepted plan").size_of_threads()));
+        let mut climb = Climb::new(start, None, seed, measure).expect("a start that fits");
+        for _ in 0..40 {
+            climb.step();
+        }
+        steps += climb.kept;
+    }
+    println!("{idle_starts} starts with idle bodies, {steps} changes kept");
+    assert!(idle_starts > 10 && steps > 500);
+}
+
 /// A schedule for every generated deadlock, also of plans too large for all states.
 #[test]
 fn every_deadlock_has_a_schedule() {
@@ -952,7 +1100,7 @@ fn generator_meets_everything() {
     let mut outcomes = BTreeMap::new();
     let mut kinds = BTreeMap::new();
     let (mut over, mut called, mut summed) = (Over::default(), Called::default(), Summed::default());
-    let mut paired = Paired::default();
+    let (mut paired, mut unused) = (Paired::default(), Unused::default());
     for index in 0..TEXTS {
         let case = generate(&mut Random::of_text(1, index as u64));
         let outcome = match read(&case.text) {
@@ -966,23 +1114,33 @@ fn generator_meets_everything() {
         called.count(&case.text);
         summed.count(&case.text);
         paired.count(&case.text);
+        unused.count(&case.text);
     }
     let accepted = outcomes[&Outcome::Free] + outcomes[&Outcome::Deadlock];
-    println!("{outcomes:?}\n{kinds:?}\n{over:?}\n{called:?}\n{summed:?}\n{paired:?}");
-    println!("{accepted} of {TEXTS} accepted");
+    println!("{outcomes:?}\n{kinds:?}\n{over:?}\n{called:?}\n{summed:?}\n{paired:?}\n{unused:?}");
+    println!("{accepted} of {TEXTS} accepted, {} refused by rule 13", outcomes[&Outcome::Refused(13)]);
     over.enough();
     called.enough();
     summed.enough();
     paired.enough();
+    unused.enough();
     for rule in RULES {
         assert!(outcomes[&Outcome::Refused(rule)] >= 30, "rule {rule}");
     }
     assert!(outcomes[&Outcome::Free] > 3_000 && outcomes[&Outcome::Deadlock] > 3_000);
-    assert!(3 * accepted > TEXTS);
+    assert!(enough_accepted(accepted, TEXTS as u64));
+}
+
+/// The share of accepted texts that the comparison asks for.
+#[test]
+fn a_third_is_not_enough() {
+    let told = [(0, 999), (0, 1_000), (333, 999), (333, 1_000), (334, 1_000), (334, 1_002), (335, 1_002)];
+    let enough = told.map(|(accepted, generated)| enough_accepted(accepted, generated));
+    assert_eq!(enough, [true, false, true, false, true, false, true]);
 }
 
 /// The rules that a plan can break.
-const RULES: [u8; 9] = [2, 3, 4, 5, 6, 7, 8, 12, 9];
+const RULES: [u8; 10] = [2, 3, 4, 5, 6, 7, 8, 12, 13, 9];
 
 /// What there is of calls.
 #[derive(Debug, Default)]
@@ -1051,10 +1209,10 @@ impl Called {
 /// What there is of sums, in accepted texts.
 #[derive(Debug, Default)]
 struct Summed {
-    /// With one thread, with a procedure that several run, and with one that none runs.
+    /// With one thread, with a procedure that several run, and with one that is only called.
     one_thread: usize,
     shared: usize,
-    idle: usize,
+    only_called: usize,
     /// Near the largest sum.
     large: usize,
 }
@@ -1067,14 +1225,99 @@ impl Summed {
         let run: BTreeSet<usize> = plan.threads.iter().copied().collect();
         self.one_thread += usize::from(plan.threads.len() == 1);
         self.shared += usize::from(run.len() < plan.threads.len());
-        self.idle += usize::from(run.len() < plan.procs.len());
+        self.only_called += usize::from(run.len() < plan.procs.len());
         self.large += usize::from(plan.size_of_threads() as usize > MAX_SUM - 20);
     }
 
     /// Of 20,000 texts.
     fn enough(&self) {
-        assert!(self.one_thread >= 300 && self.shared >= 1_000 && self.idle >= 1_000);
+        assert!(self.one_thread >= 300 && self.shared >= 1_000 && self.only_called >= 1_000);
         assert!(self.large >= 50);
+    }
+}
+
+/// What there is of idle procedures, and of those that are used by little.
+#[derive(Debug, Default)]
+struct Unused {
+    /// Refused by rule 13: with one idle procedure, with several, with all but one.
+    one: usize,
+    several: usize,
+    all_but_one: usize,
+    /// Of these, the first idle, the last; an idle one that an idle one calls, and one that
+    /// calls a used one.
+    first: usize,
+    last: usize,
+    called_by_idle: usize,
+    calls_used: usize,
+    /// Refused by 13 with a size past the limit, and with idle ones by 12 and by 8.
+    too_large: usize,
+    recursive: usize,
+    absent_thread: usize,
+    /// Accepted: with a procedure that is reached through 20 calls or more, through 63, by
+    /// the last of several threads alone, through calls inside alone.
+    far: usize,
+    farthest: usize,
+    by_the_last: usize,
+    inside: usize,
+}
+
+impl Unused {
+    fn count(&mut self, text: &[u8]) {
+        let Ok(plan) = lines(text).and_then(|lines| structure(&lines)) else {
+            return;
+        };
+        match read(text) {
+            Ok(_) => self.accepted(&plan),
+            Err(Refusal { rule: 13, .. }) => self.refused(&plan),
+            Err(Refusal { rule: 12, .. }) => self.recursive += usize::from(!plan.idle().is_empty()),
+            Err(Refusal { rule: 8, .. }) => self.absent_thread += usize::from(!idle(&tree(&plan)).is_empty()),
+            Err(_) => {}
+        }
+    }
+
+    fn refused(&mut self, plan: &Plan) {
+        let (idle, count) = (plan.idle(), plan.procs.len());
+        let calls = || idle.iter().flat_map(|proc| plan.callees(*proc));
+        self.one += usize::from(idle.len() == 1);
+        self.several += usize::from(idle.len() > 1);
+        self.all_but_one += usize::from(idle.len() > 1 && idle.len() + 1 == count);
+        self.first += usize::from(idle[0] == 0);
+        self.last += usize::from(idle.contains(&(count - 1)));
+        self.called_by_idle += usize::from(calls().any(|callee| idle.contains(&callee)));
+        self.calls_used += usize::from(calls().any(|callee| !idle.contains(&callee)));
+        self.too_large += usize::from(sizes(plan).iter().any(|size| *size > MAX_SIZE));
+    }
+
+    fn accepted(&mut self, plan: &Plan) {
+        let mut left: BTreeSet<usize> = (0..plan.procs.len()).collect();
+        let mut last: BTreeSet<usize> = plan.threads.iter().copied().collect();
+        let mut calls = 0;
+        while left.len() > last.len() {
+            left.retain(|proc| !last.contains(proc));
+            last =
+                last.iter().flat_map(|proc| plan.callees(*proc)).filter(|proc| left.contains(proc)).collect();
+            calls += 1;
+        }
+        self.far += usize::from(calls >= 20);
+        self.farthest += usize::from(calls == 63);
+        let draft = tree(plan);
+        let but_the_last = draft.threads[..draft.threads.len() - 1].to_vec();
+        self.by_the_last += usize::from(!idle(&Draft { threads: but_the_last, ..draft.clone() }).is_empty());
+        let outside = |block: &Vec<Tree>| -> Vec<Tree> {
+            block.iter().filter(|tree| matches!(tree, Tree::Call(_))).cloned().collect()
+        };
+        let procs = draft.procs.iter().map(outside).collect();
+        self.inside += usize::from(!idle(&Draft { procs, ..draft }).is_empty());
+    }
+
+    /// Of 20,000 texts.
+    fn enough(&self) {
+        assert!([self.one, self.several, self.all_but_one].iter().all(|count| *count >= 50));
+        assert!([self.first, self.last, self.called_by_idle, self.calls_used]
+            .iter()
+            .all(|count| *count >= 100));
+        assert!([self.too_large, self.recursive, self.absent_thread].iter().all(|count| *count >= 20));
+        assert!(self.far >= 50 && self.farthest >= 5 && self.by_the_last >= 1_000 && self.inside >= 500);
     }
 }
 
@@ -1171,7 +1414,7 @@ struct Over {
     texts: usize,
     accepted: usize,
     /// By rule, with a line that is passed over before the one that is named.
-    before: [usize; 13],
+    before: [usize; 14],
     /// A remark or blank line that is not ended.
     not_ended: usize,
     /// Too long, and nothing else is broken.
@@ -1269,9 +1512,15 @@ fn comparison_finds_every_fault() {
 /// concerns texts of right names, without what the reference says of the text itself.
 #[test]
 fn shuffled_procedures_find_faults() {
-    let names =
-        ["absent from 64 on", "six bits of a callee", "rule 12 before rule 7", "rule 12 before rule 8"];
-    let fixed: Vec<Vec<u8>> = shelf::calls().into_iter().map(|entry| entry.text).collect();
+    let names = [
+        "absent from 64 on",
+        "six bits of a callee",
+        "rule 12 before rule 7",
+        "rule 12 before rule 8",
+        "rule 13 before rule 8",
+    ];
+    let entries = shelf::calls().into_iter().chain(shelf::idle_procedures());
+    let fixed: Vec<Vec<u8>> = entries.map(|entry| entry.text).collect();
     let readings = standin::FAULTY_READINGS.into_iter().filter(|(name, _)| !names.contains(name));
     let sum = standin::FAULTY_SUMS.into_iter().filter(|(name, _)| name.contains("threads' numbers"));
     let space = sum.map(|(name, Calls { space, .. })| (name, Calls { space, ..standin::CALLS }));

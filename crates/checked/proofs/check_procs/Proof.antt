@@ -1,17 +1,17 @@
--- Rule 12 comes first; within it there are ranks, and rule 9 decides.
+-- Rules 12 and 13 come first; within 12 there are ranks, and rule 9 decides.
 use borrow.Author.Needs.{needs}
-use Rattle.checked.proofs.Checked.{recursion-refused, recursion-ranks, recursion-kept}
+use Rattle.checked.proofs.Checked.{reach-refused, reach-ranks, reach-kept}
 use Rattle.checked.proofs.check_procs.Statement.{statement}
 use Rattle.checked.proofs.check_procs.Tie as tie
 
 reach-masks-requires : tie.Need-reach-masks-requires
 reach-masks-requires c κs = search needs
 
-slice-aggregate-check-recursion : tie.Need-slice-aggregate-check-recursion
-slice-aggregate-check-recursion c = search needs
+slice-aggregate-check-reach : tie.Need-slice-aggregate-check-reach
+slice-aggregate-check-reach c = search needs
 
-check-recursion-requires : tie.Need-check-recursion-requires
-check-recursion-requires c κs = search needs
+check-reach-requires : tie.Need-check-reach-requires
+check-reach-requires c κs = search needs
 
 enum-told : tie.Need-enum-told
 enum-told c = search needs
@@ -23,24 +23,24 @@ no-space-requires : tie.Need-no-space-requires
 no-space-requires c κs = search needs
 
 returns : tie.Need-returns
-returns c = search (recursion-refused, needs)
+returns c = search (reach-refused, needs)
 
 slice-aggregate-check-sizes : tie.Need-slice-aggregate-check-sizes
 slice-aggregate-check-sizes c = search needs
 
 check-sizes-requires : tie.Need-check-sizes-requires
-check-sizes-requires c κs = search (recursion-ranks, needs)
+check-sizes-requires c κs = search (reach-ranks, needs)
 
 returns-2 : tie.Need-returns-2
-returns-2 c = search (recursion-kept, needs)
+returns-2 c = search (reach-kept, needs)
 
 pub check-procs-spec : {M : Type 1} → statement M
 check-procs-spec =
     tie.close
     (tie.spec
     reach-masks-requires
-    slice-aggregate-check-recursion
-    check-recursion-requires
+    slice-aggregate-check-reach
+    check-reach-requires
     enum-told
     enum-told-2
     no-space-requires

@@ -28,7 +28,7 @@ use Rattle.semantics.proofs.Calls.Ranks.{acyclic-ranks}
 use Rattle.semantics.proofs.Gateway.Invariant.{run-invariant, run-length, start-length, start-invariant}
 use Rattle.semantics.proofs.Critical.PairList.{pair-list-critical}
 use Rattle.semantics.proofs.Stuck.LargestStuck.{rounds, rounds-largest, rounds-in}
-use Rattle.semantics.proofs.Conflicts.ConflictSearch.{any-is}
+use Rattle.semantics.proofs.Ground.Members.{any-is}
 use Rattle.semantics.proofs.Conflicts.Characterisation.{Ranked, plan-characterisation}
 
 -- ---- the test

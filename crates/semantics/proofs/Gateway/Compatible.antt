@@ -11,6 +11,7 @@ use lib.Bits.{bitOr}
 use lib.ListN.{getD}
 use lib.Dec.{T, ltb, eqb, ltb→lt, lt→ltb, eqb→eq, T-not, not-T}
 use Rattle.limits.specs.Limits.{lockCount}
+use Rattle.laws.proofs.Places.{zeros-at}
 use Rattle.laws.specs.Mask.{bit}
 use Rattle.laws.proofs.Tests.{T-and, and-T, T-dec, same-test}
 use Rattle.laws.proofs.Bits.{bit-none, bit-or, disjoint, of-disjoint}
@@ -19,7 +20,6 @@ use Rattle.semantics.specs.Pairs.{held, fresh}
 use Rattle.semantics.specs.Conflict.{CompatibleIn, ExcludesIn}
 use Rattle.semantics.specs.Paths.{freshIn}
 use Rattle.semantics.proofs.Ground.LockSets.{free-digit, digit-free, positive-digit, digit-positive}
-use Rattle.semantics.proofs.Thread.Balance.{unlocked-count}
 
 abbrev pub HasLock : List ℕ → ℕ → Type 0
 HasLock cs l = 0 < getD cs l 0
@@ -32,7 +32,7 @@ pub empty-excludes-none : (l : ℕ) → Excludes [] l → ⊥
 empty-excludes-none l h = not-suc-le-zero h
 
 pub unlocked-excludes-none : (l : ℕ) → Excludes unlocked l → ⊥
-unlocked-excludes-none l h = omega (arith, unlocked-count l lockCount)
+unlocked-excludes-none l h = omega (arith, zeros-at lockCount l)
 
 -- what is not compatible has such a lock
 pub compatible-or-contended : (cs ds : List ℕ) → T (compatible cs ds) ⊎ ((l : ℕ) × HasLock cs l × Excludes ds l)

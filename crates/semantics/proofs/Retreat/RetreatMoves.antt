@@ -17,6 +17,7 @@ use Rattle.laws.specs.Mask.{bit, inMask}
 use Rattle.laws.proofs.Tests.{T-dec, T-true, T-false, eq-or-ne, lt-or-le, eq→eqb}
 use Rattle.laws.proofs.Bits.{bit-and, bit-none, bit-lt, disjoint, of-disjoint, apart-in}
 use Rattle.laws.specs.Sums.{total}
+use Rattle.laws.proofs.Places.{zeros-at}
 use Rattle.laws.proofs.Sums.{total-le}
 use Rattle.semantics.specs.Plan.{Block, hold, bodyIn, LockPlan, Sound, Plain}
 use Rattle.semantics.specs.Sizes.{threadSize, threadSizes}
@@ -32,7 +33,7 @@ use Rattle.semantics.specs.Retreat.{joint, Retreat, heldMask, positionOf
 use Rattle.semantics.proofs.Ground.LockSets.{free-digit, digit-free, digit-positive}
 use Rattle.semantics.proofs.Ground.Tables.{is-table}
 use Rattle.semantics.proofs.Thread.Transitions.{move-transition}
-use Rattle.semantics.proofs.Thread.Balance.{unlocked-count, zero-by-end}
+use Rattle.semantics.proofs.Thread.Balance.{zero-by-end}
 use Rattle.semantics.proofs.Thread.Execution.{execution}
 use Rattle.semantics.proofs.Gateway.Blocked.{Blocked, blocked-stuck}
 use Rattle.semantics.proofs.Gateway.Invariant.{start-length, start-at}
@@ -167,7 +168,7 @@ module _ {ps : List Block} {ns : List ℕ} {P : ℕ → List ℕ} {s : ℕ → �
   -- at its start a thread holds nothing, and wants what its block begins with
   pub begin-mask : (i l : ℕ) → i < n → bit (getD (M i) 0 0) l ≡ 0
   begin-mask i l b =
-      ap (λ m. bit m l) (x .masks i 0 b (omega arith) ∙ ap heldMask ((x .runs i b) .first)) ∙ free-digit unlocked l (unlocked-count l lockCount)
+      ap (λ m. bit m l) (x .masks i 0 b (omega arith) ∙ ap heldMask ((x .runs i b) .first)) ∙ free-digit unlocked l (zeros-at lockCount l)
 
   pub begin-wanted : (i : ℕ) → i < n → getD begin i 0 ≡ firstWanted ((s i 0) .rest)
   begin-wanted i b = x .begins i b ∙ ap (λ y. firstWanted (y .rest)) (sym ((x .runs i b) .first))

@@ -1,15 +1,16 @@
 -- Balance: at each moment a thread's counts are those of the holds that its remainder will end (`Balanced`), so the remainder settles the counts.
 -- Hence only to begin a hold makes a count positive (`positive-by-begin`) and only to end one makes it zero (`zero-by-end`).
-use Prim.Native.Nat.{ℕ, zero, suc, _+_, _-_, _<_}
+use Prim.Native.Nat.{ℕ, _+_, _-_, _<_}
 use mathlib.Core.List.{List}
 use mathlib.Core.Bool.{true, false, cond}
 use mathlib.Core.Logic.{⊎-elim, _≢_}
 use mathlib.Core.Path.{_≡_, refl, sym, ap, _∙_}
 use native.Mathlib.Omega.{arith}
-use lib.ListN.{length, getD, set, replicate}
+use lib.ListN.{length, getD, set}
 use lib.Seq.{getD-set-same, getD-set-other, ext-getD}
 use lib.Dec.{eqb, eqb-refl}
 use Rattle.limits.specs.Limits.{lockCount}
+use Rattle.laws.proofs.Places.{zeros-at}
 use Rattle.laws.proofs.Tests.{T-true, eqb-cases}
 use Rattle.semantics.specs.Plan.{Block, done, skip, call, hold, loop, either, end, _⨾_, bodyIn, Written, AnyCall, Plain}
 use Rattle.semantics.specs.Run.{up, down, unlocked}
@@ -37,11 +38,6 @@ end-count-⨾ l (loop x r) b w = end-count-⨾ l r b (w .1)
 end-count-⨾ l (either x y r) b w = end-count-⨾ l r b (w .2)
 end-count-⨾ l (end k r) b w = absurd w
 
-pub unlocked-count : (l n : ℕ) → _≡_ {A = ℕ} (getD (replicate n 0) l 0) 0
-unlocked-count l zero = refl
-unlocked-count zero (suc n) = refl
-unlocked-count (suc l) (suc n) = unlocked-count l n
-
 pub record Balanced (b : Block) (cs : List ℕ) : Type 0 where
   pub remainder : Remainder AnyCall b
   pub size : length cs ≡ lockCount
@@ -63,7 +59,7 @@ balanced-plain a w =
     record {
       remainder = remainder-of-written AnyCall a w;
       size = refl;
-      counts = λ l. unlocked-count l lockCount ∙ sym (end-count-⨾ l a done w) ∙ ap (endCount l) (⨾-done a);
+      counts = λ l. zeros-at lockCount l ∙ sym (end-count-⨾ l a done w) ∙ ap (endCount l) (⨾-done a);
     }
 
 pub up-count : (m l : ℕ) (cs : List ℕ) → l < length cs → getD (up l cs) m 0 ≡ cond (eqb l m) 1 0 + getD cs m 0

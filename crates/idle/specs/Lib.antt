@@ -1,0 +1,2 @@
+-- What is asked of the masks of procedures.
+pub mod Runs
