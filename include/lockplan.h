@@ -1,18 +1,20 @@
-/* Lock plans: the verdict, the space that it needs, the pair list and the tidy copy,
- * on the caller's own buffers.
+/* Lock plans: the verdict, the space that it needs, the pair list, the tidy copy and
+ * the crossings of two threads, on the caller's own buffers.
  *
  * A call answers with one 64-bit number, kind + 256 * a + 65536 * b:
  *
- *   call      kind                    a            b
- *   verdict   0 LOCKPLAN_FREE         0            0
- *             1 LOCKPLAN_DEADLOCK     stuck set    number of schedule entries
- *             2 LOCKPLAN_REFUSED      rule         line (0 where none is named)
- *   space     0 LOCKPLAN_NEEDED       0            number of entries to lend
- *             2 LOCKPLAN_REFUSED      rule         line (0 where none is named)
- *   pairs     0 LOCKPLAN_LISTED       0            number of pairs
- *             2 LOCKPLAN_REFUSED      rule         line (0 where none is named)
- *   tidy      0 LOCKPLAN_COPIED       0            number of bytes written
- *             2 LOCKPLAN_REFUSED      rule         line (0 where none is named)
+ *   call       kind                    a            b
+ *   verdict    0 LOCKPLAN_FREE         0            0
+ *              1 LOCKPLAN_DEADLOCK     stuck set    number of schedule entries
+ *              2 LOCKPLAN_REFUSED      rule         line (0 where none is named)
+ *   space      0 LOCKPLAN_NEEDED       0            number of entries to lend
+ *              2 LOCKPLAN_REFUSED      rule         line (0 where none is named)
+ *   pairs      0 LOCKPLAN_LISTED       0            number of pairs
+ *              2 LOCKPLAN_REFUSED      rule         line (0 where none is named)
+ *   tidy       0 LOCKPLAN_COPIED       0            number of bytes written
+ *              2 LOCKPLAN_REFUSED      rule         line (0 where none is named)
+ *   crossings  0 LOCKPLAN_CROSSED      0            number of all couples
+ *              2 LOCKPLAN_REFUSED      rule         line (0 where none is named)
  *
  * The stuck set has bit t for thread t. The tidy copy is the plan without what is
  * passed over: one form a line, each line ended, nothing else. An answer fills the
@@ -29,6 +31,15 @@
  *
  * A buffer of fewer words or bytes than the constants below is refused with rule 1
  * by the pair list and the tidy copy, before the plan is looked at.
+ *
+ * The crossings of two threads, which are numbered from 0 in the order of their lines,
+ * are the couples of a critical pair of the first and one of the second that hold no
+ * lock in common and each want a lock that the other holds: none exactly where these
+ * two threads alone can never become stuck. Their order is by the first word, then the
+ * second. The buffer may have any length, also 0: it takes the first couples that fit
+ * whole, LOCKPLAN_COUPLE_BYTES each, and the count is of all. A thread that is not
+ * there, or the same one twice, is refused with rule 14, line 0, but only if no rule of
+ * the plan is broken.
  *
  * For the stack that a call needs see docs/ANSWERS.md.
  */
@@ -52,11 +63,14 @@ extern "C" {
 #define LOCKPLAN_WORD_BYTES (8 * LOCKPLAN_WORDS)
 /* Least number of bytes in the buffer of a tidy copy. */
 #define LOCKPLAN_COPY_BYTES 32768
+/* The bytes that a couple of a crossing takes: two words. */
+#define LOCKPLAN_COUPLE_BYTES 16
 
 #define LOCKPLAN_FREE 0
 #define LOCKPLAN_LISTED 0
 #define LOCKPLAN_COPIED 0
 #define LOCKPLAN_NEEDED 0
+#define LOCKPLAN_CROSSED 0
 #define LOCKPLAN_DEADLOCK 1
 #define LOCKPLAN_REFUSED 2
 
@@ -70,6 +84,9 @@ uint64_t lockplan_pairs(const uint8_t *text, size_t text_len, uint64_t proc,
 
 uint64_t lockplan_tidy(const uint8_t *text, size_t text_len,
                        uint8_t *out, size_t out_len);
+
+uint64_t lockplan_crossings(const uint8_t *text, size_t text_len, uint64_t first,
+                            uint64_t second, uint8_t *out, size_t out_len);
 
 /* The parts of an answer. */
 
@@ -89,7 +106,7 @@ static inline unsigned lockplan_rule(uint64_t answer)
     return (unsigned)(answer >> 8 & 255);
 }
 
-/* The b of an answer: the number of entries, pairs or bytes, the line of a
+/* The b of an answer: the number of entries, pairs, bytes or couples, the line of a
  * refusal. */
 static inline uint64_t lockplan_count(uint64_t answer)
 {
@@ -139,6 +156,19 @@ static inline unsigned lockplan_wanted(uint64_t word)
 static inline uint32_t lockplan_held(uint64_t word)
 {
     return (uint32_t)(word / 32);
+}
+
+/* Couple k of a crossing: the word of the first thread's pair, and that of the
+ * second's. */
+
+static inline uint64_t lockplan_first(const uint8_t *out, size_t k)
+{
+    return lockplan_word(out, 2 * k);
+}
+
+static inline uint64_t lockplan_second(const uint8_t *out, size_t k)
+{
+    return lockplan_word(out, 2 * k + 1);
 }
 
 #ifdef __cplusplus

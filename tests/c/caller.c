@@ -1,8 +1,9 @@
 /* Reads a plan from standard input and prints its report by the C calls: the
  * pairs of each procedure and the verdict, in a buffer of just the entries that the
- * plan needs. With --tidy it prints the plan's tidy copy instead, and with --space
- * the sum of its threads' sizes, or the line of its refusal. With --time it prints
- * how many microseconds of processor time a verdict takes.
+ * plan needs. With --tidy it prints the plan's tidy copy instead, with --space the
+ * sum of its threads' sizes, with --crossings how many couples each two of its threads
+ * have and with --crossings FIRST SECOND the couples of two of them, or the line of its
+ * refusal. With --time it prints how many microseconds of processor time a verdict takes.
  *
  *   cc -std=c99 -I ../../include caller.c \
  *      -L ../../target/staticlib -llockplan -o caller
@@ -37,17 +38,22 @@ static int refused(uint64_t answer)
     return 0;
 }
 
+static void print_pair(uint64_t word)
+{
+    unsigned lock;
+    printf("(pair %u", lockplan_wanted(word));
+    for (lock = 0; lock < 32; lock++)
+        if (lockplan_held(word) >> lock & 1)
+            printf(" %u", lock);
+    printf(")");
+}
+
 static void print_pairs(uint64_t count)
 {
     uint64_t k;
-    unsigned lock;
     for (k = 0; k < count; k++) {
-        uint64_t word = lockplan_word(words, (size_t)k);
-        printf("(pair %u", lockplan_wanted(word));
-        for (lock = 0; lock < 32; lock++)
-            if (lockplan_held(word) >> lock & 1)
-                printf(" %u", lock);
-        printf(")\n");
+        print_pair(lockplan_word(words, (size_t)k));
+        printf("\n");
     }
 }
 
@@ -67,6 +73,22 @@ static void print_verdict(uint64_t answer, const uint8_t *entries)
     for (k = 0; k < lockplan_count(answer); k++) {
         unsigned entry = lockplan_entry(entries, (size_t)k);
         printf("(step %u %u)\n", lockplan_thread(entry), lockplan_choice(entry));
+    }
+    printf(")\n");
+}
+
+static void print_couples(uint64_t first, uint64_t second, uint64_t count,
+                          const uint8_t *couples)
+{
+    uint64_t k;
+    printf("(cross %llu %llu %llu\n", (unsigned long long)first,
+           (unsigned long long)second, (unsigned long long)count);
+    for (k = 0; k < count; k++) {
+        printf("(couple ");
+        print_pair(lockplan_first(couples, (size_t)k));
+        printf(" ");
+        print_pair(lockplan_second(couples, (size_t)k));
+        printf(")\n");
     }
     printf(")\n");
 }
@@ -104,6 +126,75 @@ static int space(size_t length)
     else
         printf("(sum %llu)\n", (unsigned long long)lockplan_count(answer));
     return 0;
+}
+
+/* Prints how many couples each two threads have. Of a thread with itself rule 14 tells
+ * that the plan keeps its own rules, and so it tells of one behind the last. */
+static int crossings_table(size_t length)
+{
+    uint64_t answer = lockplan_crossings(text, length, 0, 0, words, 0);
+    uint64_t first, second;
+    if (lockplan_rule(answer) != 14) {
+        print_refused(answer);
+        return 0;
+    }
+    printf("(crossings\n");
+    for (first = 0;; first++) {
+        for (second = first + 1;; second++) {
+            answer = lockplan_crossings(text, length, first, second, words, 0);
+            if (lockplan_kind(answer) == LOCKPLAN_REFUSED)
+                break;
+            printf("(cross %llu %llu %llu)\n", (unsigned long long)first,
+                   (unsigned long long)second, (unsigned long long)lockplan_count(answer));
+        }
+        if (second == first + 1)
+            break;
+    }
+    printf(")\n");
+    return 0;
+}
+
+/* Whether a call that is lent so many bytes gives an answer again, with the couples
+ * that fit whole and nothing else written. */
+static int same_crossings(size_t length, uint64_t first, uint64_t second, size_t lent,
+                          uint64_t answer, const uint8_t *couples)
+{
+    size_t fit = lent / LOCKPLAN_COUPLE_BYTES;
+    if (lockplan_kind(answer) == LOCKPLAN_REFUSED)
+        fit = 0;
+    else if (fit > lockplan_count(answer))
+        fit = (size_t)lockplan_count(answer);
+    memset(words, 0xa5, sizeof words);
+    return lockplan_crossings(text, length, first, second, words, lent) == answer
+        && memcmp(words, couples, fit * LOCKPLAN_COUPLE_BYTES) == 0
+        && kept(words, fit * LOCKPLAN_COUPLE_BYTES, sizeof words);
+}
+
+/* Prints the couples of two threads, in a buffer of just the bytes that they need, when
+ * buffers of less or little more than a couple have given the same. */
+static int crossings(size_t length, uint64_t first, uint64_t second)
+{
+    static const size_t few[] = {0, 1, 8, 15, 16, 17, 31, 32, 33};
+    uint64_t answer = lockplan_crossings(text, length, first, second, words, 0), k;
+    size_t lent = 0;
+    uint8_t *couples;
+    int right;
+    if (lockplan_kind(answer) == LOCKPLAN_CROSSED)
+        lent = LOCKPLAN_COUPLE_BYTES * (size_t)lockplan_count(answer);
+    couples = malloc(lent + BEHIND);
+    if (couples == NULL)
+        return 2;
+    memset(couples, 0xa5, lent + BEHIND);
+    right = lockplan_crossings(text, length, first, second, couples, lent) == answer
+        && kept(couples, lent, lent + BEHIND);
+    for (k = 0; k < sizeof few / sizeof few[0]; k++)
+        right = right && same_crossings(length, first, second, few[k], answer, couples);
+    if (right && lockplan_kind(answer) == LOCKPLAN_REFUSED)
+        print_refused(answer);
+    else if (right)
+        print_couples(first, second, lockplan_count(answer), couples);
+    free(couples);
+    return right ? 0 : 3;
 }
 
 /* Prints the verdict. It is lent the entries that the space call tells, or none
@@ -179,6 +270,12 @@ static int report(size_t length)
     return status;
 }
 
+/* The number of some digits; one that 64 bits do not hold is the greatest that they do. */
+static uint64_t number(const char *digits)
+{
+    return strtoull(digits, NULL, 10);
+}
+
 int main(int count, char **arguments)
 {
     size_t length = fread(text, 1, sizeof text, stdin);
@@ -191,6 +288,9 @@ int main(int count, char **arguments)
         return tidy(length);
     if (count > 1 && strcmp(arguments[1], "--space") == 0)
         return space(length);
+    if (count > 1 && strcmp(arguments[1], "--crossings") == 0)
+        return count > 3 ? crossings(length, number(arguments[2]), number(arguments[3]))
+                         : crossings_table(length);
     if (count > 1 && strcmp(arguments[1], "--time") == 0)
         return least_time(length);
     return report(length);

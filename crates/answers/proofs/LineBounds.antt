@@ -1,4 +1,4 @@
--- A refusal's numbers are small: the rule is one of 1 to 9 and 11 to 13, and the line is 0 or at most one more than the file has lines, of which there are no more than bytes.
+-- A refusal's numbers are small: the rule is one of 1 to 9 and 11 to 14, and the line is 0 or at most one more than the file has lines, of which there are no more than bytes.
 -- Of the rules over the forms this asks nothing but their numbers: every line that `lineOf` gives is such a line.
 use Prim.Native.Nat.{ℕ, suc, _+_, _^_, _<_, _≤_}
 use native.Mathlib.Omega.{arith}
@@ -22,7 +22,7 @@ use Rattle.plan.specs.Grammar.{planIn}
 use Rattle.plan.specs.Structure.{misplacedForm}
 use Rattle.plan.specs.Limits.{pastLimitForm, breakingForm}
 use Rattle.plan.specs.Rules.{refusedAt, refusedIf, tooLong, linesRefusal, referencesRefusal, grammarRefusal, procForm, lowestFrom, procRefusal, recursive, idle, tooLarge}
-use Rattle.plan.specs.Rules.{formsRefusal, inFile, planOf, planRefusal, tooFewEntries, verdictRefusal, pairsRefusal, tidyRefusal}
+use Rattle.plan.specs.Rules.{formsRefusal, inFile, planOf, planRefusal, tooFewEntries, verdictRefusal, pairsRefusal, tidyRefusal, areNoTwo, crossingsRefusal}
 use Rattle.plan.proofs.AcceptedTable.{short-enough, lines-short}
 
 -- ---- lines
@@ -145,3 +145,7 @@ verdict-bounded text lent = if-or _ _ (plan-bounded text) (λ _. bounded-if 1 (l
 pub copy-bounded : (text : List ℕ) (lent : ℕ) (w : Refusal) → tidyRefusal text lent ≡ some w → Numbers w
 unfolding tidyRefusal
 copy-bounded text lent = if-or _ _ (bounded-if 1 (ltb lent maxBytes) (omega arith)) (λ _. plan-bounded text)
+
+pub crossings-bounded : (text : List ℕ) (t u : ℕ) (w : Refusal) → crossingsRefusal text t u ≡ some w → Numbers w
+unfolding crossingsRefusal
+crossings-bounded text t u = if-or _ _ (plan-bounded text) (λ _. bounded-if 14 (areNoTwo (length (planOf text .threads)) t u) (omega arith))

@@ -18,7 +18,8 @@ use Rattle.answers.specs.declared.Counted.the-variants.{Count, Refused}
 abbrev pub answerNumber : ℕ → ℕ → ℕ → ℕ
 answerNumber kind a b = kind + 256 * a + 65536 * b
 
--- ---- how much: the pairs of a list, "its count is returned"; the bytes of a copy, "Later calls that write .. return how much"; the entries that a schedule needs
+-- ---- how much: the pairs of a list, "its count is returned"; the bytes of a copy, "Later calls that write .. return how much"; the entries that a schedule needs; the couples of two
+-- threads, all of them, however many fit
 
 -- how much, or "A refusal returns its number and a line"
 unfoldable pub countedOf : Option Refusal → ℕ → Counted

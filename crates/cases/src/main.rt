@@ -1,6 +1,8 @@
 // The reference plans of document 01 and some more, from the files that `index` names beside the program: for each the critical pairs of its procedures, the slip of the
-// space that it needs, the verdict or the refusal, the texts of its procedures, the tidy copy and the report. A schedule is replayed by a second gateway, crate `replay`, which reads the plan's text by itself.
+// space that it needs, the verdict or the refusal, where its threads cross, the texts of its procedures, the tidy copy and the report. A schedule is replayed by a second
+// gateway, crate `replay`, which reads the plan's text by itself.
 mod copies;
+mod crossings;
 mod procs;
 mod schedules;
 mod spaces;
@@ -51,6 +53,7 @@ fn show_plan(text: &[u8], list: &mut [u64], out: &mut [u16]) {
     io::write_all(1, b"\n");
     procs::show_procs(text, Shown::Pairs, list);
     spaces::show_space(text, out);
+    crossings::show_crossings(text);
     procs::show_procs(text, Shown::Text, list);
     copies::show_tidy(text);
     show_report(text);

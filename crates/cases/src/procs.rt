@@ -15,7 +15,8 @@ pub enum Shown {
     Text,
 }
 
-fn print_list(pairs: &[u64]) {
+// The first ones of a list.
+pub fn print_list(pairs: &[u64]) {
     let mut i: usize = 0;
     while i < pairs.len() {
         if i < PAIRS {

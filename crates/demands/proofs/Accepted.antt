@@ -2,9 +2,9 @@
 -- (`accepted-plan`), and the listed pairs of its procedures are the critical ones of source 000 (`published-exactly`).
 use Prim.Native.Nat.{ℕ, _<_, _≤_}
 use mathlib.Core.List.{List, List·Memᴰ}
-use mathlib.Core.Logic.{_↔_}
+use mathlib.Core.Logic.{_≢_, _↔_}
 use mathlib.Core.Option.{none, orElse}
-use mathlib.Core.Path.{_≡_, sym, ap, subst, _∙_}
+use mathlib.Core.Path.{_≡_, refl, sym, ap, subst, _∙_}
 use native.Mathlib.Omega.{arith}
 use lib.Dec.{ltb, leb}
 use lib.ListN.{length}
@@ -23,8 +23,9 @@ use Rattle.semantics.proofs.Critical.PairList.{pair-list-critical}
 use Rattle.semantics.proofs.Critical.CriticalLanguage.{critical-is-published}
 use Rattle.plan.specs.Grammar.{forms, planIn}
 use Rattle.plan.specs.Rules.{refusedIf, grammarRefusal, tooLarge, planOf, planRefusal, tooFewEntries, verdictRefusal}
-use Rattle.plan.specs.Rules.{pairsRefusal, tidyRefusal}
+use Rattle.plan.specs.Rules.{pairsRefusal, tidyRefusal, crossingsRefusal}
 use Rattle.plan.proofs.Kept.{unflagged}
+use Rattle.plan.proofs.TwoThreads.{crossings-kept}
 use Rattle.plan.proofs.AcceptedTable.{accepted-rules, rules-accepted, accepted-text, accepted-settled}
 use Rattle.plan.proofs.Allowed.{rules-plan}
 use Rattle.plan.proofs.Ranked.{recursive-exactly}
@@ -145,4 +146,17 @@ module _ (text : List ℕ) where
               subst (λ (q : LockPlan). p < length (q .procs)) (accepted-plan x) (leb-false (length (planOf text .procs)) p (unflagged 11 _ (z .1))),
             ),
         λ y. rw (le-ltb lent maxPairs (y .0), unrefused (y .1), accepted-plan (y .1), lt-leb (length (y .1 .plan .procs)) p (y .2)),
+      )
+
+  -- with rule 14 behind the plan's
+  pub crossings-accepted-exactly : (t u : ℕ)
+      → (crossingsRefusal text t u ≡ none) ↔ ((x : AcceptedText text) × (t < length (x .plan .threads)) × (u < length (x .plan .threads)) × (t ≢ u))
+  crossings-accepted-exactly t u =
+      let k = crossings-kept text t u in (
+        λ e.
+            let (a, b, d, two) = k .0 e in
+            let x = accepted a in
+            let there : (i : ℕ) → i < length (planOf text .threads) → i < length (x .plan .threads) = λ i h. subst (λ (q : LockPlan). i < length (q .threads)) (accepted-plan x) h in
+            (x, there t b, there u d, two),
+        λ y. k .1 (rw (unrefused (y .0), accepted-plan (y .0)) (refl, y .1, y .2, y .3)),
       )

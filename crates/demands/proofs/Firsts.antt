@@ -1,13 +1,13 @@
 -- The first number of which something holds: there is at most one, so a search that finds such a number names it (`names-scanned`). Tests, and what they say.
 use Prim.Native.Nat.{ℕ, _<_, _≤_}
-use mathlib.Core.Bool.{Bool, true, false, not}
-use mathlib.Core.Logic.{_⊎_, inl, inr, ⊎-elim, _↔_}
+use mathlib.Core.Bool.{Bool, true, false, not, _||_}
+use mathlib.Core.Logic.{_⊎_, inl, inr, ⊎-elim, _≢_, _↔_}
 use mathlib.Core.Option.{Option, none, some, Option·none-ne-some, Option·some-injective}
 use mathlib.Core.Path.{_≡_, refl, sym, ap, subst, _∙_}
 use native.Mathlib.Omega.{arith}
-use lib.Dec.{T, ltb, leb}
-use borrow.Author.Tests.{lt-ltb, le-ltb, le-leb, lt-leb}
-use Rattle.laws.proofs.Tests.{lt-or-le}
+use lib.Dec.{T, ltb, leb, eqb}
+use borrow.Author.Tests.{lt-ltb, le-ltb, le-leb, lt-leb, eq-eqb, ne-eqb}
+use Rattle.laws.proofs.Tests.{lt-or-le, eq-or-ne}
 use Rattle.demands.specs.Lines.{First}
 use Rattle.demands.proofs.Order.{Names}
 
@@ -46,6 +46,15 @@ decides-itself false = inr (refl, λ t. t)
 pub decides-not : (b : Bool) (P : Type 0) → Decides b P → Decides (not b) (P → ⊥)
 decides-not b P (inl x) = inr (ap not (x .0), λ f. f (x .1))
 decides-not b P (inr x) = inl (ap not (x .0), x .1)
+
+-- a test that one of two holds
+pub decides-or : (a b : Bool) (P Q : Type 0) → Decides a P → Decides b Q → Decides (a || b) (P ⊎ Q)
+decides-or a b P Q (inl x) y = rw (x .0) (inl (refl, inl (x .1)))
+decides-or a b P Q (inr x) (inl y) = rw (x .0) (inl (y .0, inr (y .1)))
+decides-or a b P Q (inr x) (inr y) = rw (x .0) (inr (y .0, ⊎-elim (x .1) (y .1)))
+
+pub equal : (m n : ℕ) → Decides (eqb m n) (m ≡ n)
+equal m n = ⊎-elim (λ (h : m ≡ n). inl (eq-eqb m n h, h)) (λ (h : m ≢ n). inr (ne-eqb m n h, h)) (eq-or-ne m n)
 
 pub below : (m n : ℕ) → Decides (ltb m n) (m < n)
 below m n = ⊎-elim (λ (h : m < n). inl (lt-ltb m n h, h)) (λ (h : n ≤ m). inr (le-ltb m n h, λ k. omega arith)) (lt-or-le m n)

@@ -1,12 +1,12 @@
--- The refusals are those by the first rule broken: the plan's (`refused-exactly`), the verdict's, the pair list's and the tidy copy's. Rule by rule, those from 4 on first over
--- the forms (`forms-refuses`), then in the file.
+-- The refusals are those by the first rule broken: the plan's (`refused-exactly`), the verdict's, the pair list's, the tidy copy's and the crossings'. Rule by rule, those
+-- from 4 on first over the forms (`forms-refuses`), then in the file.
 use Prim.Native.Nat.{ℕ, _<_, _≤_}
-use mathlib.Core.Bool.{Bool, true, false, not, cond}
+use mathlib.Core.Bool.{Bool, true, false, not, cond, _||_}
 use mathlib.Core.List.{List, [], _∷_, _++_}
-use mathlib.Core.Logic.{inl, inr, _↔_}
+use mathlib.Core.Logic.{_⊎_, inl, inr, _↔_}
 use mathlib.Core.Option.{Option, none, some, Option·none-ne-some, Option·some-injective}
 use mathlib.Core.Path.{_≡_, sym, ap, subst, _∙_}
-use lib.Dec.{ltb, leb}
+use lib.Dec.{ltb, leb, eqb}
 use lib.ListN.{length}
 use Rattle.limits.specs.Limits.{maxBytes, maxSize, maxPairs}
 use Rattle.laws.proofs.Tests.{first-none}
@@ -21,7 +21,7 @@ use Rattle.plan.specs.Grammar.{forms, planIn}
 use Rattle.plan.specs.Structure.{misplacedForm}
 use Rattle.plan.specs.Limits.{pastLimitForm, breakingForm}
 use Rattle.plan.specs.Rules.{refusedAt, refusedIf, tooLong, linesRefusal, referencesRefusal, grammarRefusal, procForm, lowestFrom, procRefusal, recursive, idle, tooLarge}
-use Rattle.plan.specs.Rules.{formsRefusal, planOf, planRefusal, tooFewEntries, verdictRefusal, pairsRefusal, tidyRefusal}
+use Rattle.plan.specs.Rules.{formsRefusal, planOf, planRefusal, tooFewEntries, verdictRefusal, pairsRefusal, tidyRefusal, areNoTwo, noTwoThreads, crossingsRefusal}
 use Rattle.plan.proofs.Trees.{plan-of-forms}
 use Rattle.plan.proofs.Denotes.{accepted-denotes}
 use Rattle.plan.proofs.FirstMisplaced.{structure-first}
@@ -29,11 +29,11 @@ use Rattle.plan.proofs.Kept.{kept, no-line}
 use Rattle.plan.proofs.AcceptedTable.{accepted-rules}
 use Rattle.demands.specs.Lines.{First, FormWhere}
 use Rattle.demands.specs.Broken.{TooShort, TooLong, Unreadable, OfForms, FirstForm, Misplaced, PastLimit, HighLock, AbsentCallee, AbsentProc}
-use Rattle.demands.specs.Broken.{OfPlan, LowestProc, TooLarge, TooFewEntries, AbsentRequest}
-use Rattle.demands.specs.Broken.{Rule, rule, formRules, planRules, verdictRules, pairsRules, tidyRules, FirstBroken}
+use Rattle.demands.specs.Broken.{OfPlan, LowestProc, TooLarge, TooFewEntries, AbsentRequest, NoTwoThreads}
+use Rattle.demands.specs.Broken.{Rule, rule, formRules, planRules, verdictRules, pairsRules, tidyRules, crossingsRules, FirstBroken}
 use Rattle.demands.proofs.Order.{Names, RefusesBy, by-rule, then}
 use Rattle.demands.proofs.InFile.{refuses-in-file}
-use Rattle.demands.proofs.Firsts.{Decides, below, at-most}
+use Rattle.demands.proofs.Firsts.{Decides, decides-or, below, at-most, equal}
 use Rattle.demands.proofs.Readable.{readable-names}
 use Rattle.demands.proofs.Limits.{limits-names, locks-names, calls-names, threads-names}
 use Rattle.demands.proofs.Lowest.{lowest-names}
@@ -132,6 +132,13 @@ module _ (text : List ℕ) where
     unfolding planOf plan
     rule-11 p = of-plan-if 11 (λ q. length (q .procs) ≤ p) (leb (length (plan .procs)) p) (at-most (length (plan .procs)) p)
 
+    rule-14 : (t u : ℕ) → RefusesBy (rule 14 (OfPlan (NoTwoThreads t u) text) ∷ []) (noTwoThreads (planOf text) t u)
+    unfolding planOf plan areNoTwo
+    rule-14 t u =
+        let n = length (plan .threads) in
+        of-plan-if 14 (λ q. (length (q .threads) ≤ t) ⊎ (length (q .threads) ≤ u) ⊎ (t ≡ u)) (areNoTwo n t u)
+        (decides-or (leb n t) (leb n u || eqb t u) _ _ (at-most n t) (decides-or (leb n u) (eqb t u) _ _ (at-most n u) (equal t u)))
+
 -- ---- the rules, one after the other
 
 module _ (text : List ℕ) where
@@ -166,6 +173,10 @@ module _ (text : List ℕ) where
   unfolding tidyRules tidyRefusal
   tidy-refuses lent = then (rule-1 maxBytes lent) (λ _. plan-refuses)
 
+  pub crossings-refuses : (t u : ℕ) → RefusesBy (crossingsRules text t u) (crossingsRefusal text t u)
+  unfolding crossingsRules crossingsRefusal
+  crossings-refuses t u = then plan-refuses (λ e. let r = accepted-rules text e in rule-14 text (r .readable) (r .formed) t u)
+
 -- (r, l) is the refusal exactly when rule r is the first one broken, at line l
 module _ (text : List ℕ) (r l : ℕ) where
   pub refused-exactly : (planRefusal text ≡ some (refusal r l)) ↔ FirstBroken (planRules text) r l
@@ -179,3 +190,6 @@ module _ (text : List ℕ) (r l : ℕ) where
 
   pub tidy-refused-exactly : (lent : ℕ) → (tidyRefusal text lent ≡ some (refusal r l)) ↔ FirstBroken (tidyRules text lent) r l
   tidy-refused-exactly lent = tidy-refuses text lent .refused r l
+
+  pub crossings-refused-exactly : (t u : ℕ) → (crossingsRefusal text t u ≡ some (refusal r l)) ↔ FirstBroken (crossingsRules text t u) r l
+  crossings-refused-exactly t u = crossings-refuses text t u .refused r l

@@ -135,6 +135,10 @@ TooFewEntries lent plan = TooShort (threadSizes plan) lent
 abbrev pub AbsentRequest : ℕ → LockPlan → ℕ → Type 0
 AbsentRequest p plan n = (length (plan .procs) ≤ p) × (n ≡ 0)
 
+-- 14, 02, change 7: "a thread not there or the same one twice"; it names no line
+abbrev pub NoTwoThreads : ℕ → ℕ → LockPlan → ℕ → Type 0
+NoTwoThreads t u plan n = ((length (plan .threads) ≤ t) ⊎ (length (plan .threads) ≤ u) ⊎ (t ≡ u)) × (n ≡ 0)
+
 -- ---- the rules in checking order
 
 -- a rule: its number, and that it is broken at a line or, of the rules that name a form, at a form's number
@@ -179,6 +183,10 @@ pairsRules text p lent = rule 1 (TooShort maxPairs lent) ∷ (planRules text ++ 
 -- the tidy copy's, where so many bytes are lent
 unfoldable pub tidyRules : List ℕ → ℕ → List Rule
 tidyRules text lent = rule 1 (TooShort maxBytes lent) ∷ planRules text
+
+-- those of the crossings of the threads t and u: 14 "comes after every rule of the plan"
+unfoldable pub crossingsRules : List ℕ → ℕ → ℕ → List Rule
+crossingsRules text t u = planRules text ++ rule 14 (OfPlan (NoTwoThreads t u) text) ∷ []
 
 -- a rule that no line breaks. One that speaks of forms or of a plan is so kept by a text whose lines spell none: an earlier rule is broken there
 abbrev pub Unbroken : Rule → Type 0

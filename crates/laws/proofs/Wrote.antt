@@ -6,8 +6,8 @@ use native.Mathlib.Nat.{add-zero}
 use native.Mathlib.Omega.{arith}
 use mathlib.Core.Path.{_≡_, refl, sym, ap, _∙_}
 use mathlib.Core.List.{List, [], _∷_, _++_, append-nil, append-assoc}
-use lib.ListN.{length, take, drop, getD, set, length-append, length-drop, take-append-drop}
-use lib.Seq.{drop-cons, drop-drop, length-take-le, take-at, drop-at, set-at, append-snoc, take-suc, take-length}
+use lib.ListN.{length, take, drop, getD, set, length-append, length-drop, take-append-drop, drop-of-length-le}
+use lib.Seq.{drop-cons, drop-drop, length-take-le, take-all, take-at, drop-at, set-at, append-snoc, take-suc, take-length}
 use Rattle.laws.specs.Wrote.{Wrote, filled}
 
 -- the front of the buffer, up to the place behind what is written
@@ -94,6 +94,21 @@ start-wrote l l′ i a h n t d = record {
   fits = omega arith;
   written = sym (take-append-drop i l′) ∙ rw (t, d);
 }
+
+-- what is written at the start of a part that was lent, from a place on, is written at that place of the whole
+pub part-wrote : {A : Type 0} (l : List A) (at r : ℕ) (part given : List A) → at ≤ length l → Wrote (take (length l - at) (drop at l)) part 0 r given
+    → Wrote l (take at l ++ (part ++ drop (length l - at) (drop at l))) at (at + r) given
+part-wrote l at r part given room v =
+    let size : length (drop at l) ≤ length l - at = rw length-drop (omega arith) in
+    let whole : take (length l - at) (drop at l) ≡ drop at l = take-all (length l - at) (drop at l) size in
+    let none-after : drop (length l - at) (drop at l) ≡ [] = drop-of-length-le (drop at l) size in
+    let fits : r ≤ length l - at = rw (whole, length-drop) at (v .fits) in
+    record {
+      place = omega (arith, v .place);
+      fits = omega arith;
+      written = ap (λ x. take at l ++ x) (ap (λ x. part ++ x) none-after ∙ append-nil part ∙ v .written
+          ∙ ap (λ x. given ++ x) (ap (drop r) whole ∙ drop-drop r at l)) ∙ sym (append-assoc (take at l) given (drop (at + r) l));
+    }
 
 -- what fills a buffer's start is settled by the buffer and its length
 pub filled-equal : {A : Type 0} (a b l : List A) → length a ≡ length b → filled a l ≡ filled b l → a ≡ b

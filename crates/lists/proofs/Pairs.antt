@@ -1,15 +1,16 @@
 -- A pair of a pair list is the set of the locks held, below 2 ^ 32, × 32 plus a lock below 32, however deep calls go. The list of a procedure stands in the part of the lists
 -- that was lent for it, and the pairs before the part stay.
 use Prim.Native.Nat.{ℕ, zero, suc, _+_, _-_, _≤_, _<_}
-use mathlib.Core.List.{List, [], _++_, append-nil, append-assoc, List·Memᴰ, List·Memᴰ·not-nil, List·Memᴰ·append-cases}
+use mathlib.Core.List.{List, _++_, append-assoc, List·Memᴰ, List·Memᴰ·not-nil, List·Memᴰ·append-cases}
 use mathlib.Core.Logic.{⊎-elim}
 use mathlib.Core.Path.{_≡_, refl, sym, ap, _∙_}
 use native.Mathlib.Omega.{arith}
-use lib.ListN.{length, take, drop, take-append-drop, length-drop, drop-of-length-le}
-use lib.Seq.{take-all, take-at, drop-at, drop-drop, take-append-le, drop-append-le, length-take-le}
+use lib.ListN.{length, take, drop, take-append-drop, length-drop}
+use lib.Seq.{take-at, drop-at, take-append-le, drop-append-le, length-take-le}
 use Rattle.limits.specs.Limits.{lockCount, maxPairs}
 use Rattle.laws.specs.Wrote.{Wrote}
 use Rattle.laws.proofs.Tests.{only}
+use Rattle.laws.proofs.Wrote.{part-wrote}
 use Rattle.laws.proofs.Ascending.{mem-ascending}
 use Rattle.semantics.specs.Plan.{Block, done, skip, call, hold, loop, either, end, LockPlan, bodyIn, Written}
 use Rattle.semantics.specs.Run.{unlocked, up}
@@ -61,17 +62,7 @@ module _ (plan : LockPlan) (s : Settled plan) where
 
 pub listed-from : (ws lists : List ℕ) (at r : ℕ) (part : List ℕ) → at + maxPairs ≤ length lists → Wrote (take (length lists - at) (drop at lists)) part 0 r ws
     → Wrote lists (take at lists ++ (part ++ drop (length lists - at) (drop at lists))) at (at + r) ws
-listed-from ws lists at r part room v =
-    let size : length (drop at lists) ≤ length lists - at = rw length-drop (omega arith) in
-    let whole : take (length lists - at) (drop at lists) ≡ drop at lists = take-all (length lists - at) (drop at lists) size in
-    let none-after : drop (length lists - at) (drop at lists) ≡ [] = drop-of-length-le (drop at lists) size in
-    let fits : r ≤ length lists - at = rw (whole, length-drop) at (v .fits) in
-    record {
-      place = omega (arith, v .place);
-      fits = omega arith;
-      written = ap (λ x. take at lists ++ x) (ap (λ x. part ++ x) none-after ∙ append-nil part ∙ v .written
-          ∙ ap (λ x. ws ++ x) (ap (drop r) whole ∙ drop-drop r at lists)) ∙ sym (append-assoc (take at lists) ws (drop (at + r) lists));
-    }
+listed-from ws lists at r part room v = part-wrote lists at r part ws (omega arith) v
 
 -- ---- what stands in the lists then
 

@@ -14,11 +14,12 @@ use Rattle.text.specs.Lines.{refusal}
 use Rattle.semantics.specs.Plan.{LockPlan}
 use Rattle.semantics.specs.Sizes.{threadSizes}
 use Rattle.semantics.proofs.Critical.PairList.{pair-list-ascends}
-use Rattle.plan.specs.Rules.{planOf, planRefusal, verdictRefusal, pairsRefusal, tidyRefusal}
+use Rattle.plan.specs.Rules.{planOf, planRefusal, verdictRefusal, pairsRefusal, tidyRefusal, crossingsRefusal}
 use Rattle.buffers.specs.LittleEndian.{listBytes}
 use Rattle.demands.specs.Broken.{Rule, FirstBroken, AcceptedText}
-use Rattle.demands.proofs.Refusals.{refused-exactly, verdict-refused-exactly, pairs-refused-exactly, tidy-refused-exactly}
-use Rattle.demands.proofs.Accepted.{accepted-plan, accepted-exactly, verdict-accepted-exactly, pairs-accepted-exactly, tidy-accepted-exactly, published-exactly}
+use Rattle.demands.proofs.Refusals.{refused-exactly, verdict-refused-exactly, pairs-refused-exactly, tidy-refused-exactly, crossings-refused-exactly}
+use Rattle.demands.proofs.Accepted.{accepted-plan, accepted-exactly, verdict-accepted-exactly, pairs-accepted-exactly, tidy-accepted-exactly}
+use Rattle.demands.proofs.Accepted.{crossings-accepted-exactly, published-exactly}
 use Rattle.answers.specs.declared.Verdict.{Verdict}
 use Rattle.answers.specs.declared.Verdict.the-variants.{Free, Deadlock, Refused}
 use Rattle.answers.specs.declared.Counted.{Counted}
@@ -27,10 +28,12 @@ use Rattle.answers.specs.Answers.{countedOf, countedNumber, readCounted, readVe
 use Rattle.listing.specs.Listed.{pairsOf, ListedBytes}
 use Rattle.tidy_text.specs.Tidy.{tidyOf, Tidied, TidiedNumber}
 use Rattle.space.specs.Slip.{neededEntries, Needs, NeedsNumber}
+use Rattle.couples.specs.Fitting.{fittingWords, fittingBytes}
+use Rattle.crossing.specs.Crossed.{couplesIn, CrossedBytes}
 use Rattle.answers.specs.Judgement.{Judgement}
 use Rattle.verdict.specs.Judged.{JudgedBytes}
-use Rattle.lockplan.specs.Demands.{RefusesExactly, VerdictRefuses, PairsRefuse, TidyRefuses, SpaceRefuses, Demand1, ListsExactly, Demand2, JudgesExactly, Demand3}
-use Rattle.answers.proofs.LineBounds.{plan-bounded, pairs-bounded, copy-bounded}
+use Rattle.lockplan.specs.Demands.{RefusesExactly, VerdictRefuses, PairsRefuse, TidyRefuses, SpaceRefuses, CrossingsRefuse, Demand1, ListsExactly, Demand2, JudgesExactly, Demand3}
+use Rattle.answers.proofs.LineBounds.{plan-bounded, pairs-bounded, copy-bounded, crossings-bounded}
 use Rattle.answers.proofs.Counts.{counted-is}
 use Rattle.answers.proofs.ReadBack.{verdict-read, counted-read}
 
@@ -102,6 +105,15 @@ space-refuses : (text : List ℕ) (r : Counted) → Needs text r → SpaceRefuse
 unfolding neededEntries
 space-refuses text r e = counted-refuses _ _ (planRefusal text) (threadSizes (planOf text)) r (λ r l. refused-exactly text r l) (accepted-exactly text) e
 
+crossings-refuse : (text : List ℕ) (t u n : ℕ) (r : Counted) (given before after : List ℕ) → r ≡ countedOf (crossingsRefusal text t u) n
+    → after ≡ written (crossingsRefusal text t u) given before → CrossingsRefuse text t u r before after
+crossings-refuse text t u n r given before after e b =
+    let a = crossingsRefusal text t u in
+    record {
+      exactly = counted-refuses _ _ a n r (λ r l. crossings-refused-exactly text r l t u) (crossings-accepted-exactly text t u) e;
+      nothing-written = unwritten a n r given before after e b;
+    }
+
 -- the answers that the numbers carry
 module _ (text before after : List ℕ) (n : ℕ) where
   pub verdict-carried : (d : JudgedBytes text before n after) → readVerdict n ≡ d .verdict
@@ -109,6 +121,9 @@ module _ (text before after : List ℕ) (n : ℕ) where
 
   pub listing-carried : (p : ℕ) (d : ListedBytes text p before n after) → readCounted n ≡ countedOf (pairsRefusal text p (length before / 8)) (length (pairsOf text p))
   listing-carried p d = ap readCounted (d .answer) ∙ counted-read (pairsRefusal text p (length before / 8)) (length (pairsOf text p)) (pairs-bounded text p (length before / 8))
+
+  pub crossings-carried : (t u : ℕ) (d : CrossedBytes text t u before n after) → readCounted n ≡ countedOf (crossingsRefusal text t u) (length (couplesIn text t u))
+  crossings-carried t u d = ap readCounted (d .answer) ∙ counted-read (crossingsRefusal text t u) (length (couplesIn text t u)) (crossings-bounded text t u)
 
   pub copied-carried : (d : TidiedNumber text before n after) → readCounted n ≡ d .copied
   copied-carried d =
@@ -132,6 +147,9 @@ demand-1 text before after = record {
   lockplan-tidy = λ n d. rw (copied-carried text before after n d) (tidy-refuses text before after (d .copied) (d .tidied));
   space = λ r e. space-refuses text r e;
   lockplan-space = λ n e. space-refuses text (readCounted n) (space-carried text n e);
+  crossings = λ t u r d. crossings-refuse text t u (length (couplesIn text t u)) r (fittingWords (length before) (couplesIn text t u)) before after (d .answer) (d .buffer);
+  lockplan-crossings = λ t u n d. crossings-refuse text t u (length (couplesIn text t u)) (readCounted n) (fittingBytes (length before) (couplesIn text t u)) before after
+      (crossings-carried text before after n t u d) (d .buffer);
 }
 
 -- ---- demand 2

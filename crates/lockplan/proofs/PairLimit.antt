@@ -21,8 +21,8 @@ use Rattle.semantics.proofs.Critical.PairList.{pair-list-ascends}
 use Rattle.semantics.proofs.Critical.PairBound.{pair-list-bound}
 use Rattle.plan.specs.Rules.{planOf, pairsRefusal}
 use Rattle.plan.proofs.AcceptedTable.{accepted-ranks}
-use Rattle.demands.specs.Broken.{Rule, rule, OfPlan, AbsentRequest, formRules, rulesInFile, planRules, verdictRules, pairsRules, tidyRules, FirstBroken, AcceptedText}
-use Rattle.demands.proofs.Refusals.{refused-exactly, pairs-refused-exactly}
+use Rattle.demands.specs.Broken.{Rule, rule, OfPlan, AbsentRequest, formRules, rulesInFile, planRules, verdictRules, pairsRules, tidyRules, crossingsRules, FirstBroken, AcceptedText}
+use Rattle.demands.proofs.Refusals.{refused-exactly, pairs-refused-exactly, crossings-refused-exactly}
 use Rattle.demands.proofs.Accepted.{accepted-plan, accepted-exactly, published-exactly}
 use Rattle.answers.specs.declared.Verdict.the-variants as verdict
 use Rattle.answers.specs.declared.Counted.{Counted}
@@ -96,6 +96,10 @@ module _ (text : List ℕ) where
   unfolding isNumber tidyRules planRules rulesInFile formRules
   tidy-numbers lent = refl
 
+  crossings-numbers : (t u : ℕ) → isNumber 10 (crossingsRules text t u) ≡ false
+  unfolding isNumber crossingsRules planRules rulesInFile formRules
+  crossings-numbers t u = refl
+
   later-numbers : (p : ℕ) → isNumber 1 (planRules text ++ rule 11 (OfPlan (AbsentRequest p) text) ∷ []) ≡ false
   unfolding isNumber planRules rulesInFile formRules
   later-numbers p = refl
@@ -103,6 +107,7 @@ module _ (text : List ℕ) where
   rule-ten-unused : RuleTenUnused text
   rule-ten-unused = record {
     plan = λ x e. no-number (planRules text) 10 plan-numbers x (refused-exactly text (x .rule) (x .line) .0 e);
+    crossing = λ t u x e. no-number (crossingsRules text t u) 10 (crossings-numbers t u) x (crossings-refused-exactly text (x .rule) (x .line) t u .0 e);
     judge = λ before v after d. never-ten _ _ (λ x. v ≡ verdict.Refused x) (verdict-numbers (length before)) (demand-1 text before after .judge v d .exactly);
     lockplan-verdict = λ before n after d.
         never-ten _ _ (λ x. readVerdict n ≡ verdict.Refused x) (verdict-numbers (length before / 2)) (demand-1 text before after .lockplan-verdict n d .exactly);
@@ -114,6 +119,9 @@ module _ (text : List ℕ) where
         never-ten _ _ (λ x. readCounted n ≡ Refused x) (tidy-numbers (length before)) (demand-1 text before after .lockplan-tidy n d .exactly);
     space = λ r d. never-ten _ _ (λ x. r ≡ Refused x) plan-numbers (demand-1 text [] [] .space r d);
     lockplan-space = λ n d. never-ten _ _ (λ x. readCounted n ≡ Refused x) plan-numbers (demand-1 text [] [] .lockplan-space n d);
+    crossings = λ t u before r after d. never-ten _ _ (λ x. r ≡ Refused x) (crossings-numbers t u) (demand-1 text before after .crossings t u r d .exactly);
+    lockplan-crossings = λ t u before n after d.
+        never-ten _ _ (λ x. readCounted n ≡ Refused x) (crossings-numbers t u) (demand-1 text before after .lockplan-crossings t u n d .exactly);
   }
 
 -- ---- the pair list

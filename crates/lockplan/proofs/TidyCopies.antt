@@ -13,7 +13,7 @@ use Rattle.laws.proofs.Wrote.{filled-equal}
 use Rattle.text.specs.declared.Refusal.{Refusal}
 use Rattle.text.specs.Lines.{textOf}
 use Rattle.plan.specs.Grammar.{forms}
-use Rattle.plan.specs.Rules.{planRefusal, planOf, verdictRefusal, pairsRefusal, tidyRefusal}
+use Rattle.plan.specs.Rules.{planRefusal, planOf, verdictRefusal, pairsRefusal, tidyRefusal, crossingsRefusal}
 use Rattle.demands.specs.Broken.{AcceptedText}
 use Rattle.demands.proofs.Accepted.{accepted-plan, accepted-exactly, tidy-accepted-exactly}
 use Rattle.answers.specs.declared.Verdict.{Verdict}
@@ -24,6 +24,10 @@ use Rattle.listing.specs.Listed.{Exact, Listed, ListedBytes}
 use Rattle.verdict.specs.Judged.{Judged, JudgedBytes}
 use Rattle.tidy_text.specs.Tidy.{bareText, tidyOf, Tidied}
 use Rattle.space.specs.Slip.{neededEntries, printedSlip}
+use Rattle.couples.specs.Couples.{CouplesExact}
+use Rattle.crossing.specs.Crossed.{Crossed, CrossedBytes}
+use Rattle.couple_lines.specs.CoupleLines.{printedCouples}
+use Rattle.crossings_text.specs.AllCrossings.{printedCrossings}
 use Rattle.tidy_text.proofs.Tidy.{tidy-fits, tidy-plan, tidy-accepted, tidy-twice, tidy-same}
 use Rattle.lockplan.specs.TidyCopies.{TidyCopy, TidyCopies}
 use Rattle.lockplan.proofs.Demands.{copied-carried}
@@ -55,6 +59,20 @@ module _ (s t : List ℕ) (refused : planRefusal s ≡ planRefusal t) (plans : p
   unfolding pairsRefusal
   same-pairs-bytes p before n after d =
       record { answer = rw (refused, plans) at (d .answer); buffer = rw (refused, plans) at (d .buffer); exact = same-exact p (length before / 8) (d .exact) }
+
+  same-couples : (t′ u : ℕ) → (crossingsRefusal s t′ u ≡ none → CouplesExact (planOf s) t′ u) → crossingsRefusal t t′ u ≡ none → CouplesExact (planOf t) t′ u
+  unfolding crossingsRefusal
+  same-couples t′ u exact o = rw plans at (exact (rw (refused, plans) o))
+
+  same-crossings : (t′ u : ℕ) (before : List ℕ) (r : Counted) (after : List ℕ) → Crossed s t′ u before r after → Crossed t t′ u before r after
+  unfolding crossingsRefusal
+  same-crossings t′ u before r after d =
+      record { answer = rw (refused, plans) at (d .answer); buffer = rw (refused, plans) at (d .buffer); exact = same-couples t′ u (d .exact) }
+
+  same-crossings-bytes : (t′ u : ℕ) (before : List ℕ) (n : ℕ) (after : List ℕ) → CrossedBytes s t′ u before n after → CrossedBytes t t′ u before n after
+  unfolding crossingsRefusal
+  same-crossings-bytes t′ u before n after d =
+      record { answer = rw (refused, plans) at (d .answer); buffer = rw (refused, plans) at (d .buffer); exact = same-couples t′ u (d .exact) }
 
 -- ---- what the call writes
 
@@ -109,6 +127,14 @@ module _ (text : List ℕ) (x : AcceptedText text) where
   unfolding printedSlip
   same-slip = rw (same-refusal, same-plans)
 
+  same-printed-couples : (t u : ℕ) → printedCouples text t u ≡ printedCouples copy t u
+  unfolding printedCouples crossingsRefusal
+  same-printed-couples t u = rw (same-refusal, same-plans)
+
+  same-printed-crossings : printedCrossings text ≡ printedCrossings copy
+  unfolding printedCrossings
+  same-printed-crossings = rw (same-refusal, same-plans)
+
   equal-copies : (text′ : List ℕ) (x′ : AcceptedText text′) (copy′ : List ℕ) → copy′ ≡ tidyOf text′ → (copy ≡ copy′) ↔ (x .plan ≡ x′ .plan)
   equal-copies text′ x′ copy′ is =
       let same = tidy-same text text′ (kept text x) (kept text′ x′) in
@@ -133,6 +159,12 @@ module _ (text : List ℕ) (x : AcceptedText text) where
     spaces = λ r. (λ e. e ∙ same-needed, λ e. e ∙ sym same-needed);
     lockplan-spaces = λ n. (λ e. e ∙ ap countedNumber same-needed, λ e. e ∙ ap countedNumber (sym same-needed));
     slips = same-slip;
+    crossings = λ t u before r after.
+        (same-crossings text copy same-refusal same-plans t u before r after, same-crossings copy text (sym same-refusal) (sym same-plans) t u before r after);
+    lockplan-crossings = λ t u before n after.
+        (same-crossings-bytes text copy same-refusal same-plans t u before n after, same-crossings-bytes copy text (sym same-refusal) (sym same-plans) t u before n after);
+    printed-couples = same-printed-couples;
+    printed-crossings = same-printed-crossings;
   }
 
 pub tidy-copies : (text before after : List ℕ) → TidyCopies text before after

@@ -3,7 +3,7 @@
 use Prim.Native.Nat.{ℕ, _/_, _<_, _≤_}
 use mathlib.Core.Bool.{Bool}
 use mathlib.Core.List.{List, List·Memᴰ}
-use mathlib.Core.Logic.{_↔_}
+use mathlib.Core.Logic.{_≢_, _↔_}
 use mathlib.Core.Option.{some}
 use mathlib.Core.Path.{_≡_}
 use lib.ListN.{length}
@@ -18,7 +18,7 @@ use Rattle.semantics.specs.Run.{ThreadState, run, start}
 use Rattle.semantics.specs.Stuck.{Stuck, DeadlockFree, Schedule}
 use Rattle.semantics.specs.Language.{PublishedCritical}
 use Rattle.buffers.specs.LittleEndian.{listBytes}
-use Rattle.demands.specs.Broken.{Rule, FirstBroken, planRules, verdictRules, pairsRules, tidyRules, AcceptedText}
+use Rattle.demands.specs.Broken.{Rule, FirstBroken, planRules, verdictRules, pairsRules, tidyRules, crossingsRules, AcceptedText}
 use Rattle.answers.specs.declared.Verdict.{Verdict}
 use Rattle.answers.specs.declared.Verdict.the-variants.{Free, Deadlock, Refused}
 use Rattle.answers.specs.declared.Counted.{Counted}
@@ -30,6 +30,7 @@ use Rattle.listing.specs.Listed.{Listed, ListedBytes}
 use Rattle.verdict.specs.Judged.{Judged, JudgedBytes}
 use Rattle.tidy_text.specs.Tidy.{Tidied, TidiedNumber}
 use Rattle.space.specs.Slip.{Needs, NeedsNumber}
+use Rattle.crossing.specs.Crossed.{Crossed, CrossedBytes}
 
 -- the answer is a refusal exactly by the first rule broken, in checking order, and by its line; it is none exactly where the rules are kept. `Refuses x` says that the answer
 -- is the refusal x, `Kept` that the rules are kept
@@ -56,6 +57,12 @@ PairsRefuse text p lent r before after =
 abbrev pub TidyRefuses : List ℕ → ℕ → Counted → List ℕ → List ℕ → Type 0
 TidyRefuses text lent r before after = RefusesUnwritten (tidyRules text lent) ((maxBytes ≤ lent) × AcceptedText text) (λ x. r ≡ counted.Refused x) before after
 
+-- of the crossings of the threads t and u, where a buffer of any length is lent
+abbrev pub CrossingsRefuse : List ℕ → ℕ → ℕ → Counted → List ℕ → List ℕ → Type 0
+CrossingsRefuse text t u r before after =
+    RefusesUnwritten (crossingsRules text t u) ((x : AcceptedText text) × (t < length (x .plan .threads)) × (u < length (x .plan .threads)) × (t ≢ u))
+    (λ x. r ≡ counted.Refused x) before after
+
 -- of the space that a schedule needs, for which no buffer is lent
 abbrev pub SpaceRefuses : List ℕ → Counted → Type 0
 SpaceRefuses text r = RefusesExactly (planRules text) (AcceptedText text) (λ x. r ≡ counted.Refused x)
@@ -70,6 +77,8 @@ pub record Demand1 (text before after : List ℕ) : Type 0 where
   pub lockplan-tidy : (n : ℕ) → TidiedNumber text before n after → TidyRefuses text (length before) (readCounted n) before after
   pub space : (r : Counted) → Needs text r → SpaceRefuses text r
   pub lockplan-space : (n : ℕ) → NeedsNumber text n → SpaceRefuses text (readCounted n)
+  pub crossings : (t u : ℕ) (r : Counted) → Crossed text t u before r after → CrossingsRefuse text t u r before after
+  pub lockplan-crossings : (t u n : ℕ) → CrossedBytes text t u before n after → CrossingsRefuse text t u (readCounted n) before after
 
 -- so many pairs are listed, ascending without repeats, and a pair is listed exactly when it is a critical pair of procedure p by source 000's Definition 4.1
 pub record ListsExactly (ps : List Block) (p : ℕ) (r : Counted) (pairs : List ℕ) : Type 0 where

@@ -13,7 +13,7 @@ use Rattle.text.specs.Lines.{refusal}
 use Rattle.semantics.specs.Plan.{Block}
 use Rattle.semantics.specs.Sizes.{sizeOf}
 use Rattle.semantics.specs.Language.{PublishedCritical}
-use Rattle.plan.specs.Rules.{planRefusal}
+use Rattle.plan.specs.Rules.{planRefusal, crossingsRefusal}
 use Rattle.demands.specs.Broken.{AcceptedText}
 use Rattle.answers.specs.declared.Verdict.{Verdict}
 use Rattle.answers.specs.declared.Verdict.the-variants as verdict
@@ -24,6 +24,7 @@ use Rattle.listing.specs.Listed.{Listed, ListedBytes}
 use Rattle.verdict.specs.Judged.{Judged, JudgedBytes}
 use Rattle.tidy_text.specs.Tidy.{Tidied, TidiedNumber}
 use Rattle.space.specs.Slip.{Needs, NeedsNumber}
+use Rattle.crossing.specs.Crossed.{Crossed, CrossedBytes}
 
 -- critical pairs of procedure p in ascending order, so that no two of them are equal; any that differ can be put so
 pub record DifferentPairs (ps : List Block) (p : ℕ) (pairs : List ℕ) : Type 0 where
@@ -45,9 +46,11 @@ pub record ListedWithin (lent : ℕ) (r : Counted) : Type 0 where
 abbrev pub NeverTen : (Refusal → Type 0) → Type 0
 NeverTen Refuses = (x : Refusal) → Refuses x → x .rule ≡ 10 → ⊥
 
--- of the plan's rules, by which the programs refuse (`Report`, `printedCopy`, `printedSlip`), and of each call that answers with a refusal; the text call answers with no number
+-- of the rules by which the programs refuse, the plan's (`Report`, `printedCopy`, `printedSlip`, `printedCrossings`) and those of the crossings (`printedCouples`), and of each
+-- call that answers with a refusal; the text call answers with no number
 pub record RuleTenUnused (text : List ℕ) : Type 0 where
   pub plan : NeverTen (λ x. planRefusal text ≡ some x)
+  pub crossing : (t u : ℕ) → NeverTen (λ x. crossingsRefusal text t u ≡ some x)
   pub judge : (before : List ℕ) (v : Verdict) (after : List ℕ) → Judged text before v after → NeverTen (λ x. v ≡ verdict.Refused x)
   pub lockplan-verdict : (before : List ℕ) (n : ℕ) (after : List ℕ) → JudgedBytes text before n after → NeverTen (λ x. readVerdict n ≡ verdict.Refused x)
   pub pair-list : (p : ℕ) (before : List ℕ) (r : Counted) (after : List ℕ) → Listed text p before r after → NeverTen (λ x. r ≡ Refused x)
@@ -56,6 +59,8 @@ pub record RuleTenUnused (text : List ℕ) : Type 0 where
   pub lockplan-tidy : (before : List ℕ) (n : ℕ) (after : List ℕ) → TidiedNumber text before n after → NeverTen (λ x. readCounted n ≡ Refused x)
   pub space : (r : Counted) → Needs text r → NeverTen (λ x. r ≡ Refused x)
   pub lockplan-space : (n : ℕ) → NeedsNumber text n → NeverTen (λ x. readCounted n ≡ Refused x)
+  pub crossings : (t u : ℕ) (before : List ℕ) (r : Counted) (after : List ℕ) → Crossed text t u before r after → NeverTen (λ x. r ≡ Refused x)
+  pub lockplan-crossings : (t u : ℕ) (before : List ℕ) (n : ℕ) (after : List ℕ) → CrossedBytes text t u before n after → NeverTen (λ x. readCounted n ≡ Refused x)
 
 pub record PairLimit (text : List ℕ) : Type 0 where
   -- "Show that rule 10 therefore never occurs": no procedure of a text that keeps the rules before it, 2 to 8, 12, 13 and 9, has more than 511 critical pairs

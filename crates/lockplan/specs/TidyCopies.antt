@@ -18,6 +18,9 @@ use Rattle.listing.specs.Listed.{Listed, ListedBytes}
 use Rattle.verdict.specs.Judged.{Judged, JudgedBytes}
 use Rattle.tidy_text.specs.Tidy.{Tidied, TidiedNumber}
 use Rattle.space.specs.Slip.{Needs, NeedsNumber, printedSlip}
+use Rattle.crossing.specs.Crossed.{Crossed, CrossedBytes}
+use Rattle.couple_lines.specs.CoupleLines.{printedCouples}
+use Rattle.crossings_text.specs.AllCrossings.{printedCrossings}
 
 -- a copy of the accepted text
 pub record TidyCopy (text : List ℕ) (x : AcceptedText text) (copy : List ℕ) : Type 0 where
@@ -43,6 +46,11 @@ pub record TidyCopy (text : List ℕ) (x : AcceptedText text) (copy : List ℕ) 
   pub spaces : (r : Counted) → Needs text r ↔ Needs copy r
   pub lockplan-spaces : (n : ℕ) → NeedsNumber text n ↔ NeedsNumber copy n
   pub slips : printedSlip text ≡ printedSlip copy
+  -- and where its threads cross, also in print
+  pub crossings : (t u : ℕ) (before : List ℕ) (r : Counted) (after : List ℕ) → Crossed text t u before r after ↔ Crossed copy t u before r after
+  pub lockplan-crossings : (t u : ℕ) (before : List ℕ) (n : ℕ) (after : List ℕ) → CrossedBytes text t u before n after ↔ CrossedBytes copy t u before n after
+  pub printed-couples : (t u : ℕ) → printedCouples text t u ≡ printedCouples copy t u
+  pub printed-crossings : printedCrossings text ≡ printedCrossings copy
 
 -- of the calls, where the text is accepted and the output holds enough: so many bytes are written, at the output's start, and they are such a copy
 pub record TidyCopies (text before after : List ℕ) : Type 0 where

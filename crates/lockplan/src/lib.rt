@@ -1,6 +1,7 @@
-// The library's calls: the verdict on a plan, the space that its schedule needs, the pair list of a procedure, a procedure's text, the tidy copy of a plan text; and all but a
-// procedure's text for C.
+// The library's calls: the verdict on a plan, the space that its schedule needs, the pair list of a procedure, where two threads cross, a procedure's text, the tidy copy of a
+// plan text; and all but a procedure's text for C.
 ghost use Rattle.parts.specs.Parts.{PartAt};
+ghost use Rattle.crossing.specs.Crossed.{Crossed, CrossedBytes};
 ghost use Rattle.listing.specs.Listed.{Listed, ListedBytes};
 ghost use Rattle.procedure_text.specs.ProcText.{procText};
 ghost use Rattle.space.specs.Slip.{Needs, NeedsNumber};
@@ -30,6 +31,14 @@ pub fn pair_list(text: &[u8], proc: usize, out: &mut [u64]) -> Counted
     ensures { λ r. ⌜ Listed (now (text .entry)) proc (now (out .entry)) r (now (out .exit)) ⌝ }
 {
     listing::list_pairs(text, proc, out)
+}
+
+// The couples of critical pairs, one of each of two threads, that hold no lock in common and each want a lock that the other holds: counted, and the first ones that fit at the
+// start of `out`, two 64-bit words each.
+pub fn crossings(text: &[u8], first: usize, second: usize, out: &mut [u64]) -> Counted
+    ensures { λ r. ⌜ Crossed (now (text .entry)) first second (now (out .entry)) r (now (out .exit)) ⌝ }
+{
+    crossing::crossings(text, first, second, out)
 }
 
 // The part of the text that a procedure is: empty where the plan is refused or the procedure is absent.
@@ -70,6 +79,14 @@ pub extern "C" fn lockplan_pairs(text: &[u8], proc: u64, out: &mut [u8]) -> u64
 {
     let mut list = [0u64; MAX_PAIRS];
     listing::list_bytes(text, proc as usize, out, &mut list)
+}
+
+// The crossings for C: each word as eight bytes, lowest first.
+#[no_mangle]
+pub extern "C" fn lockplan_crossings(text: &[u8], first: u64, second: u64, out: &mut [u8]) -> u64
+    ensures { λ r. ⌜ CrossedBytes (now (text .entry)) first second (now (out .entry)) r (now (out .exit)) ⌝ }
+{
+    crossing::crossings_number(text, first as usize, second as usize, out)
 }
 
 // The tidy copy for C.

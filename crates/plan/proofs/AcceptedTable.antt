@@ -13,6 +13,7 @@ use Rattle.limits.specs.Limits.{maxBytes, maxForms, maxPairs, maxEntries}
 use Rattle.semantics.specs.Plan.{Ranks}
 use Rattle.semantics.specs.Sizes.{threadSizes}
 use Rattle.semantics.specs.Pairs.{pairList}
+use Rattle.semantics.proofs.Conflicts.Characterisation.{Ranked}
 use Rattle.text.specs.declared.Refusal.{Refusal}
 use Rattle.text.specs.Lines.{formsOf, unreadableLine}
 use Rattle.text.proofs.Splits.{few-forms}
@@ -27,7 +28,7 @@ use Rattle.plan.proofs.Kept.{kept, no-line, unflagged}
 use Rattle.plan.proofs.Denotes.{accepted-denotes}
 use Rattle.plan.proofs.Filling.{accepted-none, accepted-count}
 use Rattle.plan.proofs.Sound.{forms-settled}
-use Rattle.plan.proofs.Ranked.{rules-ranks}
+use Rattle.plan.proofs.Ranked.{rules-ranks, settled-ranked}
 use Rattle.plan.proofs.WithinSize.{sum-within, pairs-within}
 
 -- what the rules say of a text that none of them refuses
@@ -86,6 +87,9 @@ module _ (text : List ℕ) (e : planRefusal text ≡ none) where
   pub accepted-ranks : Ranks (planOf text .procs)
   unfolding planOf
   accepted-ranks = rules-ranks (formsOf text) accepted-settled (accepted-rules text e .acyclic)
+
+  pub accepted-ranked : Ranked (planOf text)
+  accepted-ranked = settled-ranked (planOf text) accepted-settled accepted-ranks
 
   pub accepted-sum : threadSizes (planOf text) ≤ maxEntries
   unfolding planOf

@@ -18,5 +18,7 @@ pub mod WithinSize
 pub mod Codes
 pub mod Filling
 pub mod AcceptedTable
+-- Rule 14, of two threads.
+pub mod TwoThreads
 -- The laws that the proofs of the functions cite.
 pub mod Passes

@@ -1,8 +1,8 @@
--- The rules in checking order, as four refusals: the plan's, the verdict's, the pair list's, the tidy copy's. 01, "Rules, in checking order": "A refusal returns its number and
--- a line (0 where none is named) .. Each rule is tested over the whole text before the next." The rules 4 to 9, 12 and 13 are said of the list of forms and name a form by
--- its number, from 1; `inFile` names its line in the file. 02, change 5, of rule 10: "take it out, its number unused".
+-- The rules in checking order, as five refusals: the plan's, the verdict's, the pair list's, the tidy copy's, the crossings'. 01, "Rules, in checking order": "A refusal
+-- returns its number and a line (0 where none is named) .. Each rule is tested over the whole text before the next." The rules 4 to 9, 12 and 13 are said of the list of
+-- forms and name a form by its number, from 1; `inFile` names its line in the file. 02, change 5, of rule 10: "take it out, its number unused".
 use Prim.Native.Nat.{ℕ, zero, suc, _-_}
-use mathlib.Core.Bool.{Bool, not, _&&_, cond}
+use mathlib.Core.Bool.{Bool, not, _&&_, _||_, cond}
 use mathlib.Core.List.{List, [], _∷_}
 use mathlib.Core.Option.{Option, none, some, orElse}
 use mathlib.Core.Path.{_≡_}
@@ -126,6 +126,18 @@ pairsRefusal text p lent = orElse (refusedIf 1 (ltb lent maxPairs)) (orElse (pla
 -- the tidy copy's: 02, change 1, "The output must hold 32,768 bytes, otherwise rule 1 applies.", then the plan's
 unfoldable pub tidyRefusal : List ℕ → ℕ → Option Refusal
 tidyRefusal text lent = orElse (refusedIf 1 (ltb lent maxBytes)) (planRefusal text)
+
+-- 14, 02, change 7: "a thread not there or the same one twice", of t and u where there are n threads
+unfoldable pub areNoTwo : ℕ → ℕ → ℕ → Bool
+areNoTwo n t u = leb n t || (leb n u || eqb t u)
+
+-- it names no line
+abbrev pub noTwoThreads : LockPlan → ℕ → ℕ → Option Refusal
+noTwoThreads plan t u = refusedIf 14 (areNoTwo (length (plan .threads)) t u)
+
+-- that of the crossings of the threads t and u: the plan's, then 14, which "comes after every rule of the plan"
+unfoldable pub crossingsRefusal : List ℕ → ℕ → ℕ → Option Refusal
+crossingsRefusal text t u = orElse (planRefusal text) (noTwoThreads (planOf text) t u)
 
 -- The cases of rule 5's answer: how many procedures there are, where no limit is passed, or the refusal.
 unfoldable pub limitedOf : Option Refusal → ℕ → Limited

@@ -8,7 +8,7 @@ use lib.Dec.{T}
 use Rattle.laws.specs.Bytes.{bytes, equal}
 use Rattle.laws.specs.Mask.{bit}
 use Rattle.report_lines.specs.Lines.{digitsIn, digits, members, listed, reportOpen, freeLine, deadlockOpen, closing}
-use Rattle.report_lines.specs.Lines.{procOpen, refusedLine, pairLine, stuckLine, stepLine, linesOf, procLines, deadlockLines}
+use Rattle.report_lines.specs.Lines.{procOpen, refusedLine, pairForm, pairLine, stuckLine, stepLine, linesOf, procLines, deadlockLines}
 
 pub record Example : Type 0 where
   pub lines : List ℕ
@@ -37,5 +37,5 @@ right [] = true
 right (e ∷ es) = equal (e .lines) (bytes (e .text)) && right es
 
 pub examples-right : T (right examples)
-unfolding examples right equal bit digitsIn digits members listed reportOpen freeLine deadlockOpen closing procOpen refusedLine pairLine stuckLine stepLine linesOf procLines deadlockLines
+unfolding examples right equal bit digitsIn digits members listed reportOpen freeLine deadlockOpen closing procOpen refusedLine pairForm pairLine stuckLine stepLine linesOf procLines deadlockLines
 examples-right = tt

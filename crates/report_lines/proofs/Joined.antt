@@ -10,7 +10,7 @@ use lib.Seq.{take-suc, take-length}
 use mir.Syntax.{w8, w16, w64}
 use mir.Val.{Fits}
 use Rattle.laws.specs.Wrote.{Wrote}
-use Rattle.report_lines.specs.Lines.{pairLine, stuckLine, stepLine, procOpen, linesOf, procOpenRoom, pairLineRoom, stuckLineRoom, stepLineRoom}
+use Rattle.report_lines.specs.Lines.{pairForm, pairLine, stuckLine, stepLine, procOpen, linesOf, procOpenRoom, pairFormRoom, pairLineRoom, stuckLineRoom, stepLineRoom}
 use Rattle.laws.proofs.Wrote.{wrote-none, wrote-more, wrote-length}
 use Rattle.report_lines.proofs.Digits.{digits-short, number-short}
 use Rattle.report_lines.proofs.Members.{members-short}
@@ -21,9 +21,17 @@ pub proc-short : (p : ℕ) → Fits w64 p → length (procOpen p) ≤ procOpenRo
 unfolding procOpen
 proc-short p f = rw (length-append, length-append) (omega (arith, number-short p f))
 
+form-within : (w : ℕ) → length (pairForm w) ≤ pairFormRoom
+unfolding pairForm
+form-within w = rw (length-append, length-append, length-append) (omega (arith, digits-short 1 (w % 32) (omega arith), members-short (w / 32)))
+
 pub pair-short : (w : ℕ) → length (pairLine w) ≤ pairLineRoom
 unfolding pairLine
-pair-short w = rw (length-append, length-append, length-append) (omega (arith, digits-short 1 (w % 32) (omega arith), members-short (w / 32)))
+pair-short w = rw length-append (omega (arith, form-within w))
+
+-- a form's length as a rule of `omega`
+pub form-short : (w : ℕ) → Fits w64 w → length (pairForm w) ≤ pairFormRoom
+form-short w f = form-within w
 
 pub stuck-short : (m : ℕ) → Fits w8 m → length (stuckLine m) ≤ stuckLineRoom
 unfolding stuckLine

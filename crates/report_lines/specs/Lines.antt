@@ -51,15 +51,19 @@ procOpen p = bytes "(proc " ++ digits p ++ bytes "\n"
 unfoldable pub refusedLine : ℕ → ℕ → List ℕ
 refusedLine r l = bytes "(refused " ++ digits r ++ (bytes " " ++ digits l) ++ bytes ")\n"
 
--- what the programs `tidy` and `slip` print of a text: what is given, and of a refused text `(refused R L)` alone
+-- what the programs `tidy`, `slip` and `crossings` print of a text: what is given, and of a refused text `(refused R L)` alone
 abbrev pub unlessRefused : Option Refusal → List ℕ → List ℕ
 unlessRefused none given = given
 unlessRefused (some x) given = refusedLine (x .rule) (x .line)
 
 -- "A pair line is `(pair L` with the wanted lock. The held locks follow, lowest number first": the pair has the wanted lock in its 5 lowest bits, the mask of the
 -- held locks above them
+unfoldable pub pairForm : ℕ → List ℕ
+pairForm w = bytes "(pair " ++ digits (w % 32) ++ listed (members 64 (w / 32)) ++ bytes ")"
+
+-- with its line end
 unfoldable pub pairLine : ℕ → List ℕ
-pairLine w = bytes "(pair " ++ digits (w % 32) ++ listed (members 64 (w / 32)) ++ bytes ")\n"
+pairLine w = pairForm w ++ bytes "\n"
 
 -- "`(stuck T ..)` with thread numbers ascending", for a mask of threads
 unfoldable pub stuckLine : ℕ → List ℕ
@@ -93,8 +97,12 @@ abbrev pub refusedLineRoom : ℕ
 refusedLineRoom = 9 + 3 + 1 + 20 + 2
 
 -- for `(pair L ..)`, with a blank before each held lock
+abbrev pub pairFormRoom : ℕ
+pairFormRoom = 6 + 2 + 64 * 3 + 1
+
+-- with its line end
 abbrev pub pairLineRoom : ℕ
-pairLineRoom = 6 + 2 + 64 * 3 + 2
+pairLineRoom = pairFormRoom + 1
 
 -- for `(stuck T ..)`, with a blank before each thread
 abbrev pub stuckLineRoom : ℕ

@@ -4,9 +4,12 @@ ghost use mathlib.Core.List.{_++_};
 ghost use Prim.Native.Nat.{_+_, _*_, _≤_};
 ghost use lib.ListN.{length};
 ghost use Rattle.laws.specs.Wrote.{Wrote};
-ghost use Rattle.report_lines.specs.Lines.{digits, members, listed, procOpen, refusedLine, pairLine, stuckLine, stepLine};
+ghost use Rattle.report_lines.specs.Lines.{digits, members, listed, procOpen, refusedLine, pairForm, pairLine, stuckLine, stepLine};
 ghost use Rattle.report_lines.specs.Lines.{linesOf, procLines, deadlockLines};
-ghost use Rattle.report_lines.specs.Lines.{procOpenRoom, refusedLineRoom, pairLineRoom, stuckLineRoom, stepLineRoom, procLinesRoom, deadlockRoom};
+ghost use Rattle.report_lines.specs.Lines.{procOpenRoom, refusedLineRoom, pairFormRoom, pairLineRoom, stuckLineRoom, stepLineRoom, procLinesRoom, deadlockRoom};
+
+// Bytes that suffice for `(pair L ..)`, whatever the pair: a lock has at most 2 digits, and there is room for 64 held ones, each with a blank.
+pub const PAIR_FORM_ROOM: usize = 6 + 2 + 64 * 3 + 1;
 
 // A text as it is.
 pub fn put_text(out: &mut [u8], at: usize, text: &[u8]) -> usize
@@ -79,15 +82,24 @@ pub fn put_refused(out: &mut [u8], at: usize, rule: u8, line: usize) -> usize
 }
 
 // `(pair L ..)`, of a pair
-fn put_pair(out: &mut [u8], at: usize, pair: u64) -> usize
-    requires { ⌜ at + pairLineRoom ≤ length (now out) ⌝ }
-    ensures { λ r. ⌜ Wrote (now (out .entry)) (now (out .exit)) at r (pairLine pair) ⌝ }
+pub fn put_pair_form(out: &mut [u8], at: usize, pair: u64) -> usize
+    requires { ⌜ at + pairFormRoom ≤ length (now out) ⌝ }
+    ensures { λ r. ⌜ Wrote (now (out .entry)) (now (out .exit)) at r (pairForm pair) ⌝ }
 {
     let held = locks::held_in(pair);
     let wanted = locks::wanted_in(pair);
     let i = put_numbered(out, at, b"(pair ", wanted);
     let j = put_members(out, i, held);
-    put_text(out, j, b")\n")
+    put_text(out, j, b")")
+}
+
+// The same with its line end.
+fn put_pair(out: &mut [u8], at: usize, pair: u64) -> usize
+    requires { ⌜ at + pairLineRoom ≤ length (now out) ⌝ }
+    ensures { λ r. ⌜ Wrote (now (out .entry)) (now (out .exit)) at r (pairLine pair) ⌝ }
+{
+    let i = put_pair_form(out, at, pair);
+    put_text(out, i, b"\n")
 }
 
 // `(stuck T ..)`, of a mask of threads

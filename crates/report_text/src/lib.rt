@@ -15,11 +15,12 @@ use limits::MAX_PAIRS;
 use limits::MAX_PROCS;
 use plan::Reading;
 use procs::Layout;
+use report_lines::PAIR_FORM_ROOM;
 
 // Bytes that suffice for a part of the report, most for the lines of a procedure: the opening and closing lines, and a line for each pair with room for 64 held locks.
 const PROC_OPEN_ROOM: usize = 6 + 20 + 1;
 
-const PAIR_LINE_ROOM: usize = 6 + 2 + 64 * 3 + 2;
+const PAIR_LINE_ROOM: usize = PAIR_FORM_ROOM + 1;
 
 pub const PART_ROOM: usize = PROC_OPEN_ROOM + MAX_PAIRS * PAIR_LINE_ROOM + 2;
 

@@ -3,7 +3,7 @@ use Prim.Native.Nat.{ℕ, _<_}
 use mathlib.Core.Bool.{Bool, true, false}
 use mathlib.Core.List.{List, [], _∷_}
 use lib.Dec.{T}
-use lib.ListN.{length}
+use lib.ListN.{length, getD}
 use Rattle.limits.specs.Limits.{lockCount}
 
 -- "A block is one or more statements. A statement is `(skip)`; `(call N)`; `(hold N`, block, `)`; `(loop`, block, `)`; or `(either`, `(one`, block, `)`,
@@ -22,6 +22,10 @@ pub data Block : Type 0 where
 pub record LockPlan : Type 0 where
   pub procs : List Block
   pub threads : List ℕ
+
+-- the procedure that thread t runs; 0 where there is no such thread
+abbrev pub threadProc : LockPlan → ℕ → ℕ
+threadProc plan t = getD (plan .threads) t 0
 
 infixr 50 _⨾_
 -- a, then b

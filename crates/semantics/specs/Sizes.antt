@@ -2,9 +2,9 @@
 -- either. A block's size is the sum of its statements, a procedure's that of its block."
 use Prim.Native.Nat.{ℕ, _+_}
 use mathlib.Core.List.{List}
-use lib.ListN.{length, getD}
+use lib.ListN.{length}
 use Rattle.laws.specs.Sums.{total}
-use Rattle.semantics.specs.Plan.{Block, done, skip, call, hold, loop, either, end, bodyIn, LockPlan}
+use Rattle.semantics.specs.Plan.{Block, done, skip, call, hold, loop, either, end, bodyIn, LockPlan, threadProc}
 
 -- the size of a block, where s p is that of procedure p. `end`, in a remainder, is the second half of a hold
 unfoldable pub sizeWith : (ℕ → ℕ) → Block → ℕ
@@ -28,7 +28,7 @@ sizeOf ps p = sizeAt (length ps) ps p
 
 -- the size of thread t of a plan: that of its procedure
 unfoldable pub threadSize : LockPlan → ℕ → ℕ
-threadSize plan t = sizeOf (plan .procs) (getD (plan .threads) t 0)
+threadSize plan t = sizeOf (plan .procs) (threadProc plan t)
 
 -- "the sum of its threads' sizes", over all threads of the plan
 unfoldable pub threadSizes : LockPlan → ℕ

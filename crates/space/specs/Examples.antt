@@ -10,11 +10,11 @@ abbrev pub caseA : List ℕ
 caseA = bytes "(plan\n(proc\n(hold 0\n(hold 1\n(skip)\n)\n)\n)\n(proc\n(hold 1\n(hold 0\n(skip)\n)\n)\n)\n(thread 0)\n(thread 1)\n)\n"
 
 -- thread 0 runs procedure 1, of size 2 + 1, and thread 1 procedure 0, of size 1
-abbrev pub crossed : List ℕ
-crossed = bytes "(plan\n(proc\n(skip)\n)\n(proc\n(loop\n(skip)\n)\n)\n(thread 1)\n(thread 0)\n)\n"
+abbrev pub threadsExchanged : List ℕ
+threadsExchanged = bytes "(plan\n(proc\n(skip)\n)\n(proc\n(loop\n(skip)\n)\n)\n(thread 1)\n(thread 0)\n)\n"
 
 -- the slips, and the refusal of the empty text
 pub record SlipsRight : Type 0 where
   pub a : printedSlip caseA ≡ bytes "(size 0 5)\n(size 1 5)\n(sum 10)\n"
-  pub threads : printedSlip crossed ≡ bytes "(size 0 3)\n(size 1 1)\n(sum 4)\n"
+  pub threads : printedSlip threadsExchanged ≡ bytes "(size 0 3)\n(size 1 1)\n(sum 4)\n"
   pub empty : printedSlip [] ≡ bytes "(refused 4 1)\n"

@@ -48,3 +48,17 @@ pub unsafe extern "C" fn lockplan_tidy(
 pub unsafe extern "C" fn lockplan_space(text: *const u8, text_len: usize) -> u64 {
     standin::space(from_raw_parts(text, text_len))
 }
+
+/// # Safety
+/// `text` and `out` point to as many bytes as their lengths say.
+#[no_mangle]
+pub unsafe extern "C" fn lockplan_crossings(
+    text: *const u8,
+    text_len: usize,
+    first: u64,
+    second: u64,
+    out: *mut u8,
+    out_len: usize,
+) -> u64 {
+    standin::crossings(from_raw_parts(text, text_len), first, second, from_raw_parts_mut(out, out_len))
+}

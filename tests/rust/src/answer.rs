@@ -6,6 +6,7 @@ pub const FREE: u64 = 0;
 pub const PAIRS: u64 = 0;
 pub const COPIED: u64 = 0;
 pub const SPACE: u64 = 0;
+pub const CROSSED: u64 = 0;
 pub const DEADLOCK: u64 = 1;
 pub const REFUSED: u64 = 2;
 

@@ -1,6 +1,7 @@
 //! The comparison of the library with the reference on one text.
 
-use crate::answer::{Answer, COPIED, DEADLOCK, FREE, PAIRS, REFUSED, SPACE};
+use crate::answer::{Answer, COPIED, CROSSED, DEADLOCK, FREE, PAIRS, REFUSED, SPACE};
+use crate::crossings::{bytes, crossed, Couple, COUPLE_BYTES};
 use crate::gateway::replay;
 use crate::guard::Pages;
 use crate::random::Random;
@@ -17,6 +18,8 @@ pub type TidyCall = fn(&[u8], &mut [u8]) -> u64;
 pub type PairsCall = fn(&[u8], u64, &mut [u8]) -> u64;
 /// Text.
 pub type SpaceCall = fn(&[u8]) -> u64;
+/// Text, first and second thread, and output.
+pub type CrossingsCall = fn(&[u8], u64, u64, &mut [u8]) -> u64;
 
 /// The calls of a library.
 #[derive(Clone, Copy)]
@@ -25,6 +28,7 @@ pub struct Calls {
     pub pairs: PairsCall,
     pub tidy: TidyCall,
     pub space: SpaceCall,
+    pub crossings: CrossingsCall,
 }
 
 /// The least buffer of a call: its bytes, and those of one entry of it.
@@ -69,6 +73,33 @@ fn lent_to_verdicts(sum: Result<u64, Refusal>, random: &mut Random) -> Vec<usize
     lengths
 }
 
+/// Numbers of bytes below this are small, where couples are lent for: up to three of them
+/// and a byte more.
+const FEW: usize = 3 * COUPLE_BYTES + 2;
+
+/// The bytes lent for couples: a small number, or each of them now and then where there are
+/// couples; and a number about what all of them need. Where the call is refused, any.
+fn lent_to_crossings(couples: &Result<Vec<Couple>, Refusal>, random: &mut Random) -> Vec<usize> {
+    let few = random.below(FEW);
+    let Ok(couples) = couples else {
+        return vec![if random.chance(50) { few } else { random.below(5_000) }];
+    };
+    let all = COUPLE_BYTES * couples.len();
+    let each = !couples.is_empty() && random.chance(4);
+    let mut lengths = if each { (0..FEW).collect() } else { vec![few] };
+    lengths.push(match random.below(10) {
+        0 | 1 => all,
+        2 => all.saturating_sub(1),
+        3 => all + 1,
+        4 => all.saturating_sub(COUPLE_BYTES / 2),
+        5 => all + COUPLE_BYTES / 2,
+        6 => all + COUPLE_BYTES,
+        7 => all + random.below(5_000),
+        _ => random.below(all + 1),
+    });
+    lengths
+}
+
 /// What a text gave, for the summary.
 #[derive(Clone, Copy, Debug, PartialEq, Eq, PartialOrd, Ord)]
 pub enum Outcome {
@@ -91,9 +122,16 @@ pub struct Counts {
     pub one_less: u64,
     pub copies: u64,
     pub spaces: u64,
+    pub crossings: u64,
+    /// Refused by rule 14.
+    pub not_two: u64,
+    /// Of threads that cross, lent exactly what all couples need, and less.
+    pub all_couples: u64,
+    pub some_couples: u64,
     pub words: u64,
     pub entries: u64,
     pub copied: u64,
+    pub couples: u64,
 }
 
 /// A text and what the reference says of it.
@@ -110,7 +148,24 @@ impl Said {
     fn sum(&self) -> Result<u64, Refusal> {
         self.plan.as_ref().map(Plan::size_of_threads).map_err(|refusal| *refusal)
     }
+
+    /// The couples of two threads.
+    fn crossed(&self, first: u64, second: u64) -> Crossed {
+        let couples =
+            self.plan.as_ref().map_err(|refusal| *refusal).and_then(|plan| crossed(plan, first, second));
+        Crossed { first, second, couples }
+    }
 }
+
+/// Two threads, and what the reference says of them.
+struct Crossed {
+    first: u64,
+    second: u64,
+    couples: Result<Vec<Couple>, Refusal>,
+}
+
+/// The bytes of the memory for output parts. Only couples can need more.
+const ROOM: usize = 65_536;
 
 /// The memory lent to the calls.
 pub struct Bench {
@@ -128,7 +183,7 @@ pub struct Bench {
 
 impl Bench {
     pub fn new(edges: bool) -> Bench {
-        let (text, mut out) = (Pages::new(1 << 20), Pages::new(65_536));
+        let (text, mut out) = (Pages::new(1 << 20), Pages::new(ROOM));
         let before = vec![0; out.bytes().len()];
         Bench { text, out, before, last: None, edges, counts: Counts::default(), twins: Twins::default() }
     }
@@ -163,10 +218,41 @@ impl Bench {
         self.tidy(calls.tidy, &said, lent)?;
         let lent = self.lend(text, 0, random);
         self.space(calls.space, &said, lent)?;
+        let two = two_threads(&said.plan, 6, random);
+        let others = [(); 3].map(|()| not_two(&said.plan, random));
+        for (first, second) in two.into_iter().chain(others) {
+            self.all_crossings(calls.crossings, text, &said.crossed(first, second), random)?;
+        }
         self.twins.check(calls, text, &said.plan, random)?;
         let outcome = said.outcome;
         self.last = Some(said);
         Ok(outcome)
+    }
+
+    /// The crossings of two threads with several lengths lent.
+    fn all_crossings(
+        &mut self,
+        call: CrossingsCall,
+        text: &[u8],
+        crossed: &Crossed,
+        random: &mut Random,
+    ) -> Result<(), String> {
+        for bytes in lent_to_crossings(&crossed.couples, random) {
+            self.make_room(bytes);
+            let lent = self.lend(text, bytes, random);
+            self.crossings(call, crossed, lent)?;
+        }
+        self.make_room(0);
+        Ok(())
+    }
+
+    /// Room for an output part of so many bytes, no more than usual where that is enough.
+    fn make_room(&mut self, bytes: usize) {
+        let room = (2 * bytes).next_multiple_of(ROOM).max(ROOM);
+        if self.out.bytes().len() != room {
+            self.out = Pages::new(room);
+            self.before = vec![0; room];
+        }
     }
 
     /// Places a text and an output part of so many bytes.
@@ -302,6 +388,31 @@ impl Bench {
         self.left("space", same_answer(number, answer), expected, &lent)
     }
 
+    /// The count is of all couples, and the first that fit whole are written.
+    fn crossings(&mut self, call: CrossingsCall, crossed: &Crossed, lent: Lent) -> Result<(), String> {
+        self.counts.crossings += 1;
+        let Crossed { first, second, couples } = crossed;
+        let number = self.call(&lent, |text, out| call(text, *first, *second, out));
+        let mut expected = std::mem::take(&mut self.before);
+        let answer = match couples {
+            Err(refusal) => {
+                self.counts.not_two += u64::from(*refusal == Refusal::NOT_TWO);
+                Answer::refused(*refusal)
+            }
+            Ok(couples) => {
+                let (count, fit) = (couples.len(), lent.len / COUPLE_BYTES);
+                let written = bytes(&couples[..fit.min(count)]);
+                expected[lent.out..lent.out + written.len()].copy_from_slice(&written);
+                self.counts.all_couples += u64::from(count > 0 && lent.len == COUPLE_BYTES * count);
+                self.counts.some_couples += u64::from(fit < count);
+                self.counts.couples += fit.min(count) as u64;
+                Answer { kind: CROSSED, a: 0, b: count as u64 }
+            }
+        };
+        let what = format!("crossings of threads {first} and {second}");
+        self.left(&what, same_answer(number, answer), expected, &lent)
+    }
+
     /// A deadlock's schedule is a run, short enough, with the stuck set at its end.
     fn schedule(
         &mut self,
@@ -398,6 +509,38 @@ fn requested(plan: &Result<Plan, Refusal>, random: &mut Random) -> Vec<u64> {
         _ => {}
     }
     procs
+}
+
+/// Two different threads of a plan, in any order, so often at most; the first two where
+/// it is refused.
+pub fn two_threads(plan: &Result<Plan, Refusal>, most: usize, random: &mut Random) -> Vec<(u64, u64)> {
+    let count = plan.as_ref().map_or(2, |plan| plan.threads.len()) as u64;
+    let all = (0..count).flat_map(|first| (0..count).map(move |second| (first, second)));
+    let mut two: Vec<(u64, u64)> = all.filter(|(first, second)| first != second).collect();
+    random.shuffle(&mut two);
+    two.truncate(most);
+    two
+}
+
+/// Two numbers of which one at least is that of no thread, or twice the same.
+pub fn not_two(plan: &Result<Plan, Refusal>, random: &mut Random) -> (u64, u64) {
+    let count = plan.as_ref().map_or(2, |plan| plan.threads.len()) as u64;
+    let there = random.below(count as usize) as u64;
+    let other = (there + 1) % count;
+    // Some are that of a thread in their low bits.
+    let any = vec![count, 6, 7, 8, 64, 999, 1 << 32, 1 << 63, u64::MAX];
+    let low_bits = [8, 64, 256, 65_536, 1 << 32, 1 << 63].map(|more| there + more).to_vec();
+    let mut absent = || {
+        let numbers = if random.chance(50) { &any } else { &low_bits };
+        (*random.pick(numbers)).max(count)
+    };
+    let (one, two) = (absent(), absent());
+    match random.below(6) {
+        0 => (there, there),
+        1 => (one, two),
+        2 | 3 => (one, other),
+        _ => (other, one),
+    }
 }
 
 /// Removes lines while the text still fails, to make it short.

@@ -14,7 +14,7 @@ use crate::tidy::tree;
 
 use Tree::Call;
 
-const LOCKS: usize = MAX_LOCK as usize + 1;
+pub const LOCKS: usize = MAX_LOCK as usize + 1;
 
 /// The first of the six ring locks; the locks before are for lists.
 const RING: usize = LOCKS - MAX_THREADS;
@@ -121,8 +121,16 @@ pub fn many_pairs(deadlock: bool) -> Draft {
 /// So many chains of sixteen locks, each from another lock around: with 31 the most
 /// pairs that a procedure can have, 496, and a size of 1,023.
 pub fn around(chains: usize) -> Vec<Tree> {
-    let chain = |first: usize| (first..first + 16).map(|lock| lock % LOCKS).collect::<Vec<_>>();
-    (0..chains).map(|first| nest(&chain(first), vec![])).collect()
+    around_by(chains, |_| false)
+}
+
+/// The same, with some chains downwards.
+pub fn around_by(chains: usize, down: impl Fn(usize) -> bool) -> Vec<Tree> {
+    let chain = |first: usize| {
+        let step = if down(first) { LOCKS - 1 } else { 1 };
+        nest(&(0..16).map(|at| (first + at * step) % LOCKS).collect::<Vec<_>>(), vec![])
+    };
+    (0..chains).map(chain).collect()
 }
 
 /// Six threads of 496 pairs each: deadlock.

@@ -4,6 +4,7 @@ use crate::families::{self, hold, nest, skips, Draft, Tree};
 use crate::full;
 use crate::idle::{about_idle, employed, with_idle};
 use crate::indent::{self, indent, over, padded};
+use crate::opposed::about_crossings;
 use crate::random::Random;
 use crate::reference::{read, MAX_BYTES, MAX_PROCS, MAX_SIZE, MAX_THREADS, MOST_PAIRS};
 
@@ -1222,7 +1223,7 @@ pub fn generate(random: &mut Random) -> Case {
 /// One text that is not indented, or only by a damage.
 fn plain(random: &mut Random) -> Case {
     let case = |kind, draft: Draft| Case { kind, text: draft.text() };
-    match random.weighted(&[12, 12, 8, 8, 10, 8, 8, 5, 13, 5, 2, 8, 8, 9, 5, 4, 9]) {
+    match random.weighted(&[12, 12, 8, 8, 10, 8, 8, 5, 13, 5, 2, 8, 8, 9, 5, 4, 9, 10]) {
         0 => case("tiny", plan(random, &TINY)),
         1 => case("small", plan(random, &SMALL)),
         2 => case("nested", plan(random, &NESTED)),
@@ -1252,6 +1253,7 @@ fn plain(random: &mut Random) -> Case {
         13 => case("circles", circles(random)),
         14 => case("spaces", spaces(random)),
         15 => case("many pairs in one", many_pairs(random)),
-        _ => case("idle procedures", about_idle(random)),
+        16 => case("idle procedures", about_idle(random)),
+        _ => case("two threads", about_crossings(random)),
     }
 }

@@ -97,6 +97,14 @@ fn without(draft: &Draft, proc: usize) -> Draft {
     rest
 }
 
+/// The same without the procedures that are idle.
+pub fn without_idle(mut draft: Draft) -> Draft {
+    while let Some(proc) = idle(&draft).pop() {
+        draft = without(&draft, proc);
+    }
+    draft
+}
+
 /// The same with no procedure idle, where one is used at least: each idle one gets a
 /// call or a thread, and is left out where either would break another rule than the
 /// plan does.

@@ -4,6 +4,7 @@
 pub mod answer;
 pub mod climb;
 pub mod compare;
+pub mod crossings;
 pub mod families;
 pub mod full;
 pub mod gateway;
@@ -14,7 +15,9 @@ pub mod indent;
 pub mod lengths;
 #[cfg(feature = "library")]
 pub mod library;
+pub mod miscross;
 pub mod misread;
+pub mod opposed;
 pub mod pairs;
 pub mod promela;
 pub mod random;

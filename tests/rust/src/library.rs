@@ -7,6 +7,14 @@ extern "C" {
     fn lockplan_pairs(text: *const u8, text_len: usize, proc: u64, out: *mut u8, out_len: usize) -> u64;
     fn lockplan_tidy(text: *const u8, text_len: usize, out: *mut u8, out_len: usize) -> u64;
     fn lockplan_space(text: *const u8, text_len: usize) -> u64;
+    fn lockplan_crossings(
+        text: *const u8,
+        text_len: usize,
+        first: u64,
+        second: u64,
+        out: *mut u8,
+        out_len: usize,
+    ) -> u64;
 }
 
 pub fn verdict(text: &[u8], out: &mut [u8]) -> u64 {
@@ -29,4 +37,9 @@ pub fn space(text: &[u8]) -> u64 {
     unsafe { lockplan_space(text.as_ptr(), text.len()) }
 }
 
-pub const CALLS: Calls = Calls { verdict, pairs, tidy, space };
+pub fn crossings(text: &[u8], first: u64, second: u64, out: &mut [u8]) -> u64 {
+    // SAFETY: as above.
+    unsafe { lockplan_crossings(text.as_ptr(), text.len(), first, second, out.as_mut_ptr(), out.len()) }
+}
+
+pub const CALLS: Calls = Calls { verdict, pairs, tidy, space, crossings };

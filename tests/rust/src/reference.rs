@@ -29,6 +29,8 @@ pub struct Refusal {
 impl Refusal {
     /// The lent buffer is too short.
     pub const SHORT: Refusal = Refusal { rule: 1, line: 0 };
+    /// A thread is not there, or the same one is named twice.
+    pub const NOT_TWO: Refusal = Refusal { rule: 14, line: 0 };
 }
 
 impl std::fmt::Display for Refusal {

@@ -24,11 +24,7 @@ pub fn accepted(plan: &Plan, verdict: &Verdict) -> Vec<u8> {
     for (proc, pairs) in plan.pairs.iter().enumerate() {
         writeln!(out, "(proc {proc}").unwrap();
         for pair in pairs {
-            write!(out, "(pair {}", pair.wanted).unwrap();
-            for lock in (0..32).filter(|lock| pair.held >> lock & 1 == 1) {
-                write!(out, " {lock}").unwrap();
-            }
-            out.push_str(")\n");
+            writeln!(out, "{pair}").unwrap();
         }
         out.push_str(")\n");
     }

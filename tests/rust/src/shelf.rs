@@ -1,9 +1,10 @@
 //! The plans of the reference shelf and other fixed texts, with what they give.
 
-use crate::families::{hold, nest, skips, Draft, Tree};
+use crate::families::{detours, hold, nest, philosophers, skips, Draft, Tree};
 use crate::full::around;
 use crate::generate::doubling;
 use crate::indent::{indent, Padding};
+use crate::opposed::{both_around, MOST_COUPLES};
 use crate::random::Random;
 use crate::reference::MAX_BYTES;
 
@@ -16,6 +17,7 @@ pub enum Gives {
     Refused(u8, usize),
 }
 
+#[derive(Clone)]
 pub struct Entry {
     pub name: &'static str,
     pub text: Vec<u8>,
@@ -26,6 +28,8 @@ pub struct Entry {
     pub schedule: Option<Vec<u16>>,
     /// Sizes by thread, where they are stated.
     pub sizes: Vec<u64>,
+    /// Two threads and how many couples they have, where it is stated.
+    pub couples: Vec<(u64, u64, usize)>,
 }
 
 impl Entry {
@@ -37,15 +41,15 @@ impl Entry {
             Gives::Refused(rule, line) => Gives::Refused(*rule, made.moved(*line)),
             gives => gives.clone(),
         };
-        let (words, schedule, sizes) = (self.words.clone(), self.schedule.clone(), self.sizes.clone());
-        Entry { name: self.name, text: made.text, gives, words, schedule, sizes }
+        Entry { text: made.text, gives, ..self.clone() }
     }
 }
 
 /// All fixed texts.
 pub fn all() -> Vec<Entry> {
-    let parts = [shelf(), others(), calls(), idle_procedures(), remarked(), spaces(), many_pairs()];
-    parts.into_iter().flatten().collect()
+    let small = [shelf(), crossings(), others(), calls(), idle_procedures(), remarked(), spaces()];
+    let large = [many_pairs(), many_couples()];
+    small.into_iter().chain(large).flatten().collect()
 }
 
 /// All fixed texts indented, each at several seeds.
@@ -54,12 +58,11 @@ pub fn all_indented() -> Vec<Entry> {
 }
 
 fn entry(name: &'static str, draft: Draft, gives: Gives) -> Entry {
-    Entry { name, text: draft.text(), gives, words: vec![], schedule: None, sizes: vec![] }
+    Entry { name, text: draft.text(), gives, words: vec![], schedule: None, sizes: vec![], couples: vec![] }
 }
 
 fn text(name: &'static str, text: &[u8], rule: u8, line: usize) -> Entry {
-    let gives = Gives::Refused(rule, line);
-    Entry { name, text: text.to_vec(), gives, words: vec![], schedule: None, sizes: vec![] }
+    Entry { text: text.to_vec(), ..entry(name, Draft::default(), Gives::Refused(rule, line)) }
 }
 
 /// An accepted text without a deadlock.
@@ -84,32 +87,42 @@ pub fn shelf() -> Vec<Entry> {
             words: vec![vec![0, 33], vec![1, 64]],
             schedule: Some(vec![0, 1]),
             sizes: vec![5, 5],
+            couples: vec![(0, 1, 1)],
             ..entry("A", Draft::each(vec![chain(&[0, 1]), chain(&[1, 0])]), Deadlock(3))
         },
         Entry {
             words: vec![vec![2, 128, 161], vec![2, 129, 192]],
             sizes: vec![7, 7],
+            couples: vec![(0, 1, 0)],
             ..entry("B", Draft::each(vec![chain(&[2, 0, 1]), chain(&[2, 1, 0])]), Free)
         },
         Entry {
             words: vec![vec![0]],
             sizes: vec![5, 5],
+            couples: vec![(0, 1, 0)],
             ..entry("C", Draft { procs: vec![chain(&[0, 0])], threads: vec![0, 0] }, Free)
         },
-        entry("D", Draft::each(vec![chain(&[1, 0]), chain(&[2, 1]), chain(&[0, 2])]), Deadlock(7)),
+        Entry {
+            couples: vec![(0, 1, 0), (0, 2, 0), (1, 2, 0)],
+            ..entry("D", Draft::each(vec![chain(&[1, 0]), chain(&[2, 1]), chain(&[0, 2])]), Deadlock(7))
+        },
         entry("E", Draft::each(vec![chain(&[1, 0]), chain(&[2, 1])]), Free),
         entry("F", Draft::each(vec![vec![nest(&[0, 1], vec![]), nest(&[1, 0], vec![])]]), Free),
-        entry(
-            "G",
-            Draft::each(vec![
-                vec![hold(0, vec![hold(1, vec![]), hold(2, vec![])])],
-                vec![hold(1, vec![hold(0, vec![]), nest(&[2, 0], vec![])])],
-            ]),
-            Deadlock(3),
-        ),
+        Entry {
+            couples: vec![(0, 1, 3)],
+            ..entry(
+                "G",
+                Draft::each(vec![
+                    vec![hold(0, vec![hold(1, vec![]), hold(2, vec![])])],
+                    vec![hold(1, vec![hold(0, vec![]), nest(&[2, 0], vec![])])],
+                ]),
+                Deadlock(3),
+            )
+        },
         Entry {
             schedule: Some(vec![8, 0, 1]),
             sizes: vec![7, 5],
+            couples: vec![(0, 1, 1)],
             ..entry(
                 "H",
                 Draft::each(vec![vec![Tree::Either(chain(&[0, 1]), skips(1))], chain(&[1, 0])]),
@@ -937,6 +950,159 @@ pub fn many_pairs() -> Vec<Entry> {
         entry("496 pairs, size 1,025", skip_more(31, 2), Refused(9, 2)),
         entry("512 pairs", skip_more(32, 0), Refused(9, 2)),
         // A circle of 32 locks needs three threads: none holds more than 15 of a chain.
-        entry("496 pairs in two threads", Draft { procs: vec![around(31)], threads: vec![0, 0] }, Free),
+        couples_of(
+            "496 pairs in two threads",
+            Draft { procs: vec![around(31)], threads: vec![0, 0] },
+            Free,
+            &[(0, 1, 0)],
+        ),
+    ]
+}
+
+/// Fixed texts of where two threads cross.
+pub fn crossings() -> Vec<Entry> {
+    let mut all = crossed();
+    all.extend(crossed_among_others());
+    all.extend(crossed_in_one_procedure());
+    all.extend(not_crossed());
+    all
+}
+
+/// A text with the couples of some of its threads.
+fn couples_of(name: &'static str, draft: Draft, gives: Gives, couples: &[(u64, u64, usize)]) -> Entry {
+    Entry { couples: couples.to_vec(), ..entry(name, draft, gives) }
+}
+
+/// A thread for each chain.
+fn chains(all: &[&[usize]]) -> Draft {
+    Draft::each(all.iter().map(|locks| chain(locks)).collect())
+}
+
+/// Two threads that cross.
+fn crossed() -> Vec<Entry> {
+    let one = |name, locks: [&[usize]; 2], count| {
+        couples_of(name, chains(&locks), Gives::Deadlock(3), &[(0, 1, count), (1, 0, count)])
+    };
+    let inside = vec![
+        vec![Tree::Loop(vec![hold(0, vec![Tree::Either(skips(1), vec![Tree::Call(2)])])])],
+        chain(&[1, 0]),
+        chain(&[1]),
+    ];
+    vec![
+        one("crossed by a guard around one", [&[5, 0, 1], &[1, 0]], 1),
+        // With the first lock held and the guard wanted, and the other way round.
+        one("crossed by a guard between", [&[0, 5, 1], &[1, 5, 0]], 2),
+        one("two guards crossed", [&[5, 0, 1], &[6, 1, 0]], 1),
+        one("the highest locks crossed", [&[31, 30], &[30, 31]], 1),
+        // The second lock is held by the one and wanted by the other, or the other way round.
+        one("three locks crossed", [&[0, 1, 2], &[2, 1, 0]], 2),
+        couples_of(
+            "crossed inside, through a call",
+            run_by(&[0, 1], first(inside)),
+            Gives::Deadlock(3),
+            &[(0, 1, 1), (1, 0, 1)],
+        ),
+    ]
+}
+
+/// Two threads that cross, among others.
+fn crossed_among_others() -> Vec<Entry> {
+    use Gives::Deadlock;
+    let behind_others = Draft::each([vec![skips(1); 4], vec![chain(&[0, 1]), chain(&[1, 0])]].concat());
+    let late_first = run_by(&[2, 0, 1], first(vec![skips(1), chain(&[0, 1]), chain(&[1, 0])]));
+    vec![
+        couples_of(
+            "the last two of six crossed",
+            behind_others,
+            Deadlock(0b11_0000),
+            &[(4, 5, 1), (5, 4, 1), (0, 5, 0), (3, 4, 0), (0, 1, 0)],
+        ),
+        couples_of(
+            "threads in another order than procedures",
+            late_first,
+            Deadlock(0b101),
+            &[(0, 1, 0), (0, 2, 1), (1, 2, 0), (2, 0, 1)],
+        ),
+        couples_of(
+            "one crossed with two others",
+            chains(&[&[0, 1], &[1, 0], &[0, 1]]),
+            Deadlock(7),
+            &[(0, 1, 1), (0, 2, 0), (1, 2, 1)],
+        ),
+    ]
+}
+
+/// Threads of one procedure.
+fn crossed_in_one_procedure() -> Vec<Entry> {
+    use Gives::{Deadlock, Free};
+    let both = || vec![nest(&[0, 1], vec![]), nest(&[1, 0], vec![])];
+    let threads = |count| Draft { procs: vec![both()], threads: vec![0; count] };
+    vec![
+        couples_of("both orders in two threads", threads(2), Deadlock(3), &[(0, 1, 2), (1, 0, 2)]),
+        couples_of(
+            "both orders in three threads",
+            threads(3),
+            Deadlock(7),
+            &[(0, 1, 2), (0, 2, 2), (1, 2, 2)],
+        ),
+        couples_of(
+            "both orders called in two threads",
+            Draft { procs: vec![vec![Tree::Call(1)], both()], threads: vec![0, 1] },
+            Deadlock(3),
+            &[(0, 1, 2)],
+        ),
+        couples_of(
+            "both orders inside a guard",
+            Draft { procs: vec![vec![hold(2, both())]], threads: vec![0, 0] },
+            Free,
+            &[(0, 1, 0)],
+        ),
+    ]
+}
+
+/// Threads that do not cross.
+fn not_crossed() -> Vec<Entry> {
+    use Gives::{Deadlock, Free};
+    let one = |name, locks: [&[usize]; 2]| couples_of(name, chains(&locks), Free, &[(0, 1, 0), (1, 0, 0)]);
+    let each_two = |count: u64| {
+        let all = (0..count).flat_map(|first| (0..count).map(move |second| (first, second, 0)));
+        all.filter(|(first, second, _)| first != second).collect::<Vec<_>>()
+    };
+    vec![
+        one("only the first wants a lock of the second", [&[0, 1], &[1]]),
+        one("only the first wants a lock that is held with another wanted", [&[0, 1], &[1, 2]]),
+        one("only the second wants a lock of the first", [&[1, 2], &[0, 1]]),
+        one("the same order", [&[0, 1], &[0, 1]]),
+        one("the same lock", [&[0], &[0]]),
+        one("a guard around both", [&[9, 0, 1], &[9, 1, 0]]),
+        one("a guard that one holds again", [&[9, 0, 9, 1], &[9, 1, 0]]),
+        one("other locks", [&[0, 1], &[2, 3]]),
+        couples_of(
+            "held one after the other",
+            Draft::each(vec![chain(&[0, 1]), vec![nest(&[1], vec![]), nest(&[0], vec![])]]),
+            Free,
+            &[(0, 1, 0)],
+        ),
+        couples_of("two threads of skips", Draft::each(vec![skips(1); 2]), Free, &[(0, 1, 0)]),
+        couples_of("a ring of four, no two crossed", philosophers(4), Deadlock(15), &each_two(4)),
+        couples_of("a ring of six, no two crossed", philosophers(6), Deadlock(63), &each_two(6)),
+    ]
+}
+
+/// Fixed texts of many couples.
+pub fn many_couples() -> Vec<Entry> {
+    use Gives::Deadlock;
+    vec![
+        // Each of 14 locks wanted by the one, with those up to it or more held by the other.
+        couples_of("105 couples", detours(14), Deadlock(3), &[(0, 1, 105), (1, 0, 105)]),
+        couples_of(
+            "90,000 couples",
+            MOST_COUPLES.draft(),
+            Deadlock(3),
+            &[(0, 1, MOST_COUPLES.couples()), (1, 0, 90_000)],
+        ),
+        // A chain upwards and one downwards that meet: 113 ways to be met by those at odd
+        // locks, for sixteen chains, but not by one at 31; and the other way round.
+        couples_of("496 pairs, crossed", both_around(), Deadlock(3), &[(0, 1, 2 * (16 * 113 - 113))]),
     ]
 }

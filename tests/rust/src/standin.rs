@@ -1,15 +1,16 @@
 //! The calls made of the reference, right or with a fault: what the
 //! comparison has to accept and to find.
 
-use crate::answer::{Answer, COPIED, DEADLOCK, FREE, PAIRS, SPACE};
-use crate::compare::{Calls, PairsCall, SpaceCall, TidyCall, VerdictCall};
-use crate::misread;
+use crate::answer::{Answer, COPIED, CROSSED, DEADLOCK, FREE, PAIRS, SPACE};
+use crate::compare::{Calls, CrossingsCall, PairsCall, SpaceCall, TidyCall, VerdictCall};
+use crate::crossings::{self, crossed, Couple, COUPLE_BYTES};
 use crate::reference::{
-    bare, lines, named, passed_over, read, sized, sizes, Plan, Refusal, MAX_BYTES, MAX_PAIRS, MAX_SIZE,
-    MAX_SUM,
+    bare, lines, named, passed_over, read, sized, sizes, structure, Plan, Refusal, MAX_BYTES, MAX_PAIRS,
+    MAX_SIZE, MAX_SUM,
 };
 use crate::tidy::{self, COPY_BYTES};
 use crate::verdict::{conflict, judge, pairs_of_threads, schedule, Verdict};
+use crate::{miscross, misread};
 
 /// The calls over a reading of texts.
 macro_rules! calls_over {
@@ -19,6 +20,7 @@ macro_rules! calls_over {
             pairs: |text, proc, out| pairs_of($reading(text), proc, out),
             tidy: |text, out| copy_of($reading(text), out),
             space: |text| space_of($reading(text), Plan::size_of_threads),
+            crossings: |text, first, second, out| crossings_of($reading(text), first, second, out),
         }
     };
 }
@@ -35,7 +37,7 @@ macro_rules! calls_by_sum {
 }
 
 /// The right ones.
-pub const CALLS: Calls = Calls { verdict, pairs, tidy, space };
+pub const CALLS: Calls = Calls { verdict, pairs, tidy, space, crossings };
 
 pub fn pairs(text: &[u8], proc: u64, out: &mut [u8]) -> u64 {
     pairs_of(read(text), proc, out)
@@ -51,6 +53,10 @@ pub fn tidy(text: &[u8], out: &mut [u8]) -> u64 {
 
 pub fn space(text: &[u8]) -> u64 {
     space_of(sized(text), Plan::size_of_threads)
+}
+
+pub fn crossings(text: &[u8], first: u64, second: u64, out: &mut [u8]) -> u64 {
+    crossings_of(read(text), first, second, out)
 }
 
 fn short() -> u64 {
@@ -112,6 +118,22 @@ fn copy_of(plan: Result<Plan, Refusal>, out: &mut [u8]) -> u64 {
 
 fn space_of(plan: Result<Plan, Refusal>, sum: fn(&Plan) -> u64) -> u64 {
     plan.map_or_else(Answer::refused, |plan| Answer { kind: SPACE, a: 0, b: sum(&plan) }).number()
+}
+
+fn crossings_of(plan: Result<Plan, Refusal>, first: u64, second: u64, out: &mut [u8]) -> u64 {
+    match plan.and_then(|plan| crossed(&plan, first, second)) {
+        Ok(couples) => put_couples(&couples, out),
+        Err(refusal) => Answer::refused(refusal).number(),
+    }
+}
+
+/// Writes the couples that fit whole, and counts all.
+fn put_couples(couples: &[Couple], out: &mut [u8]) -> u64 {
+    for ((one, two), place) in couples.iter().zip(out.chunks_exact_mut(COUPLE_BYTES)) {
+        place[..8].copy_from_slice(&one.word().to_le_bytes());
+        place[8..].copy_from_slice(&two.word().to_le_bytes());
+    }
+    Answer { kind: CROSSED, a: 0, b: couples.len() as u64 }.number()
 }
 
 /// Writes a copy, as much of it as there is room for.
@@ -730,6 +752,237 @@ pub const FAULTY_SPACES: [(&str, SpaceCall); 6] = [
     }),
     ("forms counted for lines", |text| forms_for_lines(text, space(text))),
     ("too early behind the last form", |text| behind_the_last_form(text, space(text))),
+];
+
+/// The crossings of two threads by another list of couples.
+fn crossed_by(
+    text: &[u8],
+    (first, second): (u64, u64),
+    out: &mut [u8],
+    other: fn(&Plan, usize, usize) -> Vec<Couple>,
+) -> u64 {
+    match read(text).and_then(|plan| crossed(&plan, first, second).map(|_| plan)) {
+        Ok(plan) => put_couples(&other(&plan, first as usize, second as usize), out),
+        Err(refusal) => Answer::refused(refusal).number(),
+    }
+}
+
+/// All couples of a text as bytes, empty where the call is refused.
+fn couples_of(text: &[u8], first: u64, second: u64) -> Vec<u8> {
+    let couples = read(text).and_then(|plan| crossed(&plan, first, second));
+    crossings::bytes(&couples.unwrap_or_default())
+}
+
+/// The crossings, with so many bytes of all couples written as there is room for.
+fn crossings_in(piece: usize, text: &[u8], (first, second): (u64, u64), out: &mut [u8]) -> u64 {
+    let all = couples_of(text, first, second);
+    let length = all.len().min(out.len() / piece * piece);
+    out[..length].copy_from_slice(&all[..length]);
+    crossings(text, first, second, &mut [])
+}
+
+/// The crossings, with rule 14 before another rule.
+fn threads_before(rule: u64, text: &[u8], (first, second): (u64, u64), out: &mut [u8]) -> u64 {
+    let number = crossings(text, first, second, out);
+    let there = |plan: Plan| [first, second].iter().all(|thread| *thread < plan.threads.len() as u64);
+    let two = first != second && lines(text).and_then(|lines| structure(&lines)).is_ok_and(there);
+    if refused(number) && Answer::new(number).a == rule && !two {
+        Answer::refused(Refusal::NOT_TWO).number()
+    } else {
+        number
+    }
+}
+
+/// The crossings by other numbers of threads.
+fn crossings_at(text: &[u8], threads: [u64; 2], out: &mut [u8]) -> u64 {
+    crossings(text, threads[0], threads[1], out)
+}
+
+/// The crossings, with an answer by what the right one is where the call is not refused.
+fn recounted(text: &[u8], threads: [u64; 2], out: &mut [u8], count: impl Fn(u64, usize) -> u64) -> u64 {
+    let number = crossings_at(text, threads, out);
+    match Answer::new(number) {
+        Answer { kind: CROSSED, a, b } => Answer { kind: CROSSED, a, b: count(b, out.len()) }.number(),
+        _ => number,
+    }
+}
+
+/// Crossings with a fault each.
+pub const FAULTY_CROSSINGS: [(&str, CrossingsCall); 55] = [
+    ("locks in common", |text, a, b, out| crossed_by(text, (a, b), out, miscross::locks_in_common)),
+    ("the first wants alone", |text, a, b, out| crossed_by(text, (a, b), out, miscross::first_wants_alone)),
+    ("the second wants alone", |text, a, b, out| crossed_by(text, (a, b), out, miscross::second_wants_alone)),
+    ("the same lock wanted", |text, a, b, out| crossed_by(text, (a, b), out, miscross::the_same_wanted)),
+    ("one lock held alone", |text, a, b, out| crossed_by(text, (a, b), out, miscross::one_lock_alone)),
+    ("by the second word first", |text, a, b, out| {
+        crossed_by(text, (a, b), out, miscross::second_word_first)
+    }),
+    ("by the wanted locks", |text, a, b, out| crossed_by(text, (a, b), out, miscross::by_wanted_locks)),
+    ("the threads exchanged", |text, a, b, out| crossed_by(text, (a, b), out, miscross::threads_exchanged)),
+    ("the lower thread first", |text, a, b, out| crossed_by(text, (a, b), out, miscross::lower_thread_first)),
+    ("upwards alone", |text, a, b, out| crossed_by(text, (a, b), out, miscross::upwards_alone)),
+    ("the words exchanged", |text, a, b, out| crossed_by(text, (a, b), out, miscross::words_exchanged)),
+    ("either way once", |text, a, b, out| crossed_by(text, (a, b), out, miscross::either_way_once)),
+    ("none in one procedure", |text, a, b, out| {
+        crossed_by(text, (a, b), out, miscross::none_in_one_procedure)
+    }),
+    ("procedures by the threads' numbers", |text, a, b, out| {
+        crossed_by(text, (a, b), out, miscross::procedures_by_thread_numbers)
+    }),
+    ("one for each pair", |text, a, b, out| crossed_by(text, (a, b), out, miscross::one_for_each)),
+    ("pairs behind the 128th left out", |text, a, b, out| {
+        crossed_by(text, (a, b), out, miscross::up_to_128_pairs)
+    }),
+    ("a count of what fits", |text, a, b, out| {
+        recounted(text, [a, b], out, |count, length| count.min((length / COUPLE_BYTES) as u64))
+    }),
+    ("a count of words", |text, a, b, out| recounted(text, [a, b], out, |count, _| 2 * count)),
+    ("one more than there are", |text, a, b, out| recounted(text, [a, b], out, |count, _| count + 1)),
+    ("one less", |text, a, b, out| recounted(text, [a, b], out, |count, _| count.saturating_sub(1))),
+    ("whether there are any", |text, a, b, out| recounted(text, [a, b], out, |count, _| count.min(1))),
+    ("eight bits of the count", |text, a, b, out| recounted(text, [a, b], out, |count, _| count % 256)),
+    ("sixteen bits of the count", |text, a, b, out| recounted(text, [a, b], out, |count, _| count % 65_536)),
+    ("511 couples at most", |text, a, b, out| {
+        recounted(text, [a, b], out, |count, _| count.min(MAX_PAIRS as u64))
+    }),
+    ("half a couple written", |text, a, b, out| crossings_in(8, text, (a, b), out)),
+    ("bytes of a couple written", |text, a, b, out| crossings_in(1, text, (a, b), out)),
+    ("couples two by two", |text, a, b, out| crossings_in(32, text, (a, b), out)),
+    ("nothing written where not all fit", |text, a, b, out| {
+        let fit = couples_of(text, a, b).len() <= out.len();
+        crossings(text, a, b, if fit { out } else { &mut [] })
+    }),
+    ("no couple at the end of the buffer", |text, a, b, out| {
+        let length = out.len().saturating_sub(1);
+        crossings(text, a, b, &mut out[..length])
+    }),
+    ("511 words at most", |text, a, b, out| {
+        let length = out.len().min(8 * MAX_PAIRS);
+        crossings(text, a, b, &mut out[..length])
+    }),
+    ("an untouched buffer", |text, a, b, _| crossings(text, a, b, &mut [])),
+    ("the last ones that fit", |text, a, b, out| {
+        let all = couples_of(text, a, b);
+        let length = all.len().min(out.len() / COUPLE_BYTES * COUPLE_BYTES);
+        out[..length].copy_from_slice(&all[all.len() - length..]);
+        crossings(text, a, b, &mut [])
+    }),
+    ("the rest cleared", |text, a, b, out| {
+        let number = crossings(text, a, b, out);
+        if !refused(number) {
+            let length = couples_of(text, a, b).len().min(out.len() / COUPLE_BYTES * COUPLE_BYTES);
+            out[length..].fill(0);
+        }
+        number
+    }),
+    ("a zero behind the couples", |text, a, b, out| {
+        let number = crossings(text, a, b, out);
+        if let (false, Some(byte)) = (refused(number), out.get_mut(couples_of(text, a, b).len())) {
+            *byte = 0;
+        }
+        number
+    }),
+    ("highest byte first", |text, a, b, out| {
+        let number = crossings(text, a, b, out);
+        if !refused(number) {
+            let words = 2 * Answer::new(number).b as usize;
+            let length = out.len() / COUPLE_BYTES * COUPLE_BYTES;
+            out[..length].chunks_exact_mut(8).take(words).for_each(<[u8]>::reverse);
+        }
+        number
+    }),
+    ("a byte behind the buffer written", |text, a, b, out| {
+        // SAFETY: none; the comparison keeps the byte accessible unless it faults.
+        unsafe { *out.as_mut_ptr().add(out.len()) ^= 0x55 };
+        crossings(text, a, b, out)
+    }),
+    ("a byte before the buffer written", |text, a, b, out| {
+        // SAFETY: as above.
+        unsafe { *out.as_mut_ptr().sub(1) ^= 0x55 };
+        crossings(text, a, b, out)
+    }),
+    ("written and then refused", |text, a, b, out| {
+        let number = crossings(text, a, b, out);
+        if let (true, Some(first)) = (refused(number), out.first_mut()) {
+            *first ^= 0x55;
+        }
+        number
+    }),
+    ("no room refused", |text, a, b, out| {
+        let number = crossings(text, a, b, out);
+        if out.is_empty() && !refused(number) {
+            short()
+        } else {
+            number
+        }
+    }),
+    ("room for less than a couple refused", |text, a, b, out| {
+        if out.len() < COUPLE_BYTES {
+            short()
+        } else {
+            crossings(text, a, b, out)
+        }
+    }),
+    ("room for less than all refused", |text, a, b, out| {
+        if out.len() < couples_of(text, a, b).len() {
+            short()
+        } else {
+            crossings(text, a, b, out)
+        }
+    }),
+    ("equal threads let through", |text, a, b, out| match read(text) {
+        Ok(plan) if a == b && a < plan.threads.len() as u64 => {
+            let pairs = &plan.pairs[plan.threads[a as usize]];
+            put_couples(&crossings::couples(pairs, pairs), out)
+        }
+        _ => crossings(text, a, b, out),
+    }),
+    ("no couples of equal threads", |text, a, b, out| match read(text) {
+        Ok(plan) if a == b && a < plan.threads.len() as u64 => CROSSED,
+        _ => crossings(text, a, b, out),
+    }),
+    ("no couples of an absent thread", |text, a, b, out| match read(text) {
+        Ok(plan) if a != b && a.max(b) >= plan.threads.len() as u64 => CROSSED,
+        _ => crossings(text, a, b, out),
+    }),
+    ("an absent second thread let through", |text, a, b, out| match read(text) {
+        Ok(plan) if a < plan.threads.len() as u64 && b == plan.threads.len() as u64 => CROSSED,
+        _ => crossings(text, a, b, out),
+    }),
+    ("three bits of a thread", |text, a, b, out| crossings_at(text, [a, b].map(|thread| thread % 8), out)),
+    ("a byte of a thread", |text, a, b, out| crossings_at(text, [a, b].map(|thread| thread % 256), out)),
+    ("32 bits of a thread", |text, a, b, out| {
+        crossings_at(text, [a, b].map(|thread| thread % (1 << 32)), out)
+    }),
+    ("63 bits of a thread", |text, a, b, out| {
+        crossings_at(text, [a, b].map(|thread| thread % (1 << 63)), out)
+    }),
+    ("rule 11 for rule 14", |text, a, b, out| {
+        let number = crossings(text, a, b, out);
+        if Answer::new(number) == Answer::refused(Refusal::NOT_TWO) {
+            Answer::refused(Refusal { rule: 11, line: 0 }).number()
+        } else {
+            number
+        }
+    }),
+    ("rule 14 at the last line", |text, a, b, out| {
+        let number = crossings(text, a, b, out);
+        if Answer::new(number) == Answer::refused(Refusal::NOT_TWO) {
+            Answer { b: lines(text).map_or(0, |lines| lines.count as u64), ..Answer::new(number) }.number()
+        } else {
+            number
+        }
+    }),
+    ("rule 14 before rule 8", |text, a, b, out| threads_before(8, text, (a, b), out)),
+    ("rule 14 before rule 13", |text, a, b, out| threads_before(13, text, (a, b), out)),
+    ("rule 14 before rule 9", |text, a, b, out| threads_before(9, text, (a, b), out)),
+    ("equal threads before the plan", |text, a, b, out| {
+        if a == b {
+            Answer::refused(Refusal::NOT_TWO).number()
+        } else {
+            crossings(text, a, b, out)
+        }
+    }),
 ];
 
 /// The calls that go by the sum, over sums with a fault each.

@@ -1,10 +1,11 @@
 //! What a library says of texts of one plan: of a text, of its tidy copy and of
-//! the text indented; and of the plan with its procedures in another order. By the
-//! library alone, but for the trees of the plans, the replay of a schedule and the
-//! lines of refusals in the other order.
+//! the text indented; of the plan with its procedures in another order; and of two
+//! threads of it alone. By the library alone, but for the trees of the plans, the replay
+//! of a schedule and the lines of refusals in the other order.
 
-use crate::answer::{Answer, COPIED, DEADLOCK, REFUSED};
-use crate::compare::Calls;
+use crate::answer::{Answer, COPIED, CROSSED, DEADLOCK, FREE, REFUSED};
+use crate::compare::{not_two, two_threads, Calls};
+use crate::crossings::alone;
 use crate::families::Draft;
 use crate::gateway::replay;
 use crate::generate::neighbour;
@@ -26,6 +27,9 @@ fn left(bytes: usize, call: impl FnOnce(&mut [u8]) -> u64) -> Left {
     Left { answer, buffer }
 }
 
+/// The bytes lent for couples: for some of them, and half a one.
+const COUPLES: usize = 16 * 40 + 8;
+
 /// All that the calls of a library say of a text.
 struct Told {
     verdict: Left,
@@ -33,9 +37,12 @@ struct Told {
     pairs: Vec<Left>,
     copy: Left,
     space: Left,
+    /// By the threads that are asked about.
+    crossings: Vec<Left>,
+    threads: Vec<(u64, u64)>,
 }
 
-fn tell(calls: Calls, text: &[u8]) -> Told {
+fn tell(calls: Calls, text: &[u8], threads: &[(u64, u64)]) -> Told {
     let verdict = left(2 * MAX_SUM, |out| (calls.verdict)(text, out));
     let copy = left(COPY_BYTES, |out| (calls.tidy)(text, out));
     let space = left(0, |_| (calls.space)(text));
@@ -44,7 +51,10 @@ fn tell(calls: Calls, text: &[u8]) -> Told {
         let proc = pairs.len() as u64;
         pairs.push(left(8 * MAX_PAIRS, |out| (calls.pairs)(text, proc, out)));
     }
-    Told { verdict, pairs, copy, space }
+    let crossed =
+        |(first, second): &(u64, u64)| left(COUPLES, |out| (calls.crossings)(text, *first, *second, out));
+    let crossings = threads.iter().map(crossed).collect();
+    Told { verdict, pairs, copy, space, crossings, threads: threads.to_vec() }
 }
 
 impl Told {
@@ -81,12 +91,14 @@ impl Told {
             return Err(format!("{} pair lists, not {}", other.pairs.len(), self.pairs.len()));
         }
         let mut lists = self.pairs.iter().zip(&other.pairs).enumerate();
-        lists.try_for_each(|(proc, (one, two))| same(format!("pairs of procedure {proc}"), one, two))
+        lists.try_for_each(|(proc, (one, two))| same(format!("pairs of procedure {proc}"), one, two))?;
+        let mut crossings = self.crossings.iter().zip(&other.crossings);
+        crossings.try_for_each(|(one, two)| same("crossings".into(), one, two))
     }
 
     /// Whether another text of an accepted plan, its procedures at other numbers, is
-    /// told the same verdict, the same space and the same pairs, and has a schedule of
-    /// this plan.
+    /// told the same verdict, the same space, the same crossings and the same pairs, and
+    /// has a schedule of this plan.
     fn same_shuffled(&self, other: &Told, plan: &Plan, numbers: &[usize]) -> Result<(), String> {
         let (one, two) = (self.verdict.answer, other.verdict.answer);
         if one.kind != two.kind {
@@ -97,6 +109,9 @@ impl Told {
         }
         if self.space != other.space {
             return Err(format!("space: answer {:?}, not {:?}", other.space.answer, self.space.answer));
+        }
+        if self.crossings != other.crossings {
+            return Err("crossings: other ones".into());
         }
         if self.pairs.len() != numbers.len() + 1 || other.pairs.len() != numbers.len() + 1 {
             return Err(format!("{} pair lists, not {}", other.pairs.len(), numbers.len() + 1));
@@ -135,6 +150,9 @@ pub struct Twins {
     /// Plans compared with themselves in another order, accepted and refused ones.
     pub shuffled: u64,
     pub shuffled_refused: u64,
+    /// Two threads of a plan compared with the plan of them alone, free and with a deadlock.
+    pub alone_free: u64,
+    pub alone_deadlock: u64,
 }
 
 impl Twins {
@@ -147,16 +165,20 @@ impl Twins {
         plan: &Result<Plan, Refusal>,
         random: &mut Random,
     ) -> Result<(), String> {
-        let told = tell(calls, text);
+        let two = two_threads(plan, 2, random);
+        let threads = [two.as_slice(), &[not_two(plan, random)]].concat();
+        let told = tell(calls, text, &threads);
         let twin = indent(text, random);
-        told.same(&tell(calls, &twin.text), |line| twin.moved(line))
+        told.same(&tell(calls, &twin.text, &threads), |line| twin.moved(line))
             .map_err(|message| format!("the text indented: {message}"))?;
         self.shuffled(calls, text, &told, plan, random)
             .map_err(|message| format!("the procedures shuffled: {message}"))?;
         let (Ok(plan), Some(copy)) = (plan, told.tidy()?) else {
             return Ok(());
         };
-        told.same(&tell(calls, copy), |line| line).map_err(|message| format!("the tidy copy: {message}"))?;
+        told.same(&tell(calls, copy, &threads), |line| line)
+            .map_err(|message| format!("the tidy copy: {message}"))?;
+        self.alone(calls, text, plan, &two)?;
         let own = (tree(plan), copy.to_vec());
         if let Some(previous) = self.previous.take() {
             self.couple("the text before", &own, &previous)?;
@@ -193,7 +215,7 @@ impl Twins {
         }
         let bare = own.permuted(&numbers).text();
         let twin = if random.chance(50) { indent(&bare, random).text } else { bare.clone() };
-        let other = tell(calls, &twin);
+        let other = tell(calls, &twin, &told.threads);
         let Ok(plan) = plan else {
             self.shuffled_refused += 1;
             let line = read(&twin).map_or_else(|refusal| refusal.line, |_| 0);
@@ -205,6 +227,25 @@ impl Twins {
             true => Ok(()),
             false => Err("another tidy copy".into()),
         }
+    }
+
+    /// Two threads of an accepted plan cross exactly where the plan of them alone is not
+    /// free.
+    fn alone(&mut self, calls: Calls, text: &[u8], plan: &Plan, two: &[(u64, u64)]) -> Result<(), String> {
+        for (first, second) in two {
+            let counted = Answer::new((calls.crossings)(text, *first, *second, &mut []));
+            let two = alone(&tree(plan), *first as usize, *second as usize).text();
+            let verdict = left(2 * MAX_SUM, |out| (calls.verdict)(&two, out)).answer;
+            match (counted.kind, counted.b, verdict.kind) {
+                (CROSSED, 0, FREE) => self.alone_free += 1,
+                (CROSSED, 1.., DEADLOCK) => self.alone_deadlock += 1,
+                _ => {
+                    let threads = format!("threads {first} and {second} alone");
+                    return Err(format!("{threads}: crossings {counted:?}, verdict {verdict:?}"));
+                }
+            }
+        }
+        Ok(())
     }
 
     /// Two accepted texts: their copies are equal exactly where their plans are.

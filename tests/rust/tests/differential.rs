@@ -27,6 +27,7 @@ mod differential {
     use lockplan_tests::generate::{beginnings, beginnings_indented, enough_accepted, generate, Case};
     use lockplan_tests::library::CALLS;
     use lockplan_tests::random::Random;
+    use lockplan_tests::twins::Twins;
     use lockplan_tests::{families, full, guard, lengths, shelf};
 
     /// Buffers are lent to a fixed text this often.
@@ -212,16 +213,26 @@ mod differential {
         println!("  results: {outcomes:?}");
         let enough = generated.enough();
         println!("  {:?}", bench.counts);
-        println!(
-            "  couples of accepted texts: {} of one plan, {} of two",
-            bench.twins.equal, bench.twins.different
-        );
+        let both = both_alone(&bench.twins, generated.texts);
+        println!("differential: {differences} differences");
+        differences == 0 && enough && both
+    }
+
+    /// Prints what was compared of a text and others, and says whether two threads alone were
+    /// free in some texts and had a deadlock in others, where a thousand or more are generated.
+    fn both_alone(twins: &Twins, generated: u64) -> bool {
+        println!("  two accepted texts: {} of one plan, {} of two", twins.equal, twins.different);
         println!(
             "  plans with their procedures shuffled: {} accepted, {} refused",
-            bench.twins.shuffled, bench.twins.shuffled_refused
+            twins.shuffled, twins.shuffled_refused
         );
-        println!("differential: {differences} differences");
-        differences == 0 && enough
+        let (free, deadlock) = (twins.alone_free, twins.alone_deadlock);
+        println!("  two threads alone: {free} free, {deadlock} with a deadlock");
+        let both = generated < 1_000 || (free > 0 && deadlock > 0);
+        if !both {
+            println!("differential: no two threads alone that are free, or none with a deadlock");
+        }
+        both
     }
 
     /// A text with the outcome of one that fails, made shorter while it fails.

@@ -1,8 +1,8 @@
-//! The reports of the program `report`, the copies of the program `tidy` and the
-//! slips of the program `slip` against the reference.
+//! The reports of the program `report`, the copies of the program `tidy`, the slips of
+//! the program `slip` and the crossings of the program `crossings` against the reference.
 //!
 //!   LOCKPLAN_PROGRAM=<report> LOCKPLAN_TIDY=<tidy> LOCKPLAN_SLIP=<slip> \
-//!       cargo test --test program
+//!       LOCKPLAN_CROSSINGS=<crossings> cargo test --test program
 //!
 //! The programs read a plan from standard input. One that is not named is not
 //! tested. LOCKPLAN_TEXTS and LOCKPLAN_SEED choose the generated texts. Ends with 1
@@ -10,20 +10,23 @@
 //! named.
 
 use std::io::Write;
-use std::process::{Command, Stdio};
+use std::process::{Command, Output, Stdio};
 
+use lockplan_tests::compare::{not_two, two_threads};
 use lockplan_tests::generate::generate;
 use lockplan_tests::random::Random;
 use lockplan_tests::reference::read;
 use lockplan_tests::report::{check_known, same};
 use lockplan_tests::shelf::{all, all_indented};
-use lockplan_tests::{families, slip, tidy};
+use lockplan_tests::{crossings, families, slip, tidy};
 
-/// What a program prints of a text.
-fn prints(program: &str, text: &[u8]) -> Result<Vec<u8>, String> {
+/// A run of a program on a text.
+fn run(program: &str, arguments: &[&str], text: &[u8]) -> Result<Output, String> {
     let mut child = Command::new(program)
+        .args(arguments)
         .stdin(Stdio::piped())
         .stdout(Stdio::piped())
+        .stderr(Stdio::piped())
         .spawn()
         .map_err(|error| format!("{program}: {error}"))?;
     let mut input = child.stdin.take().expect("a pipe");
@@ -32,10 +35,20 @@ fn prints(program: &str, text: &[u8]) -> Result<Vec<u8>, String> {
     let writer = std::thread::spawn(move || drop(input.write_all(&text)));
     let output = child.wait_with_output().map_err(|error| error.to_string())?;
     writer.join().expect("the writer");
+    Ok(output)
+}
+
+/// What a program prints, if it ends well.
+fn printed(output: Output) -> Result<Vec<u8>, String> {
     if !output.status.success() {
-        return Err(format!("ended with {}", output.status));
+        return Err(format!("ended with {}: {}", output.status, String::from_utf8_lossy(&output.stderr)));
     }
     Ok(output.stdout)
+}
+
+/// What a program prints of a text.
+fn prints(program: &str, text: &[u8]) -> Result<Vec<u8>, String> {
+    run(program, &[], text).and_then(printed)
 }
 
 /// Whether a program prints a text's report.
@@ -53,6 +66,79 @@ fn slips(program: &str, text: &[u8], _: Option<bool>) -> Result<(), String> {
     prints(program, text).and_then(|found| same(&found, &slip::printed(text)))
 }
 
+/// Arguments that are not the numbers of two threads.
+const OTHERS: [&[&str]; 19] = [
+    &["0", "00000000000000000000000000000000000000000000000000000000000000001"],
+    &["0"],
+    &[""],
+    &["0", "1", "2"],
+    &["0", "1", ""],
+    &["", ""],
+    &["", "1"],
+    &["0", ""],
+    &["x", "1"],
+    &["0", "1x"],
+    &["-1", "0"],
+    &["0", "-0"],
+    &["+0", "1"],
+    &[" 0", "1"],
+    &["0", "1 "],
+    &["0 1"],
+    &["0", "1\n"],
+    &["0x0", "1"],
+    &["0", "\u{661}"],
+];
+
+/// Numbers of threads in other digits: past 64 bits, and with zeros before.
+const DIGITS: [&[&str]; 7] = [
+    &["0", "0000000000000000000000000000000000000000000000000000000000000001"],
+    &["18446744073709551615", "0"],
+    &["0", "18446744073709551616"],
+    &["18446744073709551617", "0"],
+    &["0", "340282366920938463463374607431768211457"],
+    &["00", "1"],
+    &["0", "00000000000000000000000000000000001"],
+];
+
+/// Arguments for a text: none, two threads, such as rule 14 refuses, and now and then
+/// others.
+fn arguments(text: &[u8]) -> Vec<Vec<String>> {
+    let (plan, random) = (read(text), &mut Random::new(text.len() as u64));
+    let mut two = two_threads(&plan, 2, random);
+    two.push(not_two(&plan, random));
+    let mut all: Vec<Vec<String>> = vec![vec![]];
+    all.extend(two.into_iter().map(|(first, second)| vec![first.to_string(), second.to_string()]));
+    if random.chance(20) {
+        let others = [*random.pick(&DIGITS), *random.pick(&OTHERS)];
+        all.extend(others.map(|words| words.iter().map(|word| word.to_string()).collect()));
+    }
+    all
+}
+
+/// Nothing on standard output, and something on standard error.
+fn only_a_message(output: &Output) -> Result<(), String> {
+    match (output.stdout.is_empty(), output.stderr.is_empty(), output.status.code()) {
+        (true, false, Some(_)) => Ok(()),
+        (true, false, None) => Err(format!("ended with {}", output.status)),
+        (true, true, _) => Err("no message".into()),
+        (false, _, _) => Err("something is printed".into()),
+    }
+}
+
+/// Whether a program prints where a text's threads cross, byte for byte.
+fn crosses(program: &str, text: &[u8], _: Option<bool>) -> Result<(), String> {
+    for arguments in arguments(text) {
+        let arguments: Vec<&str> = arguments.iter().map(String::as_str).collect();
+        let output = run(program, &arguments, text)?;
+        let right = match crossings::printed(text, &arguments) {
+            Some(expected) => printed(output).and_then(|found| same(&found, &expected)),
+            None => only_a_message(&output),
+        };
+        right.map_err(|message| format!("arguments {arguments:?}: {message}"))?;
+    }
+    Ok(())
+}
+
 /// A test of a program: its path, a text, and whether that deadlocks where this is known.
 type Test = fn(&str, &[u8], Option<bool>) -> Result<(), String>;
 
@@ -68,7 +154,8 @@ fn programs() -> Vec<Tested> {
     let report = named("LOCKPLAN_PROGRAM").map(|path| -> Tested { ("report", path, reports) });
     let tidy = named("LOCKPLAN_TIDY").map(|path| -> Tested { ("tidy", path, tidies) });
     let slip = named("LOCKPLAN_SLIP").map(|path| -> Tested { ("slip", path, slips) });
-    [report, tidy, slip].into_iter().flatten().collect()
+    let crossings = named("LOCKPLAN_CROSSINGS").map(|path| -> Tested { ("crossings", path, crosses) });
+    [report, tidy, slip, crossings].into_iter().flatten().collect()
 }
 
 /// Fixed texts, families and generated ones, by name.
@@ -112,9 +199,8 @@ fn test((program, path, right): &Tested, cases: &[Case]) -> usize {
 fn main() {
     let programs = programs();
     if programs.is_empty() {
-        eprintln!(
-            "program: nothing was tested: LOCKPLAN_PROGRAM, LOCKPLAN_TIDY, LOCKPLAN_SLIP name no program"
-        );
+        let names = "LOCKPLAN_PROGRAM, LOCKPLAN_TIDY, LOCKPLAN_SLIP, LOCKPLAN_CROSSINGS";
+        eprintln!("program: nothing was tested: {names} name no program");
         std::process::exit(2);
     }
     let number = |name: &str, default: u64| {

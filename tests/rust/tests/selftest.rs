@@ -28,6 +28,9 @@ use lockplan_tests::verdict::{
 };
 use lockplan_tests::{guard, lengths, slip, standin};
 
+#[path = "selftest/crossings.rs"]
+mod crossings;
+
 fn texts(default: u64) -> u64 {
     let factor = std::env::var("LOCKPLAN_FACTOR").ok().and_then(|value| value.parse().ok());
     default * factor.unwrap_or(1)
@@ -1101,6 +1104,7 @@ fn generator_meets_everything() {
     let mut kinds = BTreeMap::new();
     let (mut over, mut called, mut summed) = (Over::default(), Called::default(), Summed::default());
     let (mut paired, mut unused) = (Paired::default(), Unused::default());
+    let mut crossings = crossings::Crossings::default();
     for index in 0..TEXTS {
         let case = generate(&mut Random::of_text(1, index as u64));
         let outcome = match read(&case.text) {
@@ -1115,15 +1119,18 @@ fn generator_meets_everything() {
         summed.count(&case.text);
         paired.count(&case.text);
         unused.count(&case.text);
+        crossings.count(&case.text);
     }
     let accepted = outcomes[&Outcome::Free] + outcomes[&Outcome::Deadlock];
     println!("{outcomes:?}\n{kinds:?}\n{over:?}\n{called:?}\n{summed:?}\n{paired:?}\n{unused:?}");
+    println!("{crossings:?}");
     println!("{accepted} of {TEXTS} accepted, {} refused by rule 13", outcomes[&Outcome::Refused(13)]);
     over.enough();
     called.enough();
     summed.enough();
     paired.enough();
     unused.enough();
+    crossings.enough();
     for rule in RULES {
         assert!(outcomes[&Outcome::Refused(rule)] >= 30, "rule {rule}");
     }
@@ -1473,10 +1480,14 @@ fn comparison_accepts_the_stand_in() {
     println!("{:?}", bench.counts);
     assert!(bench.counts.at_the_sum > 1_000 && bench.counts.one_less > 1_000);
     assert!(bench.counts.least_words > 1_000 && bench.counts.one_word_less > 500);
+    assert!(bench.counts.all_couples > 500 && bench.counts.some_couples > 1_000);
+    assert!(bench.counts.not_two > 1_000);
     let twins = bench.twins;
     println!("{} couples of one plan, {} of two", twins.equal, twins.different);
     println!("{} accepted plans shuffled, {} refused ones", twins.shuffled, twins.shuffled_refused);
     assert!(twins.shuffled > 1_000 && twins.shuffled_refused > 150);
+    println!("two threads alone: {} free, {} deadlocks", twins.alone_free, twins.alone_deadlock);
+    assert!(twins.alone_free > 1_000 && twins.alone_deadlock > 1_000);
 }
 
 /// The comparison finds each fault of the stand-in, and soon.
@@ -1498,6 +1509,9 @@ fn comparison_finds_every_fault() {
     }
     for (name, space) in standin::FAULTY_SPACES {
         found("space", name, Calls { space, ..standin::CALLS });
+    }
+    for (name, crossings) in standin::FAULTY_CROSSINGS {
+        found("crossings", name, Calls { crossings, ..standin::CALLS });
     }
     for (name, Calls { verdict, space, .. }) in standin::FAULTY_SUMS {
         found("verdict by a sum", name, Calls { verdict, ..standin::CALLS });
@@ -1529,11 +1543,11 @@ fn shuffled_procedures_find_faults() {
         // Each fixed text in twenty orders.
         let found = (0..20 * fixed.len()).find_map(|index| {
             let (text, random) = (&fixed[index % fixed.len()], &mut Random::of_text(113, index as u64));
-            twins.check(calls, text, &read(text), random).err().map(|message| (index, message))
+            let message = twins.check(calls, text, &read(text), random).err()?;
+            message.starts_with("the procedures shuffled").then_some((index, message))
         });
         let (index, message) = found.unwrap_or_else(|| panic!("{name} is not found"));
         println!("{name}: text {index}, {message}");
-        assert!(message.starts_with("the procedures shuffled"), "{name}: {message}");
     }
 }
 

@@ -1,23 +1,28 @@
 //! Processor times of the library's verdict and of the reference's condition
 //! over pairs, beside those of SPIN where the table of `tests/spin/run` is given.
 //! With `--lengths` those of the library's calls on texts of 32,768 bytes that are
-//! mostly passed over, each beside a bare text of that length.
+//! mostly passed over, each beside a bare text of that length. With `--crossings` those of
+//! the crossings of two threads with many pairs or couples.
 //!
 //!   cargo run --release --features library --bin bench -- [--rounds N]
 //!                       [--family NAME] [--spin TABLE]
 //!   cargo run --release --features library --bin bench -- --lengths [--rounds N]
+//!   cargo run --release --features library --bin bench -- --crossings [--rounds N]
 
 use std::collections::HashMap;
 use std::hint::black_box;
 use std::time::Duration;
 
-use lockplan_tests::answer::{Answer, REFUSED};
+use lockplan_tests::answer::{Answer, CROSSED, REFUSED};
 use lockplan_tests::compare::kind;
-use lockplan_tests::reference::{read, MAX_PAIRS, MAX_SUM};
+use lockplan_tests::crossings::{crossed, COUPLE_BYTES};
+use lockplan_tests::families::Draft;
+use lockplan_tests::opposed::{both_around, MOST_COUPLES};
+use lockplan_tests::reference::{read, Plan, MAX_PAIRS, MAX_SUM};
 use lockplan_tests::tidy::COPY_BYTES;
 use lockplan_tests::times::median;
 use lockplan_tests::verdict::{conflict_within, pairs_of_threads};
-use lockplan_tests::{families, lengths, library, standin};
+use lockplan_tests::{families, full, lengths, library, standin};
 
 /// Pairs that the reference tries before it gives up.
 const TRIES: u64 = 50_000_000;
@@ -101,6 +106,58 @@ fn print_lengths(rounds: usize) {
     println!("at most {:.2} times the time of a bare text: {}", highest.0, highest.1);
 }
 
+/// The plans of two threads whose crossings are timed.
+fn opposed() -> Vec<(&'static str, Draft)> {
+    let two = |block| Draft { procs: vec![block], threads: vec![0; 2] };
+    vec![
+        ("philosophers-2", families::philosophers(2)),
+        ("detours", families::detours(14)),
+        ("pairs-496-upwards", two(full::around(31))),
+        ("pairs-496-both-ways", both_around()),
+        ("couples-90,000", MOST_COUPLES.draft()),
+    ]
+}
+
+/// The times of the crossings of threads 0 and 1, lent nothing and room for all couples,
+/// beside those of the verdict and of the reference; the number of wrong counts.
+fn print_crossings(rounds: usize) -> usize {
+    println!(
+        "{:24} {:>7} {:>7} {:>9} {:>11} {:>11} {:>11} {:>13}",
+        "plan", "first", "second", "couples", "count us", "list us", "verdict us", "reference us"
+    );
+    let mut wrong = 0;
+    for (name, draft) in opposed() {
+        let text = draft.text();
+        let plan = read(&text).expect("an accepted plan");
+        let couples = |plan: &Plan| crossed(plan, 0, 1).expect("two threads");
+        let expected = couples(&plan).len();
+        let found = Answer::new(library::crossings(&text, 0, 1, &mut []));
+        let right = found == Answer { kind: CROSSED, a: 0, b: expected as u64 };
+        wrong += usize::from(!right);
+        let (mut room, mut entries) = (vec![0; COUPLE_BYTES * expected], vec![0; 2 * MAX_SUM]);
+        let time = |out: &mut [u8]| {
+            median(rounds, || {
+                black_box(library::crossings(black_box(&text), 0, 1, out));
+            })
+        };
+        let (count, list) = (time(&mut []), time(&mut room));
+        let verdict = median(rounds, || {
+            black_box(library::verdict(black_box(&text), &mut entries));
+        });
+        let theirs = median(rounds, || {
+            black_box(couples(&read(black_box(&text)).expect("an accepted plan")));
+        });
+        let [first, second] = [0, 1].map(|thread| plan.pairs[plan.threads[thread]].len());
+        let [count, list, verdict, theirs] = [count, list, verdict, theirs].map(microseconds);
+        let remark = if right { "" } else { "  WRONG" };
+        println!(
+            "{name:24} {first:7} {second:7} {:9} {count:>11} {list:>11} {verdict:>11} {theirs:>13}{remark}",
+            found.b
+        );
+    }
+    wrong
+}
+
 /// The families whose names begin so; the number of wrong verdicts.
 fn print_families(rounds: usize, family: &str, spin: &str) -> usize {
     println!(
@@ -143,12 +200,14 @@ fn print_families(rounds: usize, family: &str, spin: &str) -> usize {
 }
 
 fn main() {
-    let (mut rounds, mut family, mut spin, mut long_texts) = (15, String::new(), String::new(), false);
+    let (mut rounds, mut family, mut spin) = (15, String::new(), String::new());
+    let (mut long_texts, mut crossings) = (false, false);
     let mut arguments = std::env::args().skip(1);
     while let Some(name) = arguments.next() {
         let mut value = || arguments.next().unwrap_or_else(|| panic!("{name} needs a value"));
         match name.as_str() {
             "--lengths" => long_texts = true,
+            "--crossings" => crossings = true,
             "--rounds" => rounds = value().parse().expect("a number"),
             "--family" => family = value(),
             "--spin" => spin = std::fs::read_to_string(value()).expect("a readable table"),
@@ -158,6 +217,6 @@ fn main() {
     if long_texts {
         return print_lengths(rounds);
     }
-    let wrong = print_families(rounds, &family, &spin);
+    let wrong = if crossings { print_crossings(rounds) } else { print_families(rounds, &family, &spin) };
     std::process::exit(i32::from(wrong > 0));
 }

@@ -29,6 +29,7 @@ extern "C" {
     fn lockplan_pairs();
     fn lockplan_tidy();
     fn lockplan_space();
+    fn lockplan_crossings();
 }
 
 /// A call of the library.
@@ -39,6 +40,8 @@ enum Call {
     Pairs(usize),
     Tidy,
     Space,
+    /// The crossings of the first two threads.
+    Crossings,
 }
 
 impl Call {
@@ -49,6 +52,7 @@ impl Call {
             Call::Pairs(proc) => proc.to_string(),
             Call::Tidy => "tidy".into(),
             Call::Space => "space".into(),
+            Call::Crossings => "crossings".into(),
         }
     }
 
@@ -57,6 +61,7 @@ impl Call {
             "verdict" => Call::Verdict,
             "tidy" => Call::Tidy,
             "space" => Call::Space,
+            "crossings" => Call::Crossings,
             _ => Call::Pairs(word.parse().expect("a procedure")),
         }
     }
@@ -67,10 +72,11 @@ fn call_on(top: *mut u8, call: Call, text: &[u8]) -> Answer {
     let mut out = vec![0_u8; COPY_BYTES.max(2 * MAX_SUM).max(8 * MAX_PAIRS)];
     let (at, bytes) = (out.as_mut_ptr() as usize, out.len());
     let (function, words) = match call {
-        Call::Verdict => (lockplan_verdict as *const (), [at, bytes, 0]),
-        Call::Pairs(proc) => (lockplan_pairs as *const (), [proc, at, bytes]),
-        Call::Tidy => (lockplan_tidy as *const (), [at, bytes, 0]),
-        Call::Space => (lockplan_space as *const (), [0; 3]),
+        Call::Verdict => (lockplan_verdict as *const (), [at, bytes, 0, 0]),
+        Call::Pairs(proc) => (lockplan_pairs as *const (), [proc, at, bytes, 0]),
+        Call::Tidy => (lockplan_tidy as *const (), [at, bytes, 0, 0]),
+        Call::Space => (lockplan_space as *const (), [0; 4]),
+        Call::Crossings => (lockplan_crossings as *const (), [0, 1, at, bytes]),
     };
     let answer: u64;
     // SAFETY: the text and the buffer are lent for the call with their lengths,
@@ -86,6 +92,7 @@ fn call_on(top: *mut u8, call: Call, text: &[u8]) -> Answer {
             in("rdx") words[0],
             in("rcx") words[1],
             in("r8") words[2],
+            in("r9") words[3],
             in("r13") top,
             in("r14") function,
             out("r12") _,
@@ -314,19 +321,20 @@ fn others_of(texts: u64, seed: u64) -> Vec<(String, Texts)> {
 }
 
 /// The plans of a row that need most, by call.
-struct Row([Most; 4]);
+struct Row([Most; 5]);
 
 impl Row {
     fn new() -> Row {
-        Row([Call::Verdict, Call::Pairs(0), Call::Tidy, Call::Space].map(Most::new))
+        Row([Call::Verdict, Call::Pairs(0), Call::Tidy, Call::Space, Call::Crossings].map(Most::new))
     }
 
     /// The verdict's answer.
     fn take(&mut self, painted: &mut Painted, proc: usize, text: &[u8], plan: &str) -> Answer {
-        let [verdict, pairs, tidy, space] = &mut self.0;
+        let [verdict, pairs, tidy, space, crossings] = &mut self.0;
         pairs.take(painted, Call::Pairs(proc), text, plan);
         tidy.take(painted, Call::Tidy, text, plan);
         space.take(painted, Call::Space, text, plan);
+        crossings.take(painted, Call::Crossings, text, plan);
         verdict.take(painted, Call::Verdict, text, plan)
     }
 
@@ -344,12 +352,12 @@ impl Row {
     fn print(&self, name: &str) {
         let [verdict, others @ ..] = &self.0;
         let mut plans = verdict.plan.clone();
-        for (call, most) in ["pairs", "tidy", "space"].into_iter().zip(others) {
+        for (call, most) in ["pairs", "tidy", "space", "crossings"].into_iter().zip(others) {
             if most.plan != verdict.plan {
                 plans += &format!("; {call}: {}", most.plan);
             }
         }
-        let figures: String = self.0.iter().map(|most| format!(" {:8}", most.least())).collect();
+        let figures: String = self.0.iter().map(|most| format!(" {:9}", most.least())).collect();
         println!("{name:14}{figures}  {plans}");
     }
 }
@@ -371,8 +379,8 @@ fn main() {
     }
     let mut painted = Painted::new();
     println!(
-        "{:14} {:>8} {:>8} {:>8} {:>8}  plan of the verdict's figure; of the others where they have another",
-        "plans", "verdict", "pairs", "tidy", "space"
+        "{:14} {:>9} {:>9} {:>9} {:>9} {:>9}  plan of the verdict's figure; of the others where they have another",
+        "plans", "verdict", "pairs", "tidy", "space", "crossings"
     );
     for (name, towers) in towers() {
         let mut row = Row::new();

@@ -1,0 +1,2 @@
+-- What the program `crossings` prints of two threads.
+pub mod CoupleLines

@@ -1,0 +1,46 @@
+-- The two words as bytes in the part of the buffer from the place on, where the couple fits (`bytes-put`).
+use Rattle.couples.proofs.Loops.{bytes-put, bytes-full}
+use borrow.Author.Needs.{needs}
+use Rattle.couples.proofs.put_bytes.Statement.{statement}
+use Rattle.couples.proofs.put_bytes.Tie as tie
+
+slice-aggregate-put-pairs : tie.Need-slice-aggregate-put-pairs
+slice-aggregate-put-pairs c = search needs
+
+mul-put-pairs : tie.Need-mul-put-pairs
+mul-put-pairs c = search needs
+
+sub-put-pairs : tie.Need-sub-put-pairs
+sub-put-pairs c = search needs
+
+part-put-pairs-start : tie.Need-part-put-pairs-start
+part-put-pairs-start c = search needs
+
+part-put-pairs-end : tie.Need-part-put-pairs-end
+part-put-pairs-end c = search needs
+
+put-pairs-requires : tie.Need-put-pairs-requires
+put-pairs-requires c κs = search needs
+
+same-length : tie.Need-same-length
+same-length c = search needs
+
+returns : tie.Need-returns
+returns c = search (bytes-put, needs)
+
+returns-2 : tie.Need-returns-2
+returns-2 c = search (bytes-full, needs)
+
+pub put-bytes-spec : {M : Type 1} → statement M
+put-bytes-spec =
+    tie.close
+    (tie.spec
+    slice-aggregate-put-pairs
+    mul-put-pairs
+    sub-put-pairs
+    part-put-pairs-start
+    part-put-pairs-end
+    put-pairs-requires
+    same-length
+    returns
+    returns-2)

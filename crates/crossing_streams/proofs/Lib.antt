@@ -1,0 +1,2 @@
+-- That every part of what is printed of two threads is printed.
+pub mod Printing
