@@ -1,5 +1,5 @@
-/* Lock plans: the verdict, the space that it needs, the pair list, the tidy copy and
- * the crossings of two threads, on the caller's own buffers.
+/* Lock plans: the verdict, the space that it needs, the pair list, the tidy copy, the
+ * straightened copy and the crossings of two threads, on the caller's own buffers.
  *
  * A call answers with one 64-bit number, kind + 256 * a + 65536 * b:
  *
@@ -13,14 +13,19 @@
  *              2 LOCKPLAN_REFUSED      rule         line (0 where none is named)
  *   tidy       0 LOCKPLAN_COPIED       0            number of bytes written
  *              2 LOCKPLAN_REFUSED      rule         line (0 where none is named)
+ *   straight   0 LOCKPLAN_COPIED       0            number of bytes written
+ *              2 LOCKPLAN_REFUSED      rule         line (0 where none is named)
  *   crossings  0 LOCKPLAN_CROSSED      0            number of all couples
  *              2 LOCKPLAN_REFUSED      rule         line (0 where none is named)
  *
  * The stuck set has bit t for thread t. The tidy copy is the plan without what is
- * passed over: one form a line, each line ended, nothing else. An answer fills the
- * buffer's start, each entry or word lowest byte first, and keeps the rest; free
- * and refused keep the whole buffer. Lengths are in bytes. No pointer is null, also
- * where its length is 0, and the two buffers do not overlap.
+ * passed over: one form a line, each line ended, nothing else. The straightened copy is
+ * the tidy copy of the plan in which every either is replaced by its two blocks, one
+ * after the other, and every loop by its block: it is accepted, with the same pairs,
+ * procedure by procedure, and the same free or deadlock; its schedule may be another. An
+ * answer fills the buffer's start, each entry or word lowest byte first, and keeps the
+ * rest; free and refused keep the whole buffer. Lengths are in bytes. No pointer is null,
+ * also where its length is 0, and the two buffers do not overlap.
  *
  * How much to lend to the verdict: ask lockplan_space, which needs no buffer. It
  * answers with the sum of the sizes of the plan's threads, and a buffer of so many
@@ -30,7 +35,7 @@
  * rules: a text that it refuses the verdict refuses alike, whatever is lent.
  *
  * A buffer of fewer words or bytes than the constants below is refused with rule 1
- * by the pair list and the tidy copy, before the plan is looked at.
+ * by the pair list and the two copies, before the plan is looked at.
  *
  * The crossings of two threads, which are numbered from 0 in the order of their lines,
  * are the couples of a critical pair of the first and one of the second that hold no
@@ -61,7 +66,7 @@ extern "C" {
 /* The same in bytes. */
 #define LOCKPLAN_ENTRY_BYTES (2 * LOCKPLAN_ENTRIES)
 #define LOCKPLAN_WORD_BYTES (8 * LOCKPLAN_WORDS)
-/* Least number of bytes in the buffer of a tidy copy. */
+/* Least number of bytes in the buffer of a tidy or a straightened copy. */
 #define LOCKPLAN_COPY_BYTES 32768
 /* The bytes that a couple of a crossing takes: two words. */
 #define LOCKPLAN_COUPLE_BYTES 16
@@ -84,6 +89,9 @@ uint64_t lockplan_pairs(const uint8_t *text, size_t text_len, uint64_t proc,
 
 uint64_t lockplan_tidy(const uint8_t *text, size_t text_len,
                        uint8_t *out, size_t out_len);
+
+uint64_t lockplan_straight(const uint8_t *text, size_t text_len,
+                           uint8_t *out, size_t out_len);
 
 uint64_t lockplan_crossings(const uint8_t *text, size_t text_len, uint64_t first,
                             uint64_t second, uint8_t *out, size_t out_len);

@@ -1,9 +1,10 @@
 /* Reads a plan from standard input and prints its report by the C calls: the
  * pairs of each procedure and the verdict, in a buffer of just the entries that the
- * plan needs. With --tidy it prints the plan's tidy copy instead, with --space the
- * sum of its threads' sizes, with --crossings how many couples each two of its threads
- * have and with --crossings FIRST SECOND the couples of two of them, or the line of its
- * refusal. With --time it prints how many microseconds of processor time a verdict takes.
+ * plan needs. With --tidy it prints the plan's tidy copy instead, with --straight its
+ * straightened copy, with --space the sum of its threads' sizes, with --crossings how many
+ * couples each two of its threads have and with --crossings FIRST SECOND the couples of two
+ * of them, or the line of its refusal. With --time it prints how many microseconds of
+ * processor time a verdict takes.
  *
  *   cc -std=c99 -I ../../include caller.c \
  *      -L ../../target/staticlib -llockplan -o caller
@@ -24,6 +25,7 @@ static uint8_t text[32768 + 1];
 #define BEHIND 8
 static uint8_t words[LOCKPLAN_WORD_BYTES + BEHIND];
 static uint8_t copy[LOCKPLAN_COPY_BYTES + BEHIND];
+static uint8_t longer[LOCKPLAN_COPY_BYTES + BEHIND];
 
 static void print_refused(uint64_t answer)
 {
@@ -101,20 +103,48 @@ static int kept(const uint8_t *buffer, size_t from, size_t to)
     return 1;
 }
 
-static int tidy(size_t length)
+/* A call that writes a copy: lockplan_tidy or lockplan_straight. */
+typedef uint64_t copy_call(const uint8_t *text, size_t text_len, uint8_t *out,
+                           size_t out_len);
+
+/* Whether a buffer that is too short is refused by rule 1, at no line, and kept. */
+static int short_refused(copy_call *call, size_t length, size_t lent)
 {
     uint64_t answer;
-    memset(copy, 0xa5, sizeof copy);
-    answer = lockplan_tidy(text, length, copy, LOCKPLAN_COPY_BYTES);
-    if (lockplan_kind(answer) == LOCKPLAN_REFUSED) {
-        if (!kept(copy, 0, sizeof copy))
+    memset(longer, 0xa5, sizeof longer);
+    answer = call(text, length, longer, lent);
+    return lockplan_kind(answer) == LOCKPLAN_REFUSED && lockplan_rule(answer) == 1
+        && lockplan_line(answer) == 0 && kept(longer, 0, sizeof longer);
+}
+
+/* Whether a buffer of a byte more gives an answer and a copy again. */
+static int same_copy(copy_call *call, size_t length, uint64_t answer)
+{
+    memset(longer, 0xa5, sizeof longer);
+    return call(text, length, longer, LOCKPLAN_COPY_BYTES + 1) == answer
+        && memcmp(longer, copy, sizeof copy) == 0;
+}
+
+/* Prints a copy, when buffers that are too short have been refused and a longer one has
+ * given the same. */
+static int print_copy(copy_call *call, size_t length)
+{
+    static const size_t few[] = {0, 1, 6, LOCKPLAN_COPY_BYTES / 2, LOCKPLAN_COPY_BYTES - 1};
+    uint64_t answer;
+    size_t k, written = 0;
+    for (k = 0; k < sizeof few / sizeof few[0]; k++)
+        if (!short_refused(call, length, few[k]))
             return 3;
-        print_refused(answer);
-        return 0;
-    }
-    if (!kept(copy, (size_t)lockplan_count(answer), sizeof copy))
+    memset(copy, 0xa5, sizeof copy);
+    answer = call(text, length, copy, LOCKPLAN_COPY_BYTES);
+    if (lockplan_kind(answer) == LOCKPLAN_COPIED)
+        written = (size_t)lockplan_count(answer);
+    if (!kept(copy, written, sizeof copy) || !same_copy(call, length, answer))
         return 3;
-    fwrite(copy, 1, (size_t)lockplan_count(answer), stdout);
+    if (lockplan_kind(answer) == LOCKPLAN_REFUSED)
+        print_refused(answer);
+    else
+        fwrite(copy, 1, written, stdout);
     return 0;
 }
 
@@ -285,7 +315,9 @@ int main(int count, char **arguments)
         return 2;
     }
     if (count > 1 && strcmp(arguments[1], "--tidy") == 0)
-        return tidy(length);
+        return print_copy(lockplan_tidy, length);
+    if (count > 1 && strcmp(arguments[1], "--straight") == 0)
+        return print_copy(lockplan_straight, length);
     if (count > 1 && strcmp(arguments[1], "--space") == 0)
         return space(length);
     if (count > 1 && strcmp(arguments[1], "--crossings") == 0)

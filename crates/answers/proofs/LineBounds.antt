@@ -22,7 +22,7 @@ use Rattle.plan.specs.Grammar.{planIn}
 use Rattle.plan.specs.Structure.{misplacedForm}
 use Rattle.plan.specs.Limits.{pastLimitForm, breakingForm}
 use Rattle.plan.specs.Rules.{refusedAt, refusedIf, tooLong, linesRefusal, referencesRefusal, grammarRefusal, procForm, lowestFrom, procRefusal, recursive, idle, tooLarge}
-use Rattle.plan.specs.Rules.{formsRefusal, inFile, planOf, planRefusal, tooFewEntries, verdictRefusal, pairsRefusal, tidyRefusal, areNoTwo, crossingsRefusal}
+use Rattle.plan.specs.Rules.{formsRefusal, inFile, planOf, planRefusal, tooFewEntries, verdictRefusal, pairsRefusal, copyRefusal, areNoTwo, crossingsRefusal}
 use Rattle.plan.proofs.AcceptedTable.{short-enough, lines-short}
 
 -- ---- lines
@@ -142,8 +142,8 @@ pub verdict-bounded : (text : List ℕ) (lent : ℕ) (w : Refusal) → verdictRe
 unfolding verdictRefusal tooFewEntries
 verdict-bounded text lent = if-or _ _ (plan-bounded text) (λ _. bounded-if 1 (ltb lent (threadSizes (planOf text))) (omega arith))
 
-pub copy-bounded : (text : List ℕ) (lent : ℕ) (w : Refusal) → tidyRefusal text lent ≡ some w → Numbers w
-unfolding tidyRefusal
+pub copy-bounded : (text : List ℕ) (lent : ℕ) (w : Refusal) → copyRefusal text lent ≡ some w → Numbers w
+unfolding copyRefusal
 copy-bounded text lent = if-or _ _ (bounded-if 1 (ltb lent maxBytes) (omega arith)) (λ _. plan-bounded text)
 
 pub crossings-bounded : (text : List ℕ) (t u : ℕ) (w : Refusal) → crossingsRefusal text t u ≡ some w → Numbers w

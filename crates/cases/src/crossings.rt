@@ -1,5 +1,6 @@
 // Where the threads of a plan cross: how many couples each two have, and the first couples of threads 0 and 1.
 use super::print_number;
+use super::print_refused;
 use super::procs;
 use lockplan::Counted;
 
@@ -16,10 +17,6 @@ pub fn show_crossings(text: &[u8]) {
             io::write_all(1, b" words");
             procs::print_list(&words);
         }
-        Counted::Refused(refusal) => {
-            print_number(b"  couples refused ", refusal.rule as u64);
-            print_number(b" ", refusal.line as u64);
-            io::write_all(1, b"\n");
-        }
+        Counted::Refused(refusal) => print_refused(b"  couples refused ", refusal),
     }
 }

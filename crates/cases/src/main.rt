@@ -1,6 +1,6 @@
 // The reference plans of document 01 and some more, from the files that `index` names beside the program: for each the critical pairs of its procedures, the slip of the
-// space that it needs, the verdict or the refusal, where its threads cross, the texts of its procedures, the tidy copy and the report. A schedule is replayed by a second
-// gateway, crate `replay`, which reads the plan's text by itself.
+// space that it needs, the verdict or the refusal, where its threads cross, the texts of its procedures, the tidy copy, the straightened one with its own pairs and verdict, and
+// the report. A schedule is replayed by a second gateway, crate `replay`, which reads the plan's text by itself.
 mod copies;
 mod crossings;
 mod procs;
@@ -14,15 +14,23 @@ use limits::MAX_PAIRS;
 use lockplan::Verdict;
 use procs::Shown;
 use streams::TEXT_ROOM;
+use text::Refusal;
 
-const INDEX_ROOM: usize = 8192;
+const INDEX_ROOM: usize = 16384;
 
-// Reports and tidy copies are printed of texts with no more bytes: one of 64 procedures, the exports of forty and one with thousands of steps are among them.
+// Reports and copies are printed of texts with no more bytes: one of 64 procedures, the exports of forty and one with thousands of steps are among them.
 pub const REPORTED: usize = 1800;
 
 pub fn print_number(pair: &[u8], x: u64) {
     io::write_all(1, pair);
     io::print_decimal(1, x);
+}
+
+// A refusal: the rule and the line.
+pub fn print_refused(label: &[u8], refusal: Refusal) {
+    print_number(label, refusal.rule as u64);
+    print_number(b" ", refusal.line as u64);
+    io::write_all(1, b"\n");
 }
 
 pub fn show_verdict(text: &[u8], out: &mut [u16]) {
@@ -33,11 +41,7 @@ pub fn show_verdict(text: &[u8], out: &mut [u16]) {
         Verdict::Deadlock { entries, stuck } => {
             schedules::show_schedule(text, entries, stuck as u64, out);
         }
-        Verdict::Refused(refusal) => {
-            print_number(b"  refused ", refusal.rule as u64);
-            print_number(b" ", refusal.line as u64);
-            io::write_all(1, b"\n");
-        }
+        Verdict::Refused(refusal) => print_refused(b"  refused ", refusal),
     }
 }
 
@@ -56,6 +60,7 @@ fn show_plan(text: &[u8], list: &mut [u64], out: &mut [u16]) {
     crossings::show_crossings(text);
     procs::show_procs(text, Shown::Text, list);
     copies::show_tidy(text);
+    copies::show_straight(text, list, out);
     show_report(text);
 }
 

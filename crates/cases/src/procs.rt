@@ -1,5 +1,6 @@
 // The procedures of a plan: their critical pairs, and their texts.
 use super::print_number;
+use super::print_refused;
 use limits::MAX_PROCS;
 use lockplan::Counted;
 
@@ -48,9 +49,7 @@ fn show_pairs(text: &[u8], p: usize, list: &mut [u64]) -> bool {
             if refusal.rule == 11 {
                 return false;
             }
-            print_number(b"  pairs refused ", refusal.rule as u64);
-            print_number(b" ", refusal.line as u64);
-            io::write_all(1, b"\n");
+            print_refused(b"  pairs refused ", refusal);
             false
         }
     }

@@ -46,7 +46,7 @@ module _ (text : List ℕ) (t u : ℕ) (e : crossingsRefusal text t u ≡ none) 
   unfolding couples
   crossings-few = omega (arith, couples-few (threadPairs (planOf text) t) (threadPairs (planOf text) u) second-pairs-few, first-pairs-few)
 
-  exact-couples : CouplesExact (planOf text) t u
+  pub exact-couples : CouplesExact (planOf text) t u
   exact-couples = couples-exact (planOf text) (accepted-ranked text (kept .0)) t u (kept .1) (kept .2)
 
 -- ---- from the pair lists

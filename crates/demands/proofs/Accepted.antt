@@ -21,14 +21,15 @@ use Rattle.semantics.specs.Language.{PublishedCritical}
 use Rattle.semantics.proofs.Calls.Ranks.{acyclic-ranks}
 use Rattle.semantics.proofs.Critical.PairList.{pair-list-critical}
 use Rattle.semantics.proofs.Critical.CriticalLanguage.{critical-is-published}
+use Rattle.semantics.proofs.Conflicts.Characterisation.{Ranked}
 use Rattle.plan.specs.Grammar.{forms, planIn}
 use Rattle.plan.specs.Rules.{refusedIf, grammarRefusal, tooLarge, planOf, planRefusal, tooFewEntries, verdictRefusal}
-use Rattle.plan.specs.Rules.{pairsRefusal, tidyRefusal, crossingsRefusal}
+use Rattle.plan.specs.Rules.{pairsRefusal, copyRefusal, crossingsRefusal}
 use Rattle.plan.proofs.Kept.{unflagged}
 use Rattle.plan.proofs.TwoThreads.{crossings-kept}
 use Rattle.plan.proofs.AcceptedTable.{accepted-rules, rules-accepted, accepted-text, accepted-settled}
 use Rattle.plan.proofs.Allowed.{rules-plan}
-use Rattle.plan.proofs.Ranked.{recursive-exactly}
+use Rattle.plan.proofs.Ranked.{recursive-exactly, settled-ranked}
 use Rattle.plan.proofs.ReachableProcs.{idle-exactly}
 use Rattle.demands.specs.Broken.{TooLarge, planRules, AllUnbroken, AcceptedText}
 use Rattle.demands.proofs.Firsts.{below}
@@ -74,6 +75,10 @@ module _ (text : List ℕ) where
     ranks : Ranks (x .plan .procs)
     ranks = acyclic-ranks (x .plan .procs) (x .acyclic) (x .settled .callees-present) (x .settled .filled)
 
+    -- what the theory asks of a plan
+    pub plan-ranked : Ranked (x .plan)
+    plan-ranked = settled-ranked (x .plan) (x .settled) ranks
+
     unrefused : planRefusal text ≡ none
     unfolding tooLarge
     unrefused =
@@ -117,9 +122,9 @@ module _ (text : List ℕ) where
     λ x. rw (le-ltb lent needed (x .0)) (unrefused (x .1)),
   )
 
-  pub tidy-accepted-exactly : (lent : ℕ) → (tidyRefusal text lent ≡ none) ↔ ((maxBytes ≤ lent) × AcceptedText text)
-  unfolding tidyRefusal
-  tidy-accepted-exactly lent = lent-exactly maxBytes lent
+  pub copy-accepted-exactly : (lent : ℕ) → (copyRefusal text lent ≡ none) ↔ ((maxBytes ≤ lent) × AcceptedText text)
+  unfolding copyRefusal
+  copy-accepted-exactly lent = lent-exactly maxBytes lent
 
   -- with rule 1 behind the plan's
   pub verdict-accepted-exactly : (lent : ℕ) → (verdictRefusal text lent ≡ none) ↔ ((x : AcceptedText text) × (threadSizes (x .plan) ≤ lent))

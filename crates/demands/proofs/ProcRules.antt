@@ -10,6 +10,7 @@ use native.Mathlib.Omega.{arith}
 use lib.Dec.{ltb}
 use lib.ListN.{length}
 use Rattle.limits.specs.Limits.{maxSize}
+use Rattle.laws.proofs.Tests.{first-assoc}
 use Rattle.text.specs.declared.Form.{Form}
 use Rattle.text.specs.declared.Refusal.{Refusal}
 use Rattle.text.specs.Lines.{refusal, formsOf, lineOf}
@@ -99,17 +100,12 @@ module _ (text : List ℕ) (lines : linesRefusal text ≡ none) (formed : gramma
   unfolding idle
   later-idle = other-or 12 (idle forms) (tooLarge forms) (other-proc 12 13 forms (λ p. not (reachable plan p)) (λ e. omega arith)) (later-large 12 (λ e. omega arith))
 
-  -- the rules of procedures one after the other
-  or-or : (a b c : Option Refusal) → orElse (orElse a b) c ≡ orElse a (orElse b c)
-  unfolding orElse
-  or-or none b c = refl
-  or-or (some x) b c = refl
-
   pub recursion-refused-exactly : ((l : ℕ) × (planRefusal text ≡ some (refusal 12 l))) ↔ ((p : ℕ) × Recursive (planOf text .procs) p)
   unfolding planOf planRefusal formsRefusal recursive orElse
   recursion-refused-exactly =
       let x = refused-exactly-by text 12 (λ p. reaches (plan .procs) p p) (Recursive (plan .procs)) (λ p h. reaches-itself (plan .procs) p) _ later-idle in
-      rw (lines, formed, or-or (recursive forms) (idle forms) (tooLarge forms)) (λ y. let z = x .0 y in (z .0, z .2), λ y. x .1 (y .0, reacher-present (plan .procs) (y .1), y .1))
+      rw (lines, formed, first-assoc (recursive forms) (idle forms) (tooLarge forms))
+      (λ y. let z = x .0 y in (z .0, z .2), λ y. x .1 (y .0, reacher-present (plan .procs) (y .1), y .1))
 
   pub idle-refused-exactly : recursive (formsOf text) ≡ none
       → ((l : ℕ) × (planRefusal text ≡ some (refusal 13 l))) ↔ ((p : ℕ) × (p < length (planOf text .procs)) × Idle (planOf text) p)

@@ -21,7 +21,7 @@ use Rattle.plan.specs.Grammar.{forms, planIn}
 use Rattle.plan.specs.Structure.{misplacedForm}
 use Rattle.plan.specs.Limits.{pastLimitForm, breakingForm}
 use Rattle.plan.specs.Rules.{refusedAt, refusedIf, tooLong, linesRefusal, referencesRefusal, grammarRefusal, procForm, lowestFrom, procRefusal, recursive, idle, tooLarge}
-use Rattle.plan.specs.Rules.{formsRefusal, planOf, planRefusal, tooFewEntries, verdictRefusal, pairsRefusal, tidyRefusal, areNoTwo, noTwoThreads, crossingsRefusal}
+use Rattle.plan.specs.Rules.{formsRefusal, planOf, planRefusal, tooFewEntries, verdictRefusal, pairsRefusal, copyRefusal, areNoTwo, noTwoThreads, crossingsRefusal}
 use Rattle.plan.proofs.Trees.{plan-of-forms}
 use Rattle.plan.proofs.Denotes.{accepted-denotes}
 use Rattle.plan.proofs.FirstMisplaced.{structure-first}
@@ -30,7 +30,7 @@ use Rattle.plan.proofs.AcceptedTable.{accepted-rules}
 use Rattle.demands.specs.Lines.{First, FormWhere}
 use Rattle.demands.specs.Broken.{TooShort, TooLong, Unreadable, OfForms, FirstForm, Misplaced, PastLimit, HighLock, AbsentCallee, AbsentProc}
 use Rattle.demands.specs.Broken.{OfPlan, LowestProc, TooLarge, TooFewEntries, AbsentRequest, NoTwoThreads}
-use Rattle.demands.specs.Broken.{Rule, rule, formRules, planRules, verdictRules, pairsRules, tidyRules, crossingsRules, FirstBroken}
+use Rattle.demands.specs.Broken.{Rule, rule, formRules, planRules, verdictRules, pairsRules, copyRules, crossingsRules, FirstBroken}
 use Rattle.demands.proofs.Order.{Names, RefusesBy, by-rule, then}
 use Rattle.demands.proofs.InFile.{refuses-in-file}
 use Rattle.demands.proofs.Firsts.{Decides, decides-or, below, at-most, equal}
@@ -169,9 +169,9 @@ module _ (text : List ℕ) where
   unfolding pairsRules pairsRefusal
   pairs-refuses p lent = then (rule-1 maxPairs lent) (λ _. then plan-refuses (λ e. let r = accepted-rules text e in rule-11 text (r .readable) (r .formed) p))
 
-  pub tidy-refuses : (lent : ℕ) → RefusesBy (tidyRules text lent) (tidyRefusal text lent)
-  unfolding tidyRules tidyRefusal
-  tidy-refuses lent = then (rule-1 maxBytes lent) (λ _. plan-refuses)
+  pub copy-refuses : (lent : ℕ) → RefusesBy (copyRules text lent) (copyRefusal text lent)
+  unfolding copyRules copyRefusal
+  copy-refuses lent = then (rule-1 maxBytes lent) (λ _. plan-refuses)
 
   pub crossings-refuses : (t u : ℕ) → RefusesBy (crossingsRules text t u) (crossingsRefusal text t u)
   unfolding crossingsRules crossingsRefusal
@@ -188,8 +188,8 @@ module _ (text : List ℕ) (r l : ℕ) where
   pub pairs-refused-exactly : (p lent : ℕ) → (pairsRefusal text p lent ≡ some (refusal r l)) ↔ FirstBroken (pairsRules text p lent) r l
   pairs-refused-exactly p lent = pairs-refuses text p lent .refused r l
 
-  pub tidy-refused-exactly : (lent : ℕ) → (tidyRefusal text lent ≡ some (refusal r l)) ↔ FirstBroken (tidyRules text lent) r l
-  tidy-refused-exactly lent = tidy-refuses text lent .refused r l
+  pub copy-refused-exactly : (lent : ℕ) → (copyRefusal text lent ≡ some (refusal r l)) ↔ FirstBroken (copyRules text lent) r l
+  copy-refused-exactly lent = copy-refuses text lent .refused r l
 
   pub crossings-refused-exactly : (t u : ℕ) → (crossingsRefusal text t u ≡ some (refusal r l)) ↔ FirstBroken (crossingsRules text t u) r l
   crossings-refused-exactly t u = crossings-refuses text t u .refused r l

@@ -25,7 +25,7 @@ use Rattle.demands.specs.Lines.{First, FormWhere, InFile}
 -- ---- of the lent buffer and the bytes
 
 -- 1: "The lent buffer is shorter than .. (line 0)." 02, change 5: "Raise .. the pair buffer to 511 words"; change 1, of the tidy copy: "The output must hold 32,768 bytes,
--- otherwise rule 1 applies."
+-- otherwise rule 1 applies."; change 8: "into an output as for the tidy one"
 abbrev pub TooShort : ℕ → ℕ → ℕ → Type 0
 TooShort needed lent n = (lent < needed) × (n ≡ 0)
 
@@ -180,9 +180,9 @@ verdictRules text lent = planRules text ++ rule 1 (OfPlan (TooFewEntries lent) t
 unfoldable pub pairsRules : List ℕ → ℕ → ℕ → List Rule
 pairsRules text p lent = rule 1 (TooShort maxPairs lent) ∷ (planRules text ++ rule 11 (OfPlan (AbsentRequest p) text) ∷ [])
 
--- the tidy copy's, where so many bytes are lent
-unfoldable pub tidyRules : List ℕ → ℕ → List Rule
-tidyRules text lent = rule 1 (TooShort maxBytes lent) ∷ planRules text
+-- those of a copy, tidy or straightened, where so many bytes are lent
+unfoldable pub copyRules : List ℕ → ℕ → List Rule
+copyRules text lent = rule 1 (TooShort maxBytes lent) ∷ planRules text
 
 -- those of the crossings of the threads t and u: 14 "comes after every rule of the plan"
 unfoldable pub crossingsRules : List ℕ → ℕ → ℕ → List Rule

@@ -64,6 +64,12 @@ unfolding orElse
 first-none none p h = (refl, h)
 first-none (some a) p h = absurd (Option·some-ne-none a h)
 
+-- the first of three, however they are taken together
+pub first-assoc : {A : Type 0} (o p q : Option A) → orElse (orElse o p) q ≡ orElse o (orElse p q)
+unfolding orElse
+first-assoc none p q = refl
+first-assoc (some a) p q = refl
+
 -- the list of x where c holds, and else of nothing
 pub only : (w x : ℕ) (c : Bool) → List·Memᴰ w (cond c (x ∷ []) []) → T c × (w ≡ x)
 only w x true m = (tt, List·Memᴰ·eq-of-singleton m)

@@ -91,7 +91,7 @@ module _ (text : List ℕ) (p lent : ℕ) (e : pairsRefusal text p lent ≡ none
   pub few-listed : length (pairsOf text p) ≤ maxPairs
   few-listed = accepted-few text accepted p there
 
-  exact-pairs : Exact text p
+  pub exact-pairs : Exact text p
   exact-pairs =
       let ranks = accepted-ranks text accepted in
       record { critical = pair-list-critical (planOf text .procs) (ranks .rank) (ranks .sound) p (ranks .below p there); ascending = pair-list-ascends (planOf text .procs) p }

@@ -14,11 +14,11 @@ use Rattle.text.specs.Lines.{refusal}
 use Rattle.semantics.specs.Plan.{LockPlan}
 use Rattle.semantics.specs.Sizes.{threadSizes}
 use Rattle.semantics.proofs.Critical.PairList.{pair-list-ascends}
-use Rattle.plan.specs.Rules.{planOf, planRefusal, verdictRefusal, pairsRefusal, tidyRefusal, crossingsRefusal}
+use Rattle.plan.specs.Rules.{planOf, planRefusal, verdictRefusal, pairsRefusal, copyRefusal, crossingsRefusal}
 use Rattle.buffers.specs.LittleEndian.{listBytes}
 use Rattle.demands.specs.Broken.{Rule, FirstBroken, AcceptedText}
-use Rattle.demands.proofs.Refusals.{refused-exactly, verdict-refused-exactly, pairs-refused-exactly, tidy-refused-exactly, crossings-refused-exactly}
-use Rattle.demands.proofs.Accepted.{accepted-plan, accepted-exactly, verdict-accepted-exactly, pairs-accepted-exactly, tidy-accepted-exactly}
+use Rattle.demands.proofs.Refusals.{refused-exactly, verdict-refused-exactly, pairs-refused-exactly, copy-refused-exactly, crossings-refused-exactly}
+use Rattle.demands.proofs.Accepted.{accepted-plan, accepted-exactly, verdict-accepted-exactly, pairs-accepted-exactly, copy-accepted-exactly}
 use Rattle.demands.proofs.Accepted.{crossings-accepted-exactly, published-exactly}
 use Rattle.answers.specs.declared.Verdict.{Verdict}
 use Rattle.answers.specs.declared.Verdict.the-variants.{Free, Deadlock, Refused}
@@ -26,13 +26,13 @@ use Rattle.answers.specs.declared.Counted.{Counted}
 use Rattle.answers.specs.declared.Counted.the-variants as counted
 use Rattle.answers.specs.Answers.{countedOf, countedNumber, readCounted, readVerdict, written}
 use Rattle.listing.specs.Listed.{pairsOf, ListedBytes}
-use Rattle.tidy_text.specs.Tidy.{tidyOf, Tidied, TidiedNumber}
+use Rattle.copies.specs.Copies.{tidyOf, straightOf, Copied, CopiedNumber}
 use Rattle.space.specs.Slip.{neededEntries, Needs, NeedsNumber}
 use Rattle.couples.specs.Fitting.{fittingWords, fittingBytes}
 use Rattle.crossing.specs.Crossed.{couplesIn, CrossedBytes}
 use Rattle.answers.specs.Judgement.{Judgement}
 use Rattle.verdict.specs.Judged.{JudgedBytes}
-use Rattle.lockplan.specs.Demands.{RefusesExactly, VerdictRefuses, PairsRefuse, TidyRefuses, SpaceRefuses, CrossingsRefuse, Demand1, ListsExactly, Demand2, JudgesExactly, Demand3}
+use Rattle.lockplan.specs.Demands.{RefusesExactly, VerdictRefuses, PairsRefuse, CopyRefuses, SpaceRefuses, CrossingsRefuse, Demand1, ListsExactly, Demand2, JudgesExactly, Demand3}
 use Rattle.answers.proofs.LineBounds.{plan-bounded, pairs-bounded, copy-bounded, crossings-bounded}
 use Rattle.answers.proofs.Counts.{counted-is}
 use Rattle.answers.proofs.ReadBack.{verdict-read, counted-read}
@@ -92,13 +92,13 @@ pairs-refuse text p lent n r given before after e b =
       nothing-written = unwritten a n r given before after e b;
     }
 
-tidy-refuses : (text before after : List ℕ) (r : Counted) → Tidied text before r after → TidyRefuses text (length before) r before after
-tidy-refuses text before after r d =
-    let a = tidyRefusal text (length before) in
-    let n = length (tidyOf text) in
+copy-refuses : (copy text before after : List ℕ) (r : Counted) → Copied copy text before r after → CopyRefuses text (length before) r before after
+copy-refuses copy text before after r d =
+    let a = copyRefusal text (length before) in
+    let n = length copy in
     record {
-      exactly = counted-refuses _ _ a n r (λ r l. tidy-refused-exactly text r l (length before)) (tidy-accepted-exactly text (length before)) (d .answer);
-      nothing-written = unwritten a n r (tidyOf text) before after (d .answer) (d .output);
+      exactly = counted-refuses _ _ a n r (λ r l. copy-refused-exactly text r l (length before)) (copy-accepted-exactly text (length before)) (d .answer);
+      nothing-written = unwritten a n r copy before after (d .answer) (d .output);
     }
 
 space-refuses : (text : List ℕ) (r : Counted) → Needs text r → SpaceRefuses text r
@@ -125,14 +125,17 @@ module _ (text before after : List ℕ) (n : ℕ) where
   pub crossings-carried : (t u : ℕ) (d : CrossedBytes text t u before n after) → readCounted n ≡ countedOf (crossingsRefusal text t u) (length (couplesIn text t u))
   crossings-carried t u d = ap readCounted (d .answer) ∙ counted-read (crossingsRefusal text t u) (length (couplesIn text t u)) (crossings-bounded text t u)
 
-  pub copied-carried : (d : TidiedNumber text before n after) → readCounted n ≡ d .copied
-  copied-carried d =
-      ap readCounted (d .number ∙ ap countedNumber (d .tidied .answer)) ∙ counted-read (tidyRefusal text (length before)) (length (tidyOf text)) (copy-bounded text (length before))
-      ∙ sym (d .tidied .answer)
+  pub copied-carried : (copy : List ℕ) (d : CopiedNumber copy text before n after) → readCounted n ≡ d .counted
+  copied-carried copy d =
+      ap readCounted (d .number ∙ ap countedNumber (d .copied .answer)) ∙ counted-read (copyRefusal text (length before)) (length copy) (copy-bounded text (length before))
+      ∙ sym (d .copied .answer)
 
 pub space-carried : (text : List ℕ) (n : ℕ) → NeedsNumber text n → Needs text (readCounted n)
 unfolding neededEntries
 space-carried text n e = ap readCounted e ∙ counted-read (planRefusal text) (threadSizes (planOf text)) (plan-bounded text)
+
+number-refuses : (copy text before after : List ℕ) (n : ℕ) → CopiedNumber copy text before n after → CopyRefuses text (length before) (readCounted n) before after
+number-refuses copy text before after n d = rw (copied-carried text before after n copy d) (copy-refuses copy text before after (d .counted) (d .copied))
 
 pub demand-1 : (text before after : List ℕ) → Demand1 text before after
 unfolding listBytes
@@ -143,8 +146,10 @@ demand-1 text before after = record {
   pair-list = λ p r d. pairs-refuse text p (length before) (length (pairsOf text p)) r (pairsOf text p) before after (d .answer) (d .buffer);
   lockplan-pairs = λ p n d. pairs-refuse text p (length before / 8) (length (pairsOf text p)) (readCounted n) (listBytes 8 (pairsOf text p)) before after
       (listing-carried text before after n p d) (d .buffer);
-  tidy = λ r d. tidy-refuses text before after r d;
-  lockplan-tidy = λ n d. rw (copied-carried text before after n d) (tidy-refuses text before after (d .copied) (d .tidied));
+  tidy = λ r d. copy-refuses (tidyOf text) text before after r d;
+  lockplan-tidy = λ n d. number-refuses (tidyOf text) text before after n d;
+  straight = λ r d. copy-refuses (straightOf text) text before after r d;
+  lockplan-straight = λ n d. number-refuses (straightOf text) text before after n d;
   space = λ r e. space-refuses text r e;
   lockplan-space = λ n e. space-refuses text (readCounted n) (space-carried text n e);
   crossings = λ t u r d. crossings-refuse text t u (length (couplesIn text t u)) r (fittingWords (length before) (couplesIn text t u)) before after (d .answer) (d .buffer);

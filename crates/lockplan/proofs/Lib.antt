@@ -1,7 +1,10 @@
--- The three demands, what is asked of tidy copies, of the space that a schedule needs, of the limit of pairs, and of the couples at which two threads cross, of every answer
--- that the promises of the calls let them give.
+-- The three demands, what is asked of tidy copies, of straightened ones, of the space that a schedule needs, of the limit of pairs, and of the couples at which two threads
+-- cross, of every answer that the promises of the calls let them give.
 pub mod Demands
+pub mod SamePromises
+pub mod WrittenCopies
 pub mod TidyCopies
+pub mod StraightCopies
 pub mod SpaceSuffices
 pub mod PairLimit
 pub mod ThreadCrossings

@@ -21,7 +21,7 @@ use Rattle.semantics.proofs.Critical.PairList.{pair-list-ascends}
 use Rattle.semantics.proofs.Critical.PairBound.{pair-list-bound}
 use Rattle.plan.specs.Rules.{planOf, pairsRefusal}
 use Rattle.plan.proofs.AcceptedTable.{accepted-ranks}
-use Rattle.demands.specs.Broken.{Rule, rule, OfPlan, AbsentRequest, formRules, rulesInFile, planRules, verdictRules, pairsRules, tidyRules, crossingsRules, FirstBroken, AcceptedText}
+use Rattle.demands.specs.Broken.{Rule, rule, OfPlan, AbsentRequest, formRules, rulesInFile, planRules, verdictRules, pairsRules, copyRules, crossingsRules, FirstBroken, AcceptedText}
 use Rattle.demands.proofs.Refusals.{refused-exactly, pairs-refused-exactly, crossings-refused-exactly}
 use Rattle.demands.proofs.Accepted.{accepted-plan, accepted-exactly, published-exactly}
 use Rattle.answers.specs.declared.Verdict.the-variants as verdict
@@ -92,9 +92,9 @@ module _ (text : List ℕ) where
   unfolding isNumber pairsRules planRules rulesInFile formRules
   pairs-numbers p lent = refl
 
-  tidy-numbers : (lent : ℕ) → isNumber 10 (tidyRules text lent) ≡ false
-  unfolding isNumber tidyRules planRules rulesInFile formRules
-  tidy-numbers lent = refl
+  copy-numbers : (lent : ℕ) → isNumber 10 (copyRules text lent) ≡ false
+  unfolding isNumber copyRules planRules rulesInFile formRules
+  copy-numbers lent = refl
 
   crossings-numbers : (t u : ℕ) → isNumber 10 (crossingsRules text t u) ≡ false
   unfolding isNumber crossingsRules planRules rulesInFile formRules
@@ -114,9 +114,12 @@ module _ (text : List ℕ) where
     pair-list = λ p before r after d. never-ten _ _ (λ x. r ≡ Refused x) (pairs-numbers p (length before)) (demand-1 text before after .pair-list p r d .exactly);
     lockplan-pairs = λ p before n after d.
         never-ten _ _ (λ x. readCounted n ≡ Refused x) (pairs-numbers p (length before / 8)) (demand-1 text before after .lockplan-pairs p n d .exactly);
-    tidy = λ before r after d. never-ten _ _ (λ x. r ≡ Refused x) (tidy-numbers (length before)) (demand-1 text before after .tidy r d .exactly);
+    tidy = λ before r after d. never-ten _ _ (λ x. r ≡ Refused x) (copy-numbers (length before)) (demand-1 text before after .tidy r d .exactly);
     lockplan-tidy = λ before n after d.
-        never-ten _ _ (λ x. readCounted n ≡ Refused x) (tidy-numbers (length before)) (demand-1 text before after .lockplan-tidy n d .exactly);
+        never-ten _ _ (λ x. readCounted n ≡ Refused x) (copy-numbers (length before)) (demand-1 text before after .lockplan-tidy n d .exactly);
+    straight = λ before r after d. never-ten _ _ (λ x. r ≡ Refused x) (copy-numbers (length before)) (demand-1 text before after .straight r d .exactly);
+    lockplan-straight = λ before n after d.
+        never-ten _ _ (λ x. readCounted n ≡ Refused x) (copy-numbers (length before)) (demand-1 text before after .lockplan-straight n d .exactly);
     space = λ r d. never-ten _ _ (λ x. r ≡ Refused x) plan-numbers (demand-1 text [] [] .space r d);
     lockplan-space = λ n d. never-ten _ _ (λ x. readCounted n ≡ Refused x) plan-numbers (demand-1 text [] [] .lockplan-space n d);
     crossings = λ t u before r after d. never-ten _ _ (λ x. r ≡ Refused x) (crossings-numbers t u) (demand-1 text before after .crossings t u r d .exactly);

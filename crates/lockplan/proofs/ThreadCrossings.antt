@@ -4,7 +4,7 @@ use Prim.Native.Nat.{ℕ, _<_}
 use mathlib.Core.List.{List, List·Memᴰ}
 use mathlib.Core.Logic.{_≢_, _↔_}
 use mathlib.Core.Option.{none}
-use mathlib.Core.Path.{_≡_, refl, sym, ap, subst, _∙_}
+use mathlib.Core.Path.{_≡_, refl, sym, ap, _∙_}
 use lib.ListN.{length}
 use Rattle.semantics.specs.Plan.{LockPlan, threadProc}
 use Rattle.semantics.specs.Pairs.{Critical}
@@ -12,9 +12,8 @@ use Rattle.semantics.specs.Language.{PublishedCritical}
 use Rattle.semantics.proofs.Critical.CriticalLanguage.{critical-is-published}
 use Rattle.semantics.proofs.Conflicts.Characterisation.{Ranked}
 use Rattle.plan.specs.Rules.{planOf, crossingsRefusal}
-use Rattle.plan.proofs.AcceptedTable.{accepted-ranked}
 use Rattle.demands.specs.Broken.{AcceptedText}
-use Rattle.demands.proofs.Accepted.{accepted-plan, accepted-exactly, crossings-accepted-exactly}
+use Rattle.demands.proofs.Accepted.{accepted-plan, plan-ranked, crossings-accepted-exactly}
 use Rattle.answers.specs.declared.Counted.{Counted}
 use Rattle.answers.specs.declared.Counted.the-variants.{Count}
 use Rattle.answers.specs.Answers.{countedOf, readCounted}
@@ -60,9 +59,8 @@ module _ (text : List ℕ) (x : AcceptedText text) (t u : ℕ) (b : t < length (
   unfolding countedOf
   crosses-exactly r e =
       let same : planOf text ≡ x .plan = accepted-plan text x in
-      let ranked : Ranked (x .plan) = subst Ranked same (accepted-ranked text (accepted-exactly text .1 x)) in
       let is : r ≡ Count (length (couples (x .plan) t u)) = e ∙ rw (unrefused, same) in
-      rw (is, same) (plan-crosses (x .plan) ranked t u b d two)
+      rw (is, same) (plan-crosses (x .plan) (plan-ranked text x) t u b d two)
 
 pub crossings-exact : (text before after : List ℕ) → Crossings text before after
 crossings-exact text before after = record {

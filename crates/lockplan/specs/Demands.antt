@@ -18,7 +18,7 @@ use Rattle.semantics.specs.Run.{ThreadState, run, start}
 use Rattle.semantics.specs.Stuck.{Stuck, DeadlockFree, Schedule}
 use Rattle.semantics.specs.Language.{PublishedCritical}
 use Rattle.buffers.specs.LittleEndian.{listBytes}
-use Rattle.demands.specs.Broken.{Rule, FirstBroken, planRules, verdictRules, pairsRules, tidyRules, crossingsRules, AcceptedText}
+use Rattle.demands.specs.Broken.{Rule, FirstBroken, planRules, verdictRules, pairsRules, copyRules, crossingsRules, AcceptedText}
 use Rattle.answers.specs.declared.Verdict.{Verdict}
 use Rattle.answers.specs.declared.Verdict.the-variants.{Free, Deadlock, Refused}
 use Rattle.answers.specs.declared.Counted.{Counted}
@@ -28,7 +28,7 @@ use Rattle.laws.specs.Wrote.{filled}
 use Rattle.answers.specs.Answers.{readCounted, readVerdict}
 use Rattle.listing.specs.Listed.{Listed, ListedBytes}
 use Rattle.verdict.specs.Judged.{Judged, JudgedBytes}
-use Rattle.tidy_text.specs.Tidy.{Tidied, TidiedNumber}
+use Rattle.copies.specs.Copies.{Tidied, TidiedNumber, Straightened, StraightenedNumber}
 use Rattle.space.specs.Slip.{Needs, NeedsNumber}
 use Rattle.crossing.specs.Crossed.{Crossed, CrossedBytes}
 
@@ -53,9 +53,9 @@ abbrev pub PairsRefuse : List ℕ → ℕ → ℕ → Counted → List ℕ → L
 PairsRefuse text p lent r before after =
     RefusesUnwritten (pairsRules text p lent) ((maxPairs ≤ lent) × (x : AcceptedText text) × (p < length (x .plan .procs))) (λ x. r ≡ counted.Refused x) before after
 
--- of the tidy copy, where so many bytes are lent
-abbrev pub TidyRefuses : List ℕ → ℕ → Counted → List ℕ → List ℕ → Type 0
-TidyRefuses text lent r before after = RefusesUnwritten (tidyRules text lent) ((maxBytes ≤ lent) × AcceptedText text) (λ x. r ≡ counted.Refused x) before after
+-- of a copy, tidy or straightened, where so many bytes are lent
+abbrev pub CopyRefuses : List ℕ → ℕ → Counted → List ℕ → List ℕ → Type 0
+CopyRefuses text lent r before after = RefusesUnwritten (copyRules text lent) ((maxBytes ≤ lent) × AcceptedText text) (λ x. r ≡ counted.Refused x) before after
 
 -- of the crossings of the threads t and u, where a buffer of any length is lent
 abbrev pub CrossingsRefuse : List ℕ → ℕ → ℕ → Counted → List ℕ → List ℕ → Type 0
@@ -73,8 +73,10 @@ pub record Demand1 (text before after : List ℕ) : Type 0 where
   pub lockplan-verdict : (n : ℕ) → JudgedBytes text before n after → VerdictRefuses text (length before / 2) (readVerdict n) before after
   pub pair-list : (p : ℕ) (r : Counted) → Listed text p before r after → PairsRefuse text p (length before) r before after
   pub lockplan-pairs : (p n : ℕ) → ListedBytes text p before n after → PairsRefuse text p (length before / 8) (readCounted n) before after
-  pub tidy : (r : Counted) → Tidied text before r after → TidyRefuses text (length before) r before after
-  pub lockplan-tidy : (n : ℕ) → TidiedNumber text before n after → TidyRefuses text (length before) (readCounted n) before after
+  pub tidy : (r : Counted) → Tidied text before r after → CopyRefuses text (length before) r before after
+  pub lockplan-tidy : (n : ℕ) → TidiedNumber text before n after → CopyRefuses text (length before) (readCounted n) before after
+  pub straight : (r : Counted) → Straightened text before r after → CopyRefuses text (length before) r before after
+  pub lockplan-straight : (n : ℕ) → StraightenedNumber text before n after → CopyRefuses text (length before) (readCounted n) before after
   pub space : (r : Counted) → Needs text r → SpaceRefuses text r
   pub lockplan-space : (n : ℕ) → NeedsNumber text n → SpaceRefuses text (readCounted n)
   pub crossings : (t u : ℕ) (r : Counted) → Crossed text t u before r after → CrossingsRefuse text t u r before after

@@ -1,6 +1,7 @@
--- The three demands; what is asked of tidy copies, of the space that a schedule needs, of the limit of pairs, and of the couples at which two threads cross.
+-- The three demands; what is asked of tidy copies, of straightened ones, of the space that a schedule needs, of the limit of pairs, and of the couples at which two threads cross.
 pub mod Demands
 pub mod TidyCopies
+pub mod StraightCopies
 pub mod SpaceSuffices
 pub mod PairLimit
 pub mod ThreadCrossings

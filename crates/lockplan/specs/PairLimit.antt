@@ -22,7 +22,7 @@ use Rattle.answers.specs.declared.Counted.the-variants.{Count, Refused}
 use Rattle.answers.specs.Answers.{readCounted, readVerdict}
 use Rattle.listing.specs.Listed.{Listed, ListedBytes}
 use Rattle.verdict.specs.Judged.{Judged, JudgedBytes}
-use Rattle.tidy_text.specs.Tidy.{Tidied, TidiedNumber}
+use Rattle.copies.specs.Copies.{Tidied, TidiedNumber, Straightened, StraightenedNumber}
 use Rattle.space.specs.Slip.{Needs, NeedsNumber}
 use Rattle.crossing.specs.Crossed.{Crossed, CrossedBytes}
 
@@ -57,6 +57,8 @@ pub record RuleTenUnused (text : List ℕ) : Type 0 where
   pub lockplan-pairs : (p : ℕ) (before : List ℕ) (n : ℕ) (after : List ℕ) → ListedBytes text p before n after → NeverTen (λ x. readCounted n ≡ Refused x)
   pub tidy : (before : List ℕ) (r : Counted) (after : List ℕ) → Tidied text before r after → NeverTen (λ x. r ≡ Refused x)
   pub lockplan-tidy : (before : List ℕ) (n : ℕ) (after : List ℕ) → TidiedNumber text before n after → NeverTen (λ x. readCounted n ≡ Refused x)
+  pub straight : (before : List ℕ) (r : Counted) (after : List ℕ) → Straightened text before r after → NeverTen (λ x. r ≡ Refused x)
+  pub lockplan-straight : (before : List ℕ) (n : ℕ) (after : List ℕ) → StraightenedNumber text before n after → NeverTen (λ x. readCounted n ≡ Refused x)
   pub space : (r : Counted) → Needs text r → NeverTen (λ x. r ≡ Refused x)
   pub lockplan-space : (n : ℕ) → NeedsNumber text n → NeverTen (λ x. readCounted n ≡ Refused x)
   pub crossings : (t u : ℕ) (before : List ℕ) (r : Counted) (after : List ℕ) → Crossed text t u before r after → NeverTen (λ x. r ≡ Refused x)

@@ -1,6 +1,7 @@
 -- What 02, change 1, asks of the tidy copy, of the bytes that the call writes: said of the text, of its plan, and of what the other calls may answer. A theorem about whatever
 -- the promise lets the call write, `tidy-copies`.
 use Prim.Native.Nat.{ℕ, _≤_}
+use mathlib.Core.Bool.{true}
 use mathlib.Core.List.{List}
 use mathlib.Core.Logic.{_↔_}
 use mathlib.Core.Path.{_≡_}
@@ -16,7 +17,7 @@ use Rattle.answers.specs.declared.Counted.the-variants.{Count}
 use Rattle.answers.specs.Answers.{readCounted}
 use Rattle.listing.specs.Listed.{Listed, ListedBytes}
 use Rattle.verdict.specs.Judged.{Judged, JudgedBytes}
-use Rattle.tidy_text.specs.Tidy.{Tidied, TidiedNumber}
+use Rattle.copies.specs.Copies.{Tidied, TidiedNumber, Straightened, StraightenedNumber, printedCopy}
 use Rattle.space.specs.Slip.{Needs, NeedsNumber, printedSlip}
 use Rattle.crossing.specs.Crossed.{Crossed, CrossedBytes}
 use Rattle.couple_lines.specs.CoupleLines.{printedCouples}
@@ -46,6 +47,10 @@ pub record TidyCopy (text : List ℕ) (x : AcceptedText text) (copy : List ℕ) 
   pub spaces : (r : Counted) → Needs text r ↔ Needs copy r
   pub lockplan-spaces : (n : ℕ) → NeedsNumber text n ↔ NeedsNumber copy n
   pub slips : printedSlip text ≡ printedSlip copy
+  -- and so is the straightened copy, also in print
+  pub straight : (before : List ℕ) (r : Counted) (after : List ℕ) → Straightened text before r after ↔ Straightened copy before r after
+  pub lockplan-straight : (before : List ℕ) (n : ℕ) (after : List ℕ) → StraightenedNumber text before n after ↔ StraightenedNumber copy before n after
+  pub printed-straight : printedCopy true text ≡ printedCopy true copy
   -- and where its threads cross, also in print
   pub crossings : (t u : ℕ) (before : List ℕ) (r : Counted) (after : List ℕ) → Crossed text t u before r after ↔ Crossed copy t u before r after
   pub lockplan-crossings : (t u : ℕ) (before : List ℕ) (n : ℕ) (after : List ℕ) → CrossedBytes text t u before n after ↔ CrossedBytes copy t u before n after

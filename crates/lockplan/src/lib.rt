@@ -1,11 +1,11 @@
-// The library's calls: the verdict on a plan, the space that its schedule needs, the pair list of a procedure, where two threads cross, a procedure's text, the tidy copy of a
-// plan text; and all but a procedure's text for C.
-ghost use Rattle.parts.specs.Parts.{PartAt};
+// The library's calls: the verdict on a plan, the space that its schedule needs, the pair list of a procedure, where two threads cross, a procedure's text, the tidy copy and
+// the straightened copy of a plan text; and all but a procedure's text for C.
+ghost use Rattle.copies.specs.Copies.{Tidied, TidiedNumber, Straightened, StraightenedNumber};
 ghost use Rattle.crossing.specs.Crossed.{Crossed, CrossedBytes};
 ghost use Rattle.listing.specs.Listed.{Listed, ListedBytes};
+ghost use Rattle.parts.specs.Parts.{PartAt};
 ghost use Rattle.procedure_text.specs.ProcText.{procText};
 ghost use Rattle.space.specs.Slip.{Needs, NeedsNumber};
-ghost use Rattle.tidy_text.specs.Tidy.{Tidied, TidiedNumber};
 ghost use Rattle.verdict.specs.Judged.{Judged, JudgedBytes};
 pub use answers::Counted;
 pub use answers::Verdict;
@@ -52,7 +52,14 @@ pub fn proc_text(text: &[u8], proc: usize) -> &[u8]
 pub fn tidy(text: &[u8], out: &mut [u8]) -> Counted
     ensures { λ r. ⌜ Tidied (now (text .entry)) (now (out .entry)) r (now (out .exit)) ⌝ }
 {
-    tidy_text::write_copy(text, out)
+    copies::write_copy(text, false, out)
+}
+
+// The straightened copy of a plan text, each either as its two blocks and each loop as its block, in tidy form, at the start of `out`.
+pub fn straight(text: &[u8], out: &mut [u8]) -> Counted
+    ensures { λ r. ⌜ Straightened (now (text .entry)) (now (out .entry)) r (now (out .exit)) ⌝ }
+{
+    copies::write_copy(text, true, out)
 }
 
 // The verdict for C: entries as two bytes each, lowest first.
@@ -94,5 +101,13 @@ pub extern "C" fn lockplan_crossings(text: &[u8], first: u64, second: u64, out: 
 pub extern "C" fn lockplan_tidy(text: &[u8], out: &mut [u8]) -> u64
     ensures { λ r. ⌜ TidiedNumber (now (text .entry)) (now (out .entry)) r (now (out .exit)) ⌝ }
 {
-    tidy_text::copy_number(text, out)
+    copies::copy_number(text, false, out)
+}
+
+// The straightened copy for C.
+#[no_mangle]
+pub extern "C" fn lockplan_straight(text: &[u8], out: &mut [u8]) -> u64
+    ensures { λ r. ⌜ StraightenedNumber (now (text .entry)) (now (out .entry)) r (now (out .exit)) ⌝ }
+{
+    copies::copy_number(text, true, out)
 }

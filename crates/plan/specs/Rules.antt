@@ -1,4 +1,4 @@
--- The rules in checking order, as five refusals: the plan's, the verdict's, the pair list's, the tidy copy's, the crossings'. 01, "Rules, in checking order": "A refusal
+-- The rules in checking order, as five refusals: the plan's, the verdict's, the pair list's, a copy's, the crossings'. 01, "Rules, in checking order": "A refusal
 -- returns its number and a line (0 where none is named) .. Each rule is tested over the whole text before the next." The rules 4 to 9, 12 and 13 are said of the list of
 -- forms and name a form by its number, from 1; `inFile` names its line in the file. 02, change 5, of rule 10: "take it out, its number unused".
 use Prim.Native.Nat.{ℕ, zero, suc, _-_}
@@ -123,9 +123,10 @@ verdictRefusal text lent = orElse (planRefusal text) (tooFewEntries (planOf text
 unfoldable pub pairsRefusal : List ℕ → ℕ → ℕ → Option Refusal
 pairsRefusal text p lent = orElse (refusedIf 1 (ltb lent maxPairs)) (orElse (planRefusal text) (refusedIf 11 (leb (length (planOf text .procs)) p)))
 
--- the tidy copy's: 02, change 1, "The output must hold 32,768 bytes, otherwise rule 1 applies.", then the plan's
-unfoldable pub tidyRefusal : List ℕ → ℕ → Option Refusal
-tidyRefusal text lent = orElse (refusedIf 1 (ltb lent maxBytes)) (planRefusal text)
+-- a copy's: 02, change 1, of the tidy one, "The output must hold 32,768 bytes, otherwise rule 1 applies.", then the plan's; change 8, of the straightened one: "into an output as
+-- for the tidy one"
+unfoldable pub copyRefusal : List ℕ → ℕ → Option Refusal
+copyRefusal text lent = orElse (refusedIf 1 (ltb lent maxBytes)) (planRefusal text)
 
 -- 14, 02, change 7: "a thread not there or the same one twice", of t and u where there are n threads
 unfoldable pub areNoTwo : ℕ → ℕ → ℕ → Bool

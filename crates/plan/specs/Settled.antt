@@ -4,9 +4,9 @@ use mathlib.Core.Bool.{false}
 use mathlib.Core.List.{List, [], _∷_}
 use mathlib.Core.Option.{none}
 use mathlib.Core.Path.{_≡_}
-use lib.ListN.{length, getD}
+use lib.ListN.{length}
 use Rattle.limits.specs.Limits.{maxProcs, maxStatements, maxThreads, maxBrackets}
-use Rattle.semantics.specs.Plan.{Block, done, skip, call, hold, loop, either, end, LockPlan, bodyIn, Written, WellFormed}
+use Rattle.semantics.specs.Plan.{Block, done, skip, call, hold, loop, either, end, LockPlan, threadProc, bodyIn, Written, WellFormed}
 use Rattle.plan.specs.Grammar.{forms, planIn}
 use Rattle.plan.specs.Table.{tableForms}
 use Rattle.plan.specs.Rules.{recursive, tooLarge}
@@ -39,7 +39,7 @@ nesting (end l r) = nesting r
 pub record Settled (plan : LockPlan) : Type 0 where
   pub callees-present : (p : ℕ) → Written (λ q. q < length (plan .procs)) (bodyIn (plan .procs) p)
   pub filled : (p : ℕ) → p < length (plan .procs) → WellFormed false (bodyIn (plan .procs) p)
-  pub threads-present : (t : ℕ) → t < length (plan .threads) → getD (plan .threads) t 0 < length (plan .procs)
+  pub threads-present : (t : ℕ) → t < length (plan .threads) → threadProc plan t < length (plan .procs)
   pub some-proc : 0 < length (plan .procs)
   pub some-thread : 0 < length (plan .threads)
   pub few-procs : length (plan .procs) ≤ maxProcs

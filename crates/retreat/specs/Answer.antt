@@ -7,7 +7,7 @@ use lib.ListN.{length, getD}
 use Rattle.limits.specs.Limits.{maxThreads, maxEntries}
 use Rattle.laws.specs.Mask.{inMask}
 use Rattle.laws.specs.Wrote.{Wrote}
-use Rattle.semantics.specs.Plan.{LockPlan, Ranks, bodyIn}
+use Rattle.semantics.specs.Plan.{LockPlan, threadProc, Ranks, bodyIn}
 use Rattle.semantics.specs.Run.{initial}
 use Rattle.semantics.specs.Sizes.{sizeOf}
 use Rattle.semantics.specs.Stuck.{Schedule}
@@ -39,11 +39,11 @@ pub record Right (plan : LockPlan) (vss : List (List ℕ)) (k : ℕ) (thread pai
   pub ranks : Ranks (plan .procs)
   pub cycle : Cycle vss k thread pair
   pub present : (i : ℕ) → i < k → thread i < t .threads
-  pub path : (i : ℕ) → i < k → Finds (plan .procs) (initial (plan .procs) (getD (plan .threads) (thread i) 0)) (pair i) (pathOf steps (t .positions) (thread i))
-  pub short : (i : ℕ) → i < k → getD (t .positions) (thread i) 0 ≤ sizeOf (plan .procs) (getD (plan .threads) (thread i) 0)
+  pub path : (i : ℕ) → i < k → Finds (plan .procs) (initial (plan .procs) (threadProc plan (thread i))) (pair i) (pathOf steps (t .positions) (thread i))
+  pub short : (i : ℕ) → i < k → getD (t .positions) (thread i) 0 ≤ sizeOf (plan .procs) (threadProc plan (thread i))
   pub wants : (i : ℕ) → i < k → getD (t .wanted) (thread i) 0 ≡ 2 ^ wantedOf (pair i)
   pub others : (u : ℕ) → u < t .threads → ((i : ℕ) → i < k → thread i ≢ u) → (getD (t .positions) u 0 ≡ 0) × (getD (t .wanted) u 0 ≡ getD (t .begins) u 0)
-  pub begins-with : (u : ℕ) → u < t .threads → getD (t .begins) u 0 ≡ firstWanted (bodyIn (plan .procs) (getD (plan .threads) u 0))
+  pub begins-with : (u : ℕ) → u < t .threads → getD (t .begins) u 0 ≡ firstWanted (bodyIn (plan .procs) (threadProc plan u))
 
 -- The entries written are a schedule of every plan that the tables are right for, with the largest stuck set at its end; the rest of the buffer is kept.
 pub record Scheduled (steps : List ℕ) (t : Targets) (before : List ℕ) (count stuck : ℕ) (after : List ℕ) : Type 0 where

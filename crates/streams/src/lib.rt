@@ -1,5 +1,5 @@
-// The standard streams of a program: a text read from standard input, and printed to standard output the report on a text, part by part, its tidy copy, or the
-// slip of the space that it needs.
+// The standard streams of a program: a text read from standard input, and printed to standard output the report on a text, part by part, its tidy copy or
+// its straightened one, or the slip of the space that it needs.
 ghost use Prim.Native.Nat.{_≤_};
 ghost use mathlib.Core.Bool.{true};
 ghost use mathlib.Core.Path.{_≡_};
@@ -76,10 +76,10 @@ pub fn print_report(text: &[u8]) -> bool {
     print_text(text, &mut table, &mut entries, &mut out)
 }
 
-// The tidy copy of a text, or the line of its refusal: whether all of it was written.
-pub fn print_tidy(text: &[u8]) -> bool {
+// The tidy copy of a text or the straightened one, or the line of its refusal: whether all of it was written.
+pub fn print_copy(text: &[u8], straighten: bool) -> bool {
     let mut out = [0u8; MAX_BYTES];
-    let n = tidy_text::put_printed(text, &mut out);
+    let n = copies::put_printed(text, straighten, &mut out);
     io::write_all(1, &out[0..n])
 }
 

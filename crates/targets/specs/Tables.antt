@@ -6,7 +6,7 @@ use mathlib.Core.Option.{none}
 use mathlib.Core.Path.{_≡_}
 use lib.ListN.{length, getD, set, take, drop}
 use Rattle.limits.specs.Limits.{maxSize}
-use Rattle.semantics.specs.Plan.{bodyIn, Ranks}
+use Rattle.semantics.specs.Plan.{threadProc, bodyIn, Ranks}
 use Rattle.semantics.specs.Run.{initial}
 use Rattle.semantics.specs.Sizes.{sizeOf}
 use Rattle.semantics.specs.Pairs.{wantedOf, pairs, pairList}
@@ -29,7 +29,7 @@ pairLists ws = map (pairList (tablePlan ws .procs)) (tablePlan ws .threads)
 
 -- the procedure that thread t of a plan runs
 unfoldable pub procOf : List ℕ → ℕ → ℕ
-procOf ws t = getD (tablePlan ws .threads) t 0
+procOf ws t = threadProc (tablePlan ws) t
 
 -- the lock, as a mask, that thread t of a plan begins with a hold of
 unfoldable pub beginOf : List ℕ → ℕ → ℕ

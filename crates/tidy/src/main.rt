@@ -1,4 +1,4 @@
-// The tidy copy of the plan that standard input holds, or the line of its refusal. What it prints is decided by the library `tidy_text`; a stream that fails is told on
+// The tidy copy of the plan that standard input holds, or the line of its refusal. What it prints is decided by the library `copies`; a stream that fails is told on
 // standard error.
 use streams::TEXT_ROOM;
 
@@ -8,7 +8,7 @@ fn tidy_input(text: &[u8], whole: bool) {
         io::write_all(2, b"tidy: standard input cannot be read\n");
         return;
     }
-    if !streams::print_tidy(text) {
+    if !streams::print_copy(text, false) {
         io::write_all(2, b"tidy: the copy cannot be written\n");
     }
 }

@@ -43,6 +43,18 @@ pub unsafe extern "C" fn lockplan_tidy(
 }
 
 /// # Safety
+/// `text` and `out` point to as many bytes as their lengths say.
+#[no_mangle]
+pub unsafe extern "C" fn lockplan_straight(
+    text: *const u8,
+    text_len: usize,
+    out: *mut u8,
+    out_len: usize,
+) -> u64 {
+    standin::straight(from_raw_parts(text, text_len), from_raw_parts_mut(out, out_len))
+}
+
+/// # Safety
 /// `text` points to as many bytes as its length says.
 #[no_mangle]
 pub unsafe extern "C" fn lockplan_space(text: *const u8, text_len: usize) -> u64 {

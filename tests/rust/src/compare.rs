@@ -6,14 +6,15 @@ use crate::gateway::replay;
 use crate::guard::Pages;
 use crate::random::Random;
 use crate::reference::{read, Plan, Refusal, MAX_PAIRS, MAX_SUM};
+use crate::straight::straight;
 use crate::tidy::{tidy, COPY_BYTES};
 use crate::twins::Twins;
 use crate::verdict::deadlocks;
 
 /// Text and output.
 pub type VerdictCall = fn(&[u8], &mut [u8]) -> u64;
-/// Text and output.
-pub type TidyCall = fn(&[u8], &mut [u8]) -> u64;
+/// Text and output, for the tidy or the straightened copy.
+pub type CopyCall = fn(&[u8], &mut [u8]) -> u64;
 /// Text, procedure and output.
 pub type PairsCall = fn(&[u8], u64, &mut [u8]) -> u64;
 /// Text.
@@ -26,7 +27,8 @@ pub type CrossingsCall = fn(&[u8], u64, u64, &mut [u8]) -> u64;
 pub struct Calls {
     pub verdict: VerdictCall,
     pub pairs: PairsCall,
-    pub tidy: TidyCall,
+    pub tidy: CopyCall,
+    pub straight: CopyCall,
     pub space: SpaceCall,
     pub crossings: CrossingsCall,
 }
@@ -121,6 +123,7 @@ pub struct Counts {
     /// Of accepted plans, lent one entry less.
     pub one_less: u64,
     pub copies: u64,
+    pub straights: u64,
     pub spaces: u64,
     pub crossings: u64,
     /// Refused by rule 14.
@@ -131,6 +134,7 @@ pub struct Counts {
     pub words: u64,
     pub entries: u64,
     pub copied: u64,
+    pub straightened: u64,
     pub couples: u64,
 }
 
@@ -139,8 +143,9 @@ struct Said {
     text: Vec<u8>,
     plan: Result<Plan, Refusal>,
     outcome: Outcome,
-    /// The tidy copy, empty where the text is refused.
-    copy: Vec<u8>,
+    /// The tidy copy and the straightened one, empty where the text is refused.
+    tidy: Vec<u8>,
+    straight: Vec<u8>,
 }
 
 impl Said {
@@ -216,6 +221,8 @@ impl Bench {
         }
         let lent = self.lend(text, COPY.about(random), random);
         self.tidy(calls.tidy, &said, lent)?;
+        let lent = self.lend(text, COPY.about(random), random);
+        self.straight(calls.straight, &said, lent)?;
         let lent = self.lend(text, 0, random);
         self.space(calls.space, &said, lent)?;
         let two = two_threads(&said.plan, 6, random);
@@ -280,7 +287,7 @@ impl Bench {
         Lent { start, text: text.to_vec(), out, len }
     }
 
-    /// What a pair list or a tidy copy must answer by the lent length and the text, if
+    /// What a pair list or a copy must answer by the lent length and the text, if
     /// it is refused.
     fn refusal(plan: &Result<Plan, Refusal>, lent: &Lent, least: Least) -> Option<Refusal> {
         if lent.len < least.bytes {
@@ -364,19 +371,37 @@ impl Bench {
         self.left("verdict", answered, expected, &lent)
     }
 
-    fn tidy(&mut self, call: TidyCall, said: &Said, lent: Lent) -> Result<(), String> {
+    fn tidy(&mut self, call: CopyCall, said: &Said, lent: Lent) -> Result<(), String> {
         self.counts.copies += 1;
+        self.counts.copied += self.copy("tidy copy", call, said, &said.tidy, lent)?;
+        Ok(())
+    }
+
+    fn straight(&mut self, call: CopyCall, said: &Said, lent: Lent) -> Result<(), String> {
+        self.counts.straights += 1;
+        self.counts.straightened += self.copy("straightened copy", call, said, &said.straight, lent)?;
+        Ok(())
+    }
+
+    /// The bytes of a copy that is written where nothing is refused.
+    fn copy(
+        &mut self,
+        what: &str,
+        call: CopyCall,
+        said: &Said,
+        copy: &[u8],
+        lent: Lent,
+    ) -> Result<u64, String> {
         let number = self.call(&lent, call);
         let mut expected = std::mem::take(&mut self.before);
-        let answer = match Bench::refusal(&said.plan, &lent, COPY) {
-            Some(refusal) => Answer::refused(refusal),
+        let (answer, written) = match Bench::refusal(&said.plan, &lent, COPY) {
+            Some(refusal) => (Answer::refused(refusal), 0),
             None => {
-                expected[lent.out..lent.out + said.copy.len()].copy_from_slice(&said.copy);
-                self.counts.copied += said.copy.len() as u64;
-                Answer { kind: COPIED, a: 0, b: said.copy.len() as u64 }
+                expected[lent.out..lent.out + copy.len()].copy_from_slice(copy);
+                (Answer { kind: COPIED, a: 0, b: copy.len() as u64 }, copy.len() as u64)
             }
         };
-        self.left("tidy copy", same_answer(number, answer), expected, &lent)
+        self.left(what, same_answer(number, answer), expected, &lent).map(|()| written)
     }
 
     /// No buffer is lent to it, and nothing changes.
@@ -475,8 +500,8 @@ fn say(text: &[u8], known: Option<bool>) -> Said {
         Ok(plan) if known.unwrap_or_else(|| deadlocks(plan)) => Outcome::Deadlock,
         Ok(_) => Outcome::Free,
     };
-    let copy = plan.as_ref().map(tidy).unwrap_or_default();
-    Said { text: text.to_vec(), plan, outcome, copy }
+    let (tidy, straight) = plan.as_ref().map(|plan| (tidy(plan), straight(plan))).unwrap_or_default();
+    Said { text: text.to_vec(), plan, outcome, tidy, straight }
 }
 
 fn same_answer(number: u64, expected: Answer) -> Result<(), String> {

@@ -1,5 +1,6 @@
 //! Plan texts by a seed: right ones, small and near every limit, and damaged ones.
 
+use crate::branches::about_branches;
 use crate::families::{self, hold, nest, skips, Draft, Tree};
 use crate::full;
 use crate::idle::{about_idle, employed, with_idle};
@@ -31,7 +32,7 @@ pub struct Shape {
 }
 
 /// A shape, its parts in the order of the struct.
-const fn shape(
+pub const fn shape(
     procs: (usize, usize),
     threads: (usize, usize),
     locks: usize,
@@ -1223,7 +1224,7 @@ pub fn generate(random: &mut Random) -> Case {
 /// One text that is not indented, or only by a damage.
 fn plain(random: &mut Random) -> Case {
     let case = |kind, draft: Draft| Case { kind, text: draft.text() };
-    match random.weighted(&[12, 12, 8, 8, 10, 8, 8, 5, 13, 5, 2, 8, 8, 9, 5, 4, 9, 10]) {
+    match random.weighted(&[12, 12, 8, 8, 10, 8, 8, 5, 13, 5, 2, 8, 8, 9, 5, 4, 9, 10, 12]) {
         0 => case("tiny", plan(random, &TINY)),
         1 => case("small", plan(random, &SMALL)),
         2 => case("nested", plan(random, &NESTED)),
@@ -1254,6 +1255,7 @@ fn plain(random: &mut Random) -> Case {
         14 => case("spaces", spaces(random)),
         15 => case("many pairs in one", many_pairs(random)),
         16 => case("idle procedures", about_idle(random)),
-        _ => case("two threads", about_crossings(random)),
+        17 => case("two threads", about_crossings(random)),
+        _ => case("eithers and loops", about_branches(random)),
     }
 }

@@ -1,7 +1,8 @@
 //! Texts as long as a text may be: bare ones, and ones that are mostly passed
 //! over, each beside a bare one. Their times say what passing over costs.
 
-use crate::families::{hold, nest, skips, Draft};
+use crate::branches::choices;
+use crate::families::{hold, nest, skips, Draft, Tree};
 use crate::generate::bytes;
 use crate::indent::Padding;
 use crate::random::Random;
@@ -64,17 +65,25 @@ fn padded(padding: Padding) -> Vec<Long> {
 }
 
 /// The shelf's plan of 1,021 skips with as much before each line, of each kind.
-fn spread() -> Vec<Long> {
-    let mut block = skips(1_021);
-    block.push(hold(0, vec![]));
-    let text = Draft::each(vec![block]).text();
+fn spread_skips() -> Vec<Long> {
+    spread("spread", [skips(1_021), vec![hold(0, vec![])]].concat())
+}
+
+/// That of 341 eithers, of which a straightened copy leaves out most lines.
+fn spread_eithers() -> Vec<Long> {
+    spread("eithers", [choices(341), skips(1)].concat())
+}
+
+/// A thread of a body with as much before each line, of each kind.
+fn spread(name: &str, body: Vec<Tree>) -> Vec<Long> {
+    let text = Draft::each(vec![body]).text();
     let lines: Vec<&[u8]> = text.split_inclusive(|byte| *byte == 10).collect();
     let each = (MAX_BYTES - text.len()) / lines.len();
     let one = |padding: Padding| {
         let body: Vec<u8> =
             lines.iter().flat_map(|line| [padding.bytes(each).as_slice(), *line].concat()).collect();
         let text = padding.fill(&body, MAX_BYTES, 0);
-        Long { name: format!("spread-{}", padding.name()), text, rule: None, beside: "bare-5" }
+        Long { name: format!("{name}-{}", padding.name()), text, rule: None, beside: "bare-5" }
     };
     Padding::ALL.into_iter().map(one).collect()
 }
@@ -82,5 +91,5 @@ fn spread() -> Vec<Long> {
 /// All of them, the bare ones first.
 pub fn all() -> Vec<Long> {
     let padded = Padding::ALL.into_iter().flat_map(padded);
-    bare().into_iter().chain(padded).chain(spread()).collect()
+    bare().into_iter().chain(padded).chain(spread_skips()).chain(spread_eithers()).collect()
 }

@@ -2,6 +2,8 @@
 //! the comparison of both with the library.
 
 pub mod answer;
+pub mod askew;
+pub mod branches;
 pub mod climb;
 pub mod compare;
 pub mod crossings;
@@ -26,6 +28,7 @@ pub mod report;
 pub mod shelf;
 pub mod slip;
 pub mod standin;
+pub mod straight;
 pub mod tidy;
 pub mod times;
 pub mod twins;

@@ -6,6 +6,7 @@ extern "C" {
     fn lockplan_verdict(text: *const u8, text_len: usize, out: *mut u8, out_len: usize) -> u64;
     fn lockplan_pairs(text: *const u8, text_len: usize, proc: u64, out: *mut u8, out_len: usize) -> u64;
     fn lockplan_tidy(text: *const u8, text_len: usize, out: *mut u8, out_len: usize) -> u64;
+    fn lockplan_straight(text: *const u8, text_len: usize, out: *mut u8, out_len: usize) -> u64;
     fn lockplan_space(text: *const u8, text_len: usize) -> u64;
     fn lockplan_crossings(
         text: *const u8,
@@ -32,6 +33,11 @@ pub fn tidy(text: &[u8], out: &mut [u8]) -> u64 {
     unsafe { lockplan_tidy(text.as_ptr(), text.len(), out.as_mut_ptr(), out.len()) }
 }
 
+pub fn straight(text: &[u8], out: &mut [u8]) -> u64 {
+    // SAFETY: as above.
+    unsafe { lockplan_straight(text.as_ptr(), text.len(), out.as_mut_ptr(), out.len()) }
+}
+
 pub fn space(text: &[u8]) -> u64 {
     // SAFETY: as above.
     unsafe { lockplan_space(text.as_ptr(), text.len()) }
@@ -42,4 +48,4 @@ pub fn crossings(text: &[u8], first: u64, second: u64, out: &mut [u8]) -> u64 {
     unsafe { lockplan_crossings(text.as_ptr(), text.len(), first, second, out.as_mut_ptr(), out.len()) }
 }
 
-pub const CALLS: Calls = Calls { verdict, pairs, tidy, space, crossings };
+pub const CALLS: Calls = Calls { verdict, pairs, tidy, straight, space, crossings };

@@ -1,5 +1,8 @@
 //! The plans of the reference shelf and other fixed texts, with what they give.
 
+use std::path::PathBuf;
+
+use crate::branches::{choices, eithers, rounds};
 use crate::families::{detours, hold, nest, philosophers, skips, Draft, Tree};
 use crate::full::around;
 use crate::generate::doubling;
@@ -30,6 +33,8 @@ pub struct Entry {
     pub sizes: Vec<u64>,
     /// Two threads and how many couples they have, where it is stated.
     pub couples: Vec<(u64, u64, usize)>,
+    /// The bodies of the straightened copy, where they are stated.
+    pub straight: Vec<Vec<Tree>>,
 }
 
 impl Entry {
@@ -48,8 +53,20 @@ impl Entry {
 /// All fixed texts.
 pub fn all() -> Vec<Entry> {
     let small = [shelf(), crossings(), others(), calls(), idle_procedures(), remarked(), spaces()];
-    let large = [many_pairs(), many_couples()];
+    let large = [many_pairs(), many_couples(), branching()];
     small.into_iter().chain(large).flatten().collect()
+}
+
+/// The plans in the files of a folder, whose path is from this package on, by name.
+pub fn plans_in(folder: &str) -> Vec<(String, Vec<u8>)> {
+    let files = std::fs::read_dir(format!("{}/{folder}", env!("CARGO_MANIFEST_DIR"))).unwrap();
+    let paths = files.map(|file| file.unwrap().path());
+    let plans = paths.filter(|path| path.extension().is_some_and(|end| end == "plan"));
+    let named =
+        |path: PathBuf| (path.file_stem().unwrap().display().to_string(), std::fs::read(&path).unwrap());
+    let mut all: Vec<(String, Vec<u8>)> = plans.map(named).collect();
+    all.sort();
+    all
 }
 
 /// All fixed texts indented, each at several seeds.
@@ -58,7 +75,16 @@ pub fn all_indented() -> Vec<Entry> {
 }
 
 fn entry(name: &'static str, draft: Draft, gives: Gives) -> Entry {
-    Entry { name, text: draft.text(), gives, words: vec![], schedule: None, sizes: vec![], couples: vec![] }
+    Entry {
+        name,
+        text: draft.text(),
+        gives,
+        words: vec![],
+        schedule: None,
+        sizes: vec![],
+        couples: vec![],
+        straight: vec![],
+    }
 }
 
 fn text(name: &'static str, text: &[u8], rule: u8, line: usize) -> Entry {
@@ -123,13 +149,17 @@ pub fn shelf() -> Vec<Entry> {
             schedule: Some(vec![8, 0, 1]),
             sizes: vec![7, 5],
             couples: vec![(0, 1, 1)],
+            straight: vec![vec![nest(&[0, 1], vec![]), Tree::Skip], chain(&[1, 0])],
             ..entry(
                 "H",
                 Draft::each(vec![vec![Tree::Either(chain(&[0, 1]), skips(1))], chain(&[1, 0])]),
                 Deadlock(3),
             )
         },
-        entry("I", Draft { procs: vec![vec![Tree::Loop(vec![hold(0, vec![])])]], threads: vec![0, 0] }, Free),
+        Entry {
+            straight: vec![chain(&[0])],
+            ..entry("I", Draft { procs: vec![vec![Tree::Loop(chain(&[0]))]], threads: vec![0, 0] }, Free)
+        },
         text("J", b"", 4, 1),
         text("K", b"(plan\n(proc\n)\n", 4, 3),
         entry("doubling, procedure 8", doubling(8), Free),
@@ -608,6 +638,11 @@ fn named_idle() -> Vec<Entry> {
         entry(
             "an idle one called by a later idle one",
             calling(&[], &[skips(1), skips(1), vec![Tree::Call(1)]]),
+            Refused(13, 5),
+        ),
+        entry(
+            "an idle one called in an idle loop",
+            first(vec![skips(1), vec![Tree::Loop(vec![Tree::Call(2)])], skips(1)]),
             Refused(13, 5),
         ),
         entry(
@@ -1105,4 +1140,287 @@ pub fn many_couples() -> Vec<Entry> {
         // locks, for sixteen chains, but not by one at 31; and the other way round.
         couples_of("496 pairs, crossed", both_around(), Deadlock(3), &[(0, 1, 2 * (16 * 113 - 113))]),
     ]
+}
+
+/// Fixed texts of eithers and loops.
+pub fn branching() -> Vec<Entry> {
+    let mut all = branched();
+    all.extend(deep_branches());
+    all.extend(judged_branches());
+    all.extend(called_in_branches());
+    all.extend(as_many_branches_as_allowed());
+    all.extend(refused_unlike_the_copy());
+    all.extend(branches_in_the_file());
+    all
+}
+
+/// A text with the bodies of its straightened copy.
+fn straight_of(name: &'static str, draft: Draft, gives: Gives, straight: Vec<Vec<Tree>>) -> Entry {
+    Entry { straight, ..entry(name, draft, gives) }
+}
+
+/// One thread of a body that is free, and the body of its straightened copy.
+fn straight_body(name: &'static str, body: Vec<Tree>, straight: Vec<Tree>) -> Entry {
+    straight_of(name, first(vec![body]), Gives::Free, vec![straight])
+}
+
+/// A hold of each lock, one after the other.
+fn holds(locks: std::ops::Range<usize>) -> Vec<Tree> {
+    locks.map(|lock| hold(lock, vec![])).collect()
+}
+
+/// Where the blocks of eithers and loops stand in the copy.
+fn branched() -> Vec<Entry> {
+    let either = |one: usize, two: usize| Tree::Either(chain(&[one]), chain(&[two]));
+    let around = vec![Tree::Loop(
+        [holds(0..1), vec![Tree::Either(vec![Tree::Loop(chain(&[1]))], chain(&[2]))], holds(3..4)].concat(),
+    )];
+    let within = vec![Tree::Either(
+        vec![Tree::Loop(vec![either(0, 1), hold(2, vec![])])],
+        vec![Tree::Loop(holds(3..5))],
+    )];
+    let last = vec![
+        hold(9, vec![Tree::Skip, either(0, 1)]),
+        Tree::Loop(vec![hold(2, vec![]), either(3, 4)]),
+        either(5, 6),
+    ];
+    let last_straight = [vec![hold(9, [skips(1), holds(0..2)].concat())], holds(2..7)].concat();
+    let inside = vec![hold(
+        0,
+        vec![
+            Tree::Loop(vec![hold(1, vec![either(2, 3), hold(4, vec![])]), hold(5, vec![])]),
+            hold(6, vec![]),
+        ],
+    )];
+    let inside_straight = vec![hold(0, vec![hold(1, holds(2..5)), hold(5, vec![]), hold(6, vec![])])];
+    let of_skips = vec![Tree::Loop(vec![Tree::Either(skips(1), vec![Tree::Loop(skips(2))]), Tree::Skip])];
+    vec![
+        straight_body("an either of two holds", vec![either(1, 0)], vec![hold(1, vec![]), hold(0, vec![])]),
+        straight_body(
+            "an either between holds",
+            vec![hold(0, vec![]), either(1, 2), hold(3, vec![])],
+            holds(0..4),
+        ),
+        straight_body(
+            "an either of longer blocks",
+            vec![Tree::Either(holds(0..3), holds(3..7))],
+            holds(0..7),
+        ),
+        straight_body("equal blocks of an either", choices(1), skips(2)),
+        straight_body("a loop of three holds", vec![Tree::Loop(holds(0..3))], holds(0..3)),
+        straight_body("a loop around an either around a loop", around, holds(0..4)),
+        straight_body("an either around loops around an either", within, holds(0..5)),
+        straight_body("eithers as last statements", last, last_straight),
+        straight_body("holds around and within", inside, inside_straight),
+        straight_body("eithers, loops and skips alone", of_skips, skips(4)),
+    ]
+}
+
+/// Eithers and loops as deep as allowed.
+fn deep_branches() -> Vec<Entry> {
+    // The innermost blocks have no room for a hold.
+    let eight = |first_blocks: bool| {
+        (1..8).rev().fold(vec![Tree::Either(skips(1), skips(2))], |inner, lock| match first_blocks {
+            true => vec![Tree::Either(inner, chain(&[lock]))],
+            false => vec![Tree::Either(chain(&[lock]), inner)],
+        })
+    };
+    let sixteen = |around: fn(usize, Vec<Tree>) -> Tree| {
+        (0..16).rev().fold(skips(1), |inner, at| vec![around(at, inner)])
+    };
+    let holds_and_loops = sixteen(|at, inner| if at % 2 == 0 { hold(at, inner) } else { Tree::Loop(inner) });
+    let mut next = 0..;
+    let mut locks = || hold(next.next().expect("endless") % 32, vec![]);
+    let seven = eithers(7, &mut locks);
+    let mut next = 0..;
+    let mut calls = || Tree::Call(1 + next.next().expect("endless") % 63);
+    let by_calls = first([vec![eithers(8, &mut calls)], vec![skips(1); 63]].concat());
+    let straight_calls = (0..256).map(|at| Tree::Call(1 + at % 63)).collect();
+    vec![
+        straight_body(
+            "8 eithers, first blocks",
+            eight(true),
+            [skips(3), holds(1..8).into_iter().rev().collect()].concat(),
+        ),
+        straight_body("8 eithers, second blocks", eight(false), [holds(1..8), skips(3)].concat()),
+        straight_body("16 loops around a skip", sixteen(|_, inner| Tree::Loop(inner)), skips(1)),
+        straight_body("8 holds and 8 loops in turn", holds_and_loops, chain(&[0, 2, 4, 6, 8, 10, 12, 14])),
+        straight_body("128 holds in 7 eithers", seven, (0..4).flat_map(|_| holds(0..32)).collect()),
+        straight_of(
+            "256 calls in 8 eithers",
+            by_calls,
+            Gives::Free,
+            [vec![straight_calls], vec![skips(1); 63]].concat(),
+        ),
+    ]
+}
+
+/// Free or deadlock by what stands in eithers and loops.
+fn judged_branches() -> Vec<Entry> {
+    use Gives::{Deadlock, Free};
+    let both = || vec![Tree::Either(chain(&[0, 1]), chain(&[1, 0]))];
+    let both_straight = || vec![nest(&[0, 1], vec![]), nest(&[1, 0], vec![])];
+    let run_by_two = |body: Vec<Tree>| run_by(&[0, 0], first(vec![body]));
+    let second = |locks: &[usize]| vec![Tree::Either(skips(1), chain(locks))];
+    let second_straight = |locks: &[usize]| [skips(1), chain(locks)].concat();
+    let ring = [[1, 0], [2, 1], [0, 2]];
+    vec![
+        straight_of("both orders in an either, one thread", first(vec![both()]), Free, vec![both_straight()]),
+        straight_of(
+            "both orders in an either, two threads",
+            run_by_two(both()),
+            Deadlock(3),
+            vec![both_straight()],
+        ),
+        straight_of(
+            "both orders in an either in a loop",
+            run_by_two(vec![Tree::Loop(both())]),
+            Deadlock(3),
+            vec![both_straight()],
+        ),
+        straight_of(
+            "both orders in an either inside a guard",
+            run_by_two(vec![hold(2, both())]),
+            Free,
+            vec![vec![hold(2, both_straight())]],
+        ),
+        straight_of(
+            "crossed in second blocks",
+            Draft::each(vec![second(&[0, 1]), second(&[1, 0])]),
+            Deadlock(3),
+            vec![second_straight(&[0, 1]), second_straight(&[1, 0])],
+        ),
+        straight_of(
+            "a ring in second blocks",
+            Draft::each(ring.map(|locks| second(&locks)).to_vec()),
+            Deadlock(7),
+            ring.map(|locks| second_straight(&locks)).to_vec(),
+        ),
+        // A run of the copy has to pass the loop.
+        straight_of(
+            "crossed behind a loop",
+            Draft::each(vec![[vec![Tree::Loop(chain(&[5]))], chain(&[0, 1])].concat(), chain(&[1, 0])]),
+            Deadlock(3),
+            vec![[chain(&[5]), chain(&[0, 1])].concat(), chain(&[1, 0])],
+        ),
+        straight_of(
+            "held one after the other in a loop",
+            run_by_two(vec![Tree::Loop(holds(0..2))]),
+            Free,
+            vec![holds(0..2)],
+        ),
+    ]
+}
+
+/// Calls inside eithers and loops alone.
+fn called_in_branches() -> Vec<Entry> {
+    use Gives::{Deadlock, Free, Refused};
+    let call = |callee: usize| vec![Tree::Call(callee)];
+    let used = vec![Tree::Either(vec![Tree::Loop(call(1))], call(2))];
+    let a = vec![
+        vec![hold(0, vec![Tree::Either(skips(1), call(2))])],
+        vec![hold(1, vec![Tree::Loop(call(3))])],
+        chain(&[1]),
+        chain(&[0]),
+    ];
+    let a_straight =
+        vec![vec![hold(0, [skips(1), call(2)].concat())], vec![hold(1, call(3))], chain(&[1]), chain(&[0])];
+    let circle = vec![vec![Tree::Either(skips(1), call(1))], vec![Tree::Loop(call(0))]];
+    vec![
+        straight_of(
+            "called in an either and a loop alone",
+            first(vec![used, skips(1), skips(1)]),
+            Free,
+            vec![[call(1), call(2)].concat(), skips(1), skips(1)],
+        ),
+        straight_of("A by calls in an either and a loop", run_by(&[0, 1], first(a)), Deadlock(3), a_straight),
+        entry("a circle through an either and a loop", first(circle), Refused(12, 2)),
+    ]
+}
+
+/// Plans of 1,024 statements, or of size 1,024.
+fn as_many_branches_as_allowed() -> Vec<Entry> {
+    use Gives::Free;
+    let tree = eithers(8, &mut || Tree::Skip);
+    let tower = (1..16).fold(Tree::Loop(skips(1)), |inner, _| Tree::Loop(vec![inner]));
+    let towers = [vec![tower; 30], skips(2)].concat();
+    let full = || [choices(341), skips(1)].concat();
+    vec![
+        Entry {
+            sizes: vec![1_024; 6],
+            ..straight_of(
+                "1,024 statements of 341 eithers",
+                run_by(&[0; 6], first(vec![full()])),
+                Free,
+                vec![skips(683)],
+            )
+        },
+        straight_body(
+            "1,024 statements of 510 eithers in each other",
+            [tree.clone(), tree, skips(2)].concat(),
+            skips(514),
+        ),
+        straight_of(
+            "1,024 statements of 512 loops",
+            Draft::each(vec![rounds(256); 2]),
+            Free,
+            vec![skips(256); 2],
+        ),
+        straight_of(
+            "1,024 statements of 960 loops in each other",
+            Draft::each(vec![towers; 2]),
+            Free,
+            vec![skips(32); 2],
+        ),
+        straight_of(
+            "1,024 statements without eithers and loops",
+            Draft::each(vec![vec![hold(0, vec![]); 256]; 2]),
+            Free,
+            vec![vec![hold(0, vec![]); 256]; 2],
+        ),
+        Entry {
+            sizes: vec![1_024],
+            ..straight_body("size 1,024 of 340 loops", [rounds(340), skips(4)].concat(), skips(344))
+        },
+    ]
+}
+
+/// Plans that are refused, though their straightened copies would not be.
+fn refused_unlike_the_copy() -> Vec<Entry> {
+    use Gives::Refused;
+    let in_a_loop = [vec![Tree::Loop(choices(340))], skips(3)].concat();
+    let by_calls = calling(&[&[1, 1]], &[rounds(171)]);
+    let brackets = (0..16).fold(chain(&[0]), |inner, _| vec![Tree::Loop(inner)]);
+    vec![
+        entry("size 1,025 of 341 loops", first(vec![[rounds(341), skips(2)].concat()]), Refused(9, 2)),
+        entry("size 1,025 of eithers in a loop", first(vec![in_a_loop]), Refused(9, 2)),
+        entry("size 1,028 of loops through calls", by_calls, Refused(9, 2)),
+        entry(
+            "1,025 statements of 341 eithers",
+            first(vec![[choices(341), skips(2)].concat()]),
+            Refused(5, 2 + 341 * 8 + 2),
+        ),
+        entry("a hold inside 16 loops", first(vec![brackets]), Refused(5, 2 + 17)),
+    ]
+}
+
+/// Eithers and loops with what is passed over.
+fn branches_in_the_file() -> Vec<Entry> {
+    let plan = b"; a choice\n(plan\n  (proc\n    (either\n      ; this\n      (one\n        (hold 0\n          (loop\n\
+        ;again\n            (skip)\n          )\n        )\n\n      )\n      (two\n   ; or that\n        (hold 1\n (skip)\n\
+        )\n      )\n    )\n\n  )\n  (thread 0)\n)\n;\n";
+    let long = first(vec![[choices(341), skips(1)].concat()]).text();
+    let mut all = vec![Entry {
+        text: plan.to_vec(),
+        ..straight_body("an either and a loop, remarked", skips(1), holds(0..2))
+    }];
+    for padding in Padding::ALL {
+        let line = 1 + 341 * 4;
+        all.push(Entry {
+            text: padding.fill(&long, MAX_BYTES, line),
+            ..straight_body("341 eithers in 32,768 bytes", skips(1), skips(683))
+        });
+        all.push(text("341 eithers in 32,769 bytes", &padding.fill(&long, MAX_BYTES + 1, line), 2, 0));
+    }
+    all
 }

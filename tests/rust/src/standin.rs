@@ -2,15 +2,17 @@
 //! comparison has to accept and to find.
 
 use crate::answer::{Answer, COPIED, CROSSED, DEADLOCK, FREE, PAIRS, SPACE};
-use crate::compare::{Calls, CrossingsCall, PairsCall, SpaceCall, TidyCall, VerdictCall};
+use crate::compare::{Calls, CopyCall, CrossingsCall, PairsCall, SpaceCall, VerdictCall};
 use crate::crossings::{self, crossed, Couple, COUPLE_BYTES};
+use crate::families::Draft;
 use crate::reference::{
     bare, lines, named, passed_over, read, sized, sizes, structure, Plan, Refusal, MAX_BYTES, MAX_PAIRS,
     MAX_SIZE, MAX_SUM,
 };
-use crate::tidy::{self, COPY_BYTES};
+use crate::straight;
+use crate::tidy::{self, tree, COPY_BYTES};
 use crate::verdict::{conflict, judge, pairs_of_threads, schedule, Verdict};
-use crate::{miscross, misread};
+use crate::{askew, miscross, misread};
 
 /// The calls over a reading of texts.
 macro_rules! calls_over {
@@ -18,7 +20,8 @@ macro_rules! calls_over {
         Calls {
             verdict: |text, out| verdict_of($reading(text), out),
             pairs: |text, proc, out| pairs_of($reading(text), proc, out),
-            tidy: |text, out| copy_of($reading(text), out),
+            tidy: |text, out| copy_of($reading(text), out, tidy::tidy),
+            straight: |text, out| copy_of($reading(text), out, straight::straight),
             space: |text| space_of($reading(text), Plan::size_of_threads),
             crossings: |text, first, second, out| crossings_of($reading(text), first, second, out),
         }
@@ -37,7 +40,7 @@ macro_rules! calls_by_sum {
 }
 
 /// The right ones.
-pub const CALLS: Calls = Calls { verdict, pairs, tidy, space, crossings };
+pub const CALLS: Calls = Calls { verdict, pairs, tidy, straight, space, crossings };
 
 pub fn pairs(text: &[u8], proc: u64, out: &mut [u8]) -> u64 {
     pairs_of(read(text), proc, out)
@@ -48,7 +51,11 @@ pub fn verdict(text: &[u8], out: &mut [u8]) -> u64 {
 }
 
 pub fn tidy(text: &[u8], out: &mut [u8]) -> u64 {
-    copy_of(read(text), out)
+    copy_of(read(text), out, tidy::tidy)
+}
+
+pub fn straight(text: &[u8], out: &mut [u8]) -> u64 {
+    copy_of(read(text), out, straight::straight)
 }
 
 pub fn space(text: &[u8]) -> u64 {
@@ -106,12 +113,12 @@ fn put_verdict(plan: &Plan, out: &mut [u8]) -> u64 {
     }
 }
 
-fn copy_of(plan: Result<Plan, Refusal>, out: &mut [u8]) -> u64 {
+fn copy_of(plan: Result<Plan, Refusal>, out: &mut [u8], copy: impl FnOnce(&Plan) -> Vec<u8>) -> u64 {
     if out.len() < COPY_BYTES {
         return short();
     }
     match plan {
-        Ok(plan) => put_copy(&tidy::tidy(&plan), out),
+        Ok(plan) => put_copy(&copy(&plan), out),
         Err(refusal) => Answer::refused(refusal).number(),
     }
 }
@@ -156,12 +163,7 @@ pub fn copy_by(text: &[u8], line: fn(&[u8]) -> Option<&[u8]>) -> Vec<u8> {
 
 /// The tidy call with a copy made from the lines.
 fn tidy_by(text: &[u8], out: &mut [u8], line: fn(&[u8]) -> Option<&[u8]>) -> u64 {
-    let number = tidy(text, &mut out.to_vec());
-    if refused(number) {
-        number
-    } else {
-        put_copy(&copy_by(text, line), out)
-    }
+    copy_of(read(text), out, |_| copy_by(text, line))
 }
 
 /// A text whose lines, with their ends, are changed before it is read.
@@ -581,25 +583,164 @@ fn short_before(rule: u64, text: &[u8], out: &mut [u8]) -> u64 {
     }
 }
 
-/// A tidy copy with a fault each.
-pub const FAULTY_TIDIES: [(&str, TidyCall); 33] = [
-    ("one byte more than written", |text, out| {
-        let number = tidy(text, out);
-        if refused(number) {
+/// A copy of a plan that a call writes.
+pub trait Copying {
+    fn copy(plan: &Plan) -> Vec<u8>;
+
+    /// The right call.
+    fn call(text: &[u8], out: &mut [u8]) -> u64 {
+        copy_of(read(text), out, Self::copy)
+    }
+}
+
+pub struct Tidy;
+
+impl Copying for Tidy {
+    fn copy(plan: &Plan) -> Vec<u8> {
+        tidy::tidy(plan)
+    }
+}
+
+pub struct Straight;
+
+impl Copying for Straight {
+    fn copy(plan: &Plan) -> Vec<u8> {
+        straight::straight(plan)
+    }
+}
+
+/// A copy with a fault each, whichever it is.
+pub fn faulty_copies<C: Copying>() -> [(&'static str, CopyCall); 28] {
+    [
+        ("one byte more than written", |text, out| {
+            let number = C::call(text, out);
+            if refused(number) {
+                number
+            } else {
+                number + 65_536
+            }
+        }),
+        ("one byte less than written", |text, out| {
+            let number = C::call(text, out);
+            if refused(number) {
+                number
+            } else {
+                number - 65_536
+            }
+        }),
+        ("the last line not ended", |text, out| {
+            let mut copy = out.to_vec();
+            let number = C::call(text, &mut copy);
+            if refused(number) {
+                return number;
+            }
+            put_copy(&copy[..(number >> 16) as usize - 1], out)
+        }),
+        ("an untouched buffer", |text, out| C::call(text, &mut out.to_vec())),
+        ("a zero behind the copy", |text, out| {
+            let number = C::call(text, out);
+            if !refused(number) {
+                out[(number >> 16) as usize] = 0;
+            }
             number
-        } else {
-            number + 65_536
-        }
-    }),
-    ("the last line not ended", |text, out| {
-        let mut copy = out.to_vec();
-        let number = tidy(text, &mut copy);
-        if refused(number) {
-            return number;
-        }
-        put_copy(&copy[..(number >> 16) as usize - 1], out)
-    }),
-    ("an untouched buffer", |text, out| tidy(text, &mut out.to_vec())),
+        }),
+        ("the rest cleared", |text, out| {
+            let number = C::call(text, out);
+            if !refused(number) {
+                out[(number >> 16) as usize..].fill(0);
+            }
+            number
+        }),
+        ("the last byte written", |text, out| {
+            let number = C::call(text, out);
+            if let (false, Some(last)) = (refused(number), out.last_mut()) {
+                *last ^= 0x55;
+            }
+            number
+        }),
+        ("a byte behind the buffer written", |text, out| {
+            // SAFETY: none; the comparison keeps the byte accessible unless it faults.
+            unsafe { *out.as_mut_ptr().add(out.len()) ^= 0x55 };
+            C::call(text, out)
+        }),
+        ("a byte before the buffer written", |text, out| {
+            // SAFETY: as above.
+            unsafe { *out.as_mut_ptr().sub(1) ^= 0x55 };
+            C::call(text, out)
+        }),
+        ("written and then refused", |text, out| {
+            let number = C::call(text, out);
+            if let (true, Some(first)) = (refused(number), out.first_mut()) {
+                *first ^= 0x55;
+            }
+            number
+        }),
+        ("rule 1 behind the others", |text, out| {
+            let number = C::call(text, &mut [0; COPY_BYTES]);
+            if refused(number) {
+                number
+            } else {
+                C::call(text, out)
+            }
+        }),
+        ("rule 1 only where the copy does not fit", |text, out| {
+            let mut copy = vec![0; COPY_BYTES];
+            let number = C::call(text, &mut copy);
+            if refused(number) || (number >> 16) as usize > out.len() {
+                return C::call(text, out);
+            }
+            put_copy(&copy[..(number >> 16) as usize], out)
+        }),
+        ("a byte less is enough", |text, out| {
+            let mut longer = [&*out, &[0]].concat();
+            let number = C::call(text, &mut longer);
+            out.copy_from_slice(&longer[..out.len()]);
+            number
+        }),
+        ("a byte more is needed", |text, out| {
+            if out.len() == COPY_BYTES {
+                return C::call(text, &mut []);
+            }
+            C::call(text, out)
+        }),
+        ("a line too far", |text, out| {
+            let number = C::call(text, out);
+            if refused(number) && number >> 16 > 0 {
+                number + 65_536
+            } else {
+                number
+            }
+        }),
+        ("forms counted for lines", |text, out| forms_for_lines(text, C::call(text, out))),
+        ("too early behind the last form", |text, out| behind_the_last_form(text, C::call(text, out))),
+        ("rule 2 over the forms alone", |text, out| match lines(text) {
+            Ok(_) if text.len() > MAX_BYTES => C::call(&copy_by(text, tidy_line), out),
+            _ => C::call(text, out),
+        }),
+        ("tabs taken for spaces", |text, out| C::call(&lines_by(text, tabs_as_spaces), out)),
+        ("carriage returns passed over", |text, out| C::call(&lines_by(text, without_returns), out)),
+        ("blanks behind a form passed over", |text, out| {
+            C::call(&lines_by(text, without_blanks_behind), out)
+        }),
+        ("a remark behind a form passed over", |text, out| C::call(&lines_by(text, without_remark), out)),
+        ("a last remark not ended", |text, out| {
+            C::call(&ended_where(text, |rest| rest.starts_with(b";")), out)
+        }),
+        ("a last blank line not ended", |text, out| C::call(&ended_where(text, <[u8]>::is_empty), out)),
+        ("a last form not ended", |text, out| {
+            C::call(&ended_where(text, |rest| rest.starts_with(b")")), out)
+        }),
+        ("nothing passed over before the plan", |text, out| match first_line_read(text) {
+            Some(number) if out.len() >= COPY_BYTES => number,
+            _ => C::call(text, out),
+        }),
+        ("129 pairs refused", |text, out| copy_of(misread::more_than_128_pairs_refused(text), out, C::copy)),
+        ("idle procedures let through", |text, out| copy_of(misread::idle_let_through(text), out, C::copy)),
+    ]
+}
+
+/// A tidy copy with a fault each that it alone can have.
+pub const FAULTY_TIDIES: [(&str, CopyCall); 6] = [
     ("the text as it stands", |text, out| tidy_by(text, out, |line| Some(line))),
     ("indentation kept", |text, out| tidy_by(text, out, |line| tidy_line(line).map(|_| line))),
     ("empty lines kept", |text, out| {
@@ -628,99 +769,91 @@ pub const FAULTY_TIDIES: [(&str, TidyCall); 33] = [
         }
         number
     }),
-    ("a zero behind the copy", |text, out| {
-        let number = tidy(text, out);
-        if !refused(number) {
-            out[(number >> 16) as usize] = 0;
-        }
-        number
+];
+
+/// The straightened copy by another one of the plan.
+fn straight_by(text: &[u8], out: &mut [u8], other: fn(&Draft) -> Vec<u8>) -> u64 {
+    copy_of(read(text), out, |plan| other(&tree(plan)))
+}
+
+/// The straightened copy by the lines of a text that stay, each changed.
+fn straight_lines(
+    text: &[u8],
+    out: &mut [u8],
+    stay: fn(&[u8]) -> Vec<&[u8]>,
+    line: fn(&[u8]) -> &[u8],
+) -> u64 {
+    copy_of(read(text), out, |_| stay(text).into_iter().flat_map(line).copied().collect())
+}
+
+/// The straightened copy, also where a rule refuses the text and not its copy.
+fn straight_despite(rule: u8, text: &[u8], out: &mut [u8]) -> u64 {
+    match askew::accepted_by_its_copy(text, rule) {
+        Some(copy) if out.len() >= COPY_BYTES => put_copy(&copy, out),
+        _ => straight(text, out),
+    }
+}
+
+/// A straightened copy with a fault each that it alone can have.
+pub const FAULTY_STRAIGHTS: [(&str, CopyCall); 40] = [
+    ("nothing straightened", |text, out| straight_by(text, out, askew::nothing)),
+    ("the first block alone", |text, out| straight_by(text, out, askew::first_block_alone)),
+    ("the second block alone", |text, out| straight_by(text, out, askew::second_block_alone)),
+    ("the blocks exchanged", |text, out| straight_by(text, out, askew::blocks_exchanged)),
+    ("the first block twice", |text, out| straight_by(text, out, askew::first_block_twice)),
+    ("equal blocks once", |text, out| straight_by(text, out, askew::equal_blocks_once)),
+    ("a skip for nothing", |text, out| straight_by(text, out, askew::skip_for_nothing)),
+    ("a skip for a choice", |text, out| straight_by(text, out, askew::skip_for_a_choice)),
+    ("eithers kept", |text, out| straight_by(text, out, askew::eithers_kept)),
+    ("loops kept", |text, out| straight_by(text, out, askew::loops_kept)),
+    ("loops twice", |text, out| straight_by(text, out, askew::loops_twice)),
+    ("loops left out", |text, out| straight_by(text, out, askew::loops_left_out)),
+    ("loops as they stand", |text, out| straight_by(text, out, askew::loops_as_they_stand)),
+    ("eithers as they stand", |text, out| straight_by(text, out, askew::eithers_as_they_stand)),
+    ("second blocks as they stand", |text, out| straight_by(text, out, askew::second_block_as_it_stands)),
+    ("holds as they stand", |text, out| straight_by(text, out, askew::holds_as_they_stand)),
+    ("eithers in loops kept", |text, out| straight_by(text, out, askew::eithers_of_loops_kept)),
+    ("holds lost", |text, out| straight_by(text, out, askew::holds_lost)),
+    ("holds in eithers and loops lost", |text, out| straight_by(text, out, askew::holds_of_branches_lost)),
+    ("the first statement of a loop alone", |text, out| straight_by(text, out, askew::first_of_a_loop_alone)),
+    ("the first statement of a block alone", |text, out| {
+        straight_by(text, out, askew::first_of_each_block_alone)
     }),
-    ("the rest cleared", |text, out| {
-        let number = tidy(text, out);
-        if !refused(number) {
-            out[(number >> 16) as usize..].fill(0);
-        }
-        number
+    ("the rest of a hold left out", |text, out| straight_by(text, out, askew::rest_of_a_hold_left_out)),
+    ("equal neighbours once", |text, out| straight_by(text, out, askew::equal_neighbours_once)),
+    ("the first procedure alone", |text, out| straight_by(text, out, askew::first_procedure_alone)),
+    ("the last procedure kept", |text, out| straight_by(text, out, askew::last_procedure_kept)),
+    ("a last either kept", |text, out| straight_by(text, out, askew::last_either_kept)),
+    ("calls replaced", |text, out| straight_by(text, out, askew::calls_replaced)),
+    ("the deepest kept", |text, out| straight_by(text, out, askew::deepest_kept)),
+    ("threads lost", |text, out| straight_by(text, out, askew::threads_lost)),
+    ("the last thread lost", |text, out| straight_by(text, out, askew::last_thread_lost)),
+    ("threads ascending", |text, out| straight_by(text, out, askew::threads_ascending)),
+    ("closing lines of loops kept", |text, out| straight_lines(text, out, askew::with_closed_loops, bare)),
+    ("closing lines of eithers kept", |text, out| {
+        straight_lines(text, out, askew::with_closed_eithers, bare)
     }),
-    ("the last byte written", |text, out| {
-        let number = tidy(text, out);
-        if let (false, Some(last)) = (refused(number), out.last_mut()) {
-            *last ^= 0x55;
-        }
-        number
+    ("lines of blocks kept", |text, out| straight_lines(text, out, askew::with_parts, bare)),
+    ("indentation kept", |text, out| straight_lines(text, out, askew::lines_that_stay, |line| line)),
+    ("the line ends lost", |text, out| {
+        straight_lines(text, out, askew::lines_that_stay, |line| &bare(line)[..bare(line).len() - 1])
     }),
-    ("a byte behind the buffer written", |text, out| {
-        // SAFETY: none; the comparison keeps the byte accessible unless it faults.
-        unsafe { *out.as_mut_ptr().add(out.len()) ^= 0x55 };
-        tidy(text, out)
-    }),
-    ("a byte before the buffer written", |text, out| {
-        // SAFETY: as above.
-        unsafe { *out.as_mut_ptr().sub(1) ^= 0x55 };
-        tidy(text, out)
-    }),
-    ("written and then refused", |text, out| {
-        let number = tidy(text, out);
-        if let (true, Some(first)) = (refused(number), out.first_mut()) {
-            *first ^= 0x55;
-        }
-        number
-    }),
-    ("rule 1 behind the others", |text, out| {
-        let number = tidy(text, &mut [0; COPY_BYTES]);
-        if refused(number) {
-            number
-        } else {
-            tidy(text, out)
-        }
-    }),
-    ("rule 1 only where the copy does not fit", |text, out| {
-        let mut copy = vec![0; COPY_BYTES];
-        let number = tidy(text, &mut copy);
-        if refused(number) || (number >> 16) as usize > out.len() {
-            return tidy(text, out);
-        }
-        put_copy(&copy[..(number >> 16) as usize], out)
-    }),
-    ("a byte less is enough", |text, out| {
-        let mut longer = [&*out, &[0]].concat();
-        let number = tidy(text, &mut longer);
+    ("rule 5 of the copy", |text, out| straight_despite(5, text, out)),
+    ("rule 9 of the copy", |text, out| straight_despite(9, text, out)),
+    ("rule 1 by the bytes of the text", |text, out| {
+        let mut longer = [&*out, &vec![0; COPY_BYTES]].concat();
+        let number = if out.len() < text.len() { short() } else { straight(text, &mut longer) };
         out.copy_from_slice(&longer[..out.len()]);
         number
     }),
-    ("a byte more is needed", |text, out| {
-        if out.len() == COPY_BYTES {
-            return tidy(text, &mut []);
-        }
-        tidy(text, out)
-    }),
-    ("a line too far", |text, out| {
-        let number = tidy(text, out);
-        if refused(number) && number >> 16 > 0 {
-            number + 65_536
-        } else {
+    ("the bytes of the tidy copy told", |text, out| {
+        let number = straight(text, out);
+        if refused(number) {
             number
+        } else {
+            tidy(text, &mut [0; COPY_BYTES])
         }
     }),
-    ("forms counted for lines", |text, out| forms_for_lines(text, tidy(text, out))),
-    ("too early behind the last form", |text, out| behind_the_last_form(text, tidy(text, out))),
-    ("rule 2 over the forms alone", |text, out| match lines(text) {
-        Ok(_) if text.len() > MAX_BYTES => tidy(&copy_by(text, tidy_line), out),
-        _ => tidy(text, out),
-    }),
-    ("tabs taken for spaces", |text, out| tidy(&lines_by(text, tabs_as_spaces), out)),
-    ("carriage returns passed over", |text, out| tidy(&lines_by(text, without_returns), out)),
-    ("blanks behind a form passed over", |text, out| tidy(&lines_by(text, without_blanks_behind), out)),
-    ("a remark behind a form passed over", |text, out| tidy(&lines_by(text, without_remark), out)),
-    ("a last remark not ended", |text, out| tidy(&ended_where(text, |rest| rest.starts_with(b";")), out)),
-    ("a last blank line not ended", |text, out| tidy(&ended_where(text, <[u8]>::is_empty), out)),
-    ("a last form not ended", |text, out| tidy(&ended_where(text, |rest| rest.starts_with(b")")), out)),
-    ("nothing passed over before the plan", |text, out| match first_line_read(text) {
-        Some(number) if out.len() >= COPY_BYTES => number,
-        _ => tidy(text, out),
-    }),
-    ("129 pairs refused", |text, out| copy_of(misread::more_than_128_pairs_refused(text), out)),
-    ("idle procedures let through", |text, out| copy_of(misread::idle_let_through(text), out)),
 ];
 
 /// A space call with a fault each.

@@ -4,7 +4,8 @@
 use crate::families::{Draft, Tree};
 use crate::reference::{read, BlockId, Plan, Stmt};
 
-/// A tidy copy is never longer than its text, so that this holds every one.
+/// A tidy copy is never longer than its text, and a straightened one no longer than that,
+/// so that this holds every one.
 pub const COPY_BYTES: usize = crate::reference::MAX_BYTES;
 
 /// The procedures, statements and thread lines of a plan in their order, and
@@ -30,10 +31,15 @@ pub fn tidy(plan: &Plan) -> Vec<u8> {
     tree(plan).text()
 }
 
-/// What the program `tidy` prints of a text.
-pub fn printed(text: &[u8]) -> Vec<u8> {
+/// What a program prints of a text that prints a copy of its plan.
+pub fn printed_as(text: &[u8], copy: fn(&Plan) -> Vec<u8>) -> Vec<u8> {
     match read(text) {
-        Ok(plan) => tidy(&plan),
+        Ok(plan) => copy(&plan),
         Err(refusal) => format!("{refusal}\n").into_bytes(),
     }
+}
+
+/// What the program `tidy` prints of a text.
+pub fn printed(text: &[u8]) -> Vec<u8> {
+    printed_as(text, tidy)
 }

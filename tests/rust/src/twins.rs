@@ -1,10 +1,12 @@
 //! What a library says of texts of one plan: of a text, of its tidy copy and of
-//! the text indented; of the plan with its procedures in another order; and of two
-//! threads of it alone. By the library alone, but for the trees of the plans, the replay
-//! of a schedule and the lines of refusals in the other order.
+//! the text indented; of the plan with its procedures in another order; of two threads of
+//! it alone; of its straightened copy, and of the plan with more eithers and loops. By the
+//! library alone, but for the trees of the plans, the replay of a schedule, the pairs and
+//! sizes of the straightened copy and the lines of refusals in the other order.
 
-use crate::answer::{Answer, COPIED, CROSSED, DEADLOCK, FREE, REFUSED};
-use crate::compare::{not_two, two_threads, Calls};
+use crate::answer::{Answer, COPIED, CROSSED, DEADLOCK, FREE, REFUSED, SPACE};
+use crate::branches::bent;
+use crate::compare::{not_two, two_threads, Calls, CopyCall};
 use crate::crossings::alone;
 use crate::families::Draft;
 use crate::gateway::replay;
@@ -12,6 +14,7 @@ use crate::generate::neighbour;
 use crate::indent::indent;
 use crate::random::Random;
 use crate::reference::{named, read, Plan, Refusal, MAX_PAIRS, MAX_SUM};
+use crate::straight::straightened;
 use crate::tidy::{tree, COPY_BYTES};
 
 /// An answer, and the whole buffer as the call left it.
@@ -27,6 +30,19 @@ fn left(bytes: usize, call: impl FnOnce(&mut [u8]) -> u64) -> Left {
     Left { answer, buffer }
 }
 
+impl Left {
+    /// The copy, where the text is accepted.
+    fn copied(&self) -> Result<Option<&[u8]>, String> {
+        if self.answer.kind != COPIED {
+            return Ok(None);
+        }
+        match self.buffer.get(..self.answer.b as usize) {
+            Some(copy) => Ok(Some(copy)),
+            None => Err(format!("a copy of {} bytes", self.answer.b)),
+        }
+    }
+}
+
 /// The bytes lent for couples: for some of them, and half a one.
 const COUPLES: usize = 16 * 40 + 8;
 
@@ -35,7 +51,8 @@ struct Told {
     verdict: Left,
     /// Procedure by procedure, and that there are no more.
     pairs: Vec<Left>,
-    copy: Left,
+    tidy: Left,
+    straight: Left,
     space: Left,
     /// By the threads that are asked about.
     crossings: Vec<Left>,
@@ -44,7 +61,8 @@ struct Told {
 
 fn tell(calls: Calls, text: &[u8], threads: &[(u64, u64)]) -> Told {
     let verdict = left(2 * MAX_SUM, |out| (calls.verdict)(text, out));
-    let copy = left(COPY_BYTES, |out| (calls.tidy)(text, out));
+    let tidy = left(COPY_BYTES, |out| (calls.tidy)(text, out));
+    let straight = left(COPY_BYTES, |out| (calls.straight)(text, out));
     let space = left(0, |_| (calls.space)(text));
     let mut pairs: Vec<Left> = Vec::new();
     while pairs.last().is_none_or(|last| last.answer.kind != REFUSED) && pairs.len() < 70 {
@@ -54,21 +72,10 @@ fn tell(calls: Calls, text: &[u8], threads: &[(u64, u64)]) -> Told {
     let crossed =
         |(first, second): &(u64, u64)| left(COUPLES, |out| (calls.crossings)(text, *first, *second, out));
     let crossings = threads.iter().map(crossed).collect();
-    Told { verdict, pairs, copy, space, crossings, threads: threads.to_vec() }
+    Told { verdict, pairs, tidy, straight, space, crossings, threads: threads.to_vec() }
 }
 
 impl Told {
-    /// The tidy copy, where the text is accepted.
-    fn tidy(&self) -> Result<Option<&[u8]>, String> {
-        if self.copy.answer.kind != COPIED {
-            return Ok(None);
-        }
-        match self.copy.buffer.get(..self.copy.answer.b as usize) {
-            Some(copy) => Ok(Some(copy)),
-            None => Err(format!("a tidy copy of {} bytes", self.copy.answer.b)),
-        }
-    }
-
     /// Whether another text is told alike, its refusals on the lines given.
     fn same(&self, other: &Told, moved: impl Fn(usize) -> usize) -> Result<(), String> {
         let expected = |answer: Answer| match answer.kind {
@@ -85,7 +92,8 @@ impl Told {
             }
         };
         same("verdict".into(), &self.verdict, &other.verdict)?;
-        same("tidy copy".into(), &self.copy, &other.copy)?;
+        same("tidy copy".into(), &self.tidy, &other.tidy)?;
+        same("straightened copy".into(), &self.straight, &other.straight)?;
         same("space".into(), &self.space, &other.space)?;
         if self.pairs.len() != other.pairs.len() {
             return Err(format!("{} pair lists, not {}", other.pairs.len(), self.pairs.len()));
@@ -96,10 +104,9 @@ impl Told {
         crossings.try_for_each(|(one, two)| same("crossings".into(), one, two))
     }
 
-    /// Whether another text of an accepted plan, its procedures at other numbers, is
-    /// told the same verdict, the same space, the same crossings and the same pairs, and
-    /// has a schedule of this plan.
-    fn same_shuffled(&self, other: &Told, plan: &Plan, numbers: &[usize]) -> Result<(), String> {
+    /// Whether the text of another plan with the same pairs is told the same verdict and
+    /// the same crossings, with a schedule that is a run of a plan.
+    fn same_verdict(&self, other: &Told, plan: &Plan) -> Result<(), String> {
         let (one, two) = (self.verdict.answer, other.verdict.answer);
         if one.kind != two.kind {
             return Err(format!("verdict: answer {two:?}, not as {one:?}"));
@@ -107,11 +114,19 @@ impl Told {
         if two.kind == DEADLOCK {
             other.run_of(plan).map_err(|message| format!("verdict: {message}"))?;
         }
+        match self.crossings == other.crossings {
+            true => Ok(()),
+            false => Err("crossings: other ones".into()),
+        }
+    }
+
+    /// Whether another text of an accepted plan, its procedures at other numbers, is
+    /// told the same verdict, the same space, the same crossings and the same pairs, and
+    /// has a schedule of this plan.
+    fn same_shuffled(&self, other: &Told, plan: &Plan, numbers: &[usize]) -> Result<(), String> {
+        self.same_verdict(other, plan)?;
         if self.space != other.space {
             return Err(format!("space: answer {:?}, not {:?}", other.space.answer, self.space.answer));
-        }
-        if self.crossings != other.crossings {
-            return Err("crossings: other ones".into());
         }
         if self.pairs.len() != numbers.len() + 1 || other.pairs.len() != numbers.len() + 1 {
             return Err(format!("{} pair lists, not {}", other.pairs.len(), numbers.len() + 1));
@@ -120,6 +135,26 @@ impl Told {
         match moved {
             Some(proc) => Err(format!("pairs of procedure {proc}, now {}: other ones", numbers[proc])),
             None => Ok(()),
+        }
+    }
+
+    /// Whether the straightened copy is told the same verdict, the same crossings and the
+    /// same pairs, procedure by procedure, and no more space, has a schedule of its own plan,
+    /// and is its own tidy and straightened copy.
+    fn same_straightened(&self, other: &Told, plan: &Plan) -> Result<(), String> {
+        self.same_verdict(other, plan)?;
+        let (one, two) = (self.space.answer, other.space.answer);
+        if two.kind != SPACE || two.b > one.b {
+            return Err(format!("space: answer {two:?}, of the text {one:?}"));
+        }
+        if self.pairs != other.pairs {
+            let proc = self.pairs.iter().zip(&other.pairs).take_while(|(one, two)| one == two).count();
+            return Err(format!("pairs of procedure {proc}: other ones"));
+        }
+        match (other.tidy == self.straight, other.straight == self.straight) {
+            (true, true) => Ok(()),
+            (false, _) => Err("another tidy copy".into()),
+            (_, false) => Err("straightened again it is another".into()),
         }
     }
 
@@ -132,18 +167,25 @@ impl Told {
             return Err(format!("{b} entries, more than {}", plan.size_of_threads()));
         }
         let state = replay(plan, &entries).map_err(|index| format!("entry {index} is not permitted"))?;
-        match u64::from(state.largest_stuck(plan)) == a {
+        match u64::from(state.largest_stuck(plan)) == a && a != 0 {
             true => Ok(()),
             false => Err(format!("stuck set {a:#b}, not the largest")),
         }
     }
 }
 
+/// The plan of an accepted text, and its copies.
+struct Copied {
+    tree: Draft,
+    tidy: Vec<u8>,
+    straight: Vec<u8>,
+}
+
 /// The texts that are compared with each other.
 #[derive(Default)]
 pub struct Twins {
-    /// The plan of the accepted text before, and its tidy copy.
-    previous: Option<(Draft, Vec<u8>)>,
+    /// The accepted text before.
+    previous: Option<Copied>,
     /// Couples of accepted texts of one plan and of two.
     pub equal: u64,
     pub different: u64,
@@ -153,6 +195,11 @@ pub struct Twins {
     /// Two threads of a plan compared with the plan of them alone, free and with a deadlock.
     pub alone_free: u64,
     pub alone_deadlock: u64,
+    /// Plans compared with their straightened copies, free and with a deadlock, where these are
+    /// not the tidy ones; and plans compared with themselves with more eithers and loops.
+    pub straight_free: u64,
+    pub straight_deadlock: u64,
+    pub bent: u64,
 }
 
 impl Twins {
@@ -173,22 +220,29 @@ impl Twins {
             .map_err(|message| format!("the text indented: {message}"))?;
         self.shuffled(calls, text, &told, plan, random)
             .map_err(|message| format!("the procedures shuffled: {message}"))?;
-        let (Ok(plan), Some(copy)) = (plan, told.tidy()?) else {
+        let (Ok(plan), Some(copy)) = (plan, told.tidy.copied()?) else {
             return Ok(());
         };
         told.same(&tell(calls, copy, &threads), |line| line)
             .map_err(|message| format!("the tidy copy: {message}"))?;
+        self.straightened(calls, &told, plan)
+            .map_err(|message| format!("the straightened copy: {message}"))?;
         self.alone(calls, text, plan, &two)?;
-        let own = (tree(plan), copy.to_vec());
+        let straight = told.straight.copied()?.unwrap_or_default().to_vec();
+        let own = Copied { tree: tree(plan), tidy: copy.to_vec(), straight };
+        self.with_branches(calls, &own, random)?;
         if let Some(previous) = self.previous.take() {
             self.couple("the text before", &own, &previous)?;
         }
-        let other = neighbour(&own.1, random);
+        let other = neighbour(&own.tidy, random);
         if let Ok(other_plan) = read(&other) {
-            let told = left(COPY_BYTES, |out| (calls.tidy)(&other, out));
-            let length = (told.answer.b as usize).min(COPY_BYTES);
-            let other = (tree(&other_plan), told.buffer[..length].to_vec());
-            self.couple("a neighbour", &own, &other)?;
+            let copied = |call: CopyCall| {
+                let told = left(COPY_BYTES, |out| call(&other, out));
+                let length = (told.answer.b as usize).min(COPY_BYTES);
+                told.buffer[..length].to_vec()
+            };
+            let (tidy, straight) = (copied(calls.tidy), copied(calls.straight));
+            self.couple("a neighbour", &own, &Copied { tree: tree(&other_plan), tidy, straight })?;
         }
         self.previous = Some(own);
         Ok(())
@@ -223,9 +277,56 @@ impl Twins {
         };
         self.shuffled += 1;
         told.same_shuffled(&other, plan, &numbers)?;
-        match other.tidy()? == Some(&bare) {
+        if other.tidy.copied()? != Some(&bare) {
+            return Err("another tidy copy".into());
+        }
+        let straight = told.straight.copied()?.and_then(|copy| named(copy).ok());
+        let straight = straight.map(|plan| tree(&plan).permuted(&numbers).text());
+        match other.straight.copied()? == straight.as_deref() {
             true => Ok(()),
-            false => Err("another tidy copy".into()),
+            false => Err("another straightened copy".into()),
+        }
+    }
+
+    /// The straightened copy of an accepted plan has neither eithers nor loops, is accepted,
+    /// and is told what is told of the plan. Where it is the tidy copy, that is known.
+    fn straightened(&mut self, calls: Calls, told: &Told, plan: &Plan) -> Result<(), String> {
+        let Some(copy) = told.straight.copied()? else {
+            return Err(format!("answer {:?}", told.straight.answer));
+        };
+        let gone = [b"(either\n".as_slice(), b"(one\n", b"(two\n", b"(loop\n"];
+        if let Some(line) = copy.split_inclusive(|byte| *byte == 10).find(|line| gone.contains(line)) {
+            return Err(format!("a line {}", String::from_utf8_lossy(line).trim_end()));
+        }
+        let own = read(copy).map_err(|refusal| refusal.to_string())?;
+        let smaller = own.sizes.iter().zip(&plan.sizes).all(|(own, size)| own <= size);
+        if own.pairs != plan.pairs || own.threads != plan.threads || !smaller {
+            return Err("other pairs or threads, or a larger size".into());
+        }
+        if told.tidy.copied()? == Some(copy) {
+            return Ok(());
+        }
+        let other = tell(calls, copy, &told.threads);
+        told.same_straightened(&other, &own)?;
+        match other.verdict.answer.kind {
+            FREE => self.straight_free += 1,
+            _ => self.straight_deadlock += 1,
+        }
+        Ok(())
+    }
+
+    /// The plan with more eithers and loops, where it is accepted, has the same straightened
+    /// copy.
+    fn with_branches(&mut self, calls: Calls, own: &Copied, random: &mut Random) -> Result<(), String> {
+        let text = bent(&own.tree, random).text();
+        if read(&text).is_err() {
+            return Ok(());
+        }
+        self.bent += 1;
+        let told = left(COPY_BYTES, |out| (calls.straight)(&text, out));
+        match told.copied()? == Some(&own.straight) {
+            true => Ok(()),
+            false => Err("with more eithers and loops: another straightened copy".into()),
         }
     }
 
@@ -248,18 +349,26 @@ impl Twins {
         Ok(())
     }
 
-    /// Two accepted texts: their copies are equal exactly where their plans are.
-    fn couple(&mut self, what: &str, one: &(Draft, Vec<u8>), two: &(Draft, Vec<u8>)) -> Result<(), String> {
-        let (plans, copies) = (one.0 == two.0, one.1 == two.1);
+    /// Two accepted texts: their tidy copies are equal exactly where their plans are, and
+    /// their straightened copies where their plans are once eithers and loops are gone.
+    fn couple(&mut self, what: &str, one: &Copied, two: &Copied) -> Result<(), String> {
+        let plans = one.tree == two.tree;
         if plans {
             self.equal += 1;
         } else {
             self.different += 1;
         }
-        if plans == copies {
-            return Ok(());
-        }
-        let words = |equal| if equal { "equal" } else { "different" };
-        Err(format!("{what}: {} plans, {} tidy copies", words(plans), words(copies)))
+        alike(what, "tidy", plans, one.tidy == two.tidy)?;
+        let plans = straightened(&one.tree) == straightened(&two.tree);
+        alike(what, "straightened", plans, one.straight == two.straight)
+    }
+}
+
+/// Whether copies are equal exactly where the plans are of which they are.
+fn alike(what: &str, kind: &str, plans: bool, copies: bool) -> Result<(), String> {
+    let words = |equal| if equal { "equal" } else { "different" };
+    match plans == copies {
+        true => Ok(()),
+        false => Err(format!("{what}: {} plans, {} {kind} copies", words(plans), words(copies))),
     }
 }

@@ -213,14 +213,14 @@ mod differential {
         println!("  results: {outcomes:?}");
         let enough = generated.enough();
         println!("  {:?}", bench.counts);
-        let both = both_alone(&bench.twins, generated.texts);
+        print_twins(&bench.twins);
+        let both = generated.texts < 1_000 || both_kinds(&bench.twins);
         println!("differential: {differences} differences");
         differences == 0 && enough && both
     }
 
-    /// Prints what was compared of a text and others, and says whether two threads alone were
-    /// free in some texts and had a deadlock in others, where a thousand or more are generated.
-    fn both_alone(twins: &Twins, generated: u64) -> bool {
+    /// Prints what was compared of a text and others.
+    fn print_twins(twins: &Twins) {
         println!("  two accepted texts: {} of one plan, {} of two", twins.equal, twins.different);
         println!(
             "  plans with their procedures shuffled: {} accepted, {} refused",
@@ -228,11 +228,25 @@ mod differential {
         );
         let (free, deadlock) = (twins.alone_free, twins.alone_deadlock);
         println!("  two threads alone: {free} free, {deadlock} with a deadlock");
-        let both = generated < 1_000 || (free > 0 && deadlock > 0);
-        if !both {
+        let (free, deadlock) = (twins.straight_free, twins.straight_deadlock);
+        println!(
+            "  straightened copies of plans with eithers or loops: {free} free, {deadlock} with a deadlock"
+        );
+        println!("  plans with more eithers and loops: {}", twins.bent);
+    }
+
+    /// Whether two threads alone, and plans with eithers or loops, were free in some texts and had
+    /// a deadlock in others.
+    fn both_kinds(twins: &Twins) -> bool {
+        let alone = twins.alone_free > 0 && twins.alone_deadlock > 0;
+        if !alone {
             println!("differential: no two threads alone that are free, or none with a deadlock");
         }
-        both
+        let straight = twins.straight_free > 0 && twins.straight_deadlock > 0;
+        if !straight {
+            println!("differential: no plans with eithers or loops that are free, or none with a deadlock");
+        }
+        alone && straight
     }
 
     /// A text with the outcome of one that fails, made shorter while it fails.

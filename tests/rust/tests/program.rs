@@ -1,8 +1,9 @@
-//! The reports of the program `report`, the copies of the program `tidy`, the slips of
-//! the program `slip` and the crossings of the program `crossings` against the reference.
+//! The reports of the program `report`, the copies of the programs `tidy` and `straight`,
+//! the slips of the program `slip` and the crossings of the program `crossings` against the
+//! reference.
 //!
-//!   LOCKPLAN_PROGRAM=<report> LOCKPLAN_TIDY=<tidy> LOCKPLAN_SLIP=<slip> \
-//!       LOCKPLAN_CROSSINGS=<crossings> cargo test --test program
+//!   LOCKPLAN_PROGRAM=<report> LOCKPLAN_TIDY=<tidy> LOCKPLAN_STRAIGHT=<straight> \
+//!       LOCKPLAN_SLIP=<slip> LOCKPLAN_CROSSINGS=<crossings> cargo test --test program
 //!
 //! The programs read a plan from standard input. One that is not named is not
 //! tested. LOCKPLAN_TEXTS and LOCKPLAN_SEED choose the generated texts. Ends with 1
@@ -17,8 +18,8 @@ use lockplan_tests::generate::generate;
 use lockplan_tests::random::Random;
 use lockplan_tests::reference::read;
 use lockplan_tests::report::{check_known, same};
-use lockplan_tests::shelf::{all, all_indented};
-use lockplan_tests::{crossings, families, slip, tidy};
+use lockplan_tests::shelf::{all, all_indented, plans_in};
+use lockplan_tests::{crossings, families, slip, straight, tidy};
 
 /// A run of a program on a text.
 fn run(program: &str, arguments: &[&str], text: &[u8]) -> Result<Output, String> {
@@ -59,6 +60,11 @@ fn reports(program: &str, text: &[u8], known: Option<bool>) -> Result<(), String
 /// Whether a program prints a text's tidy copy or its refusal, byte for byte.
 fn tidies(program: &str, text: &[u8], _: Option<bool>) -> Result<(), String> {
     prints(program, text).and_then(|found| same(&found, &tidy::printed(text)))
+}
+
+/// Whether a program prints a text's straightened copy or its refusal, byte for byte.
+fn straightens(program: &str, text: &[u8], _: Option<bool>) -> Result<(), String> {
+    prints(program, text).and_then(|found| same(&found, &straight::printed(text)))
 }
 
 /// Whether a program prints a text's slip or its refusal, byte for byte.
@@ -153,15 +159,17 @@ fn programs() -> Vec<Tested> {
     let named = |variable: &str| std::env::var(variable).ok();
     let report = named("LOCKPLAN_PROGRAM").map(|path| -> Tested { ("report", path, reports) });
     let tidy = named("LOCKPLAN_TIDY").map(|path| -> Tested { ("tidy", path, tidies) });
+    let straight = named("LOCKPLAN_STRAIGHT").map(|path| -> Tested { ("straight", path, straightens) });
     let slip = named("LOCKPLAN_SLIP").map(|path| -> Tested { ("slip", path, slips) });
     let crossings = named("LOCKPLAN_CROSSINGS").map(|path| -> Tested { ("crossings", path, crosses) });
-    [report, tidy, slip, crossings].into_iter().flatten().collect()
+    [report, tidy, straight, slip, crossings].into_iter().flatten().collect()
 }
 
-/// Fixed texts, families and generated ones, by name.
+/// Fixed texts, examples, families and generated ones, by name.
 fn cases(texts: u64, seed: u64) -> Vec<Case> {
     let fixed = all().into_iter().chain(all_indented());
     let mut cases: Vec<Case> = fixed.map(|entry| (entry.name.to_string(), entry.text, None)).collect();
+    cases.extend(plans_in("../../examples").into_iter().map(|(name, text)| (name, text, None)));
     let families = families::all().into_iter();
     cases.extend(families.map(|(name, draft, deadlock)| (name, draft.text(), Some(deadlock))));
     for index in 0..texts {
@@ -199,7 +207,7 @@ fn test((program, path, right): &Tested, cases: &[Case]) -> usize {
 fn main() {
     let programs = programs();
     if programs.is_empty() {
-        let names = "LOCKPLAN_PROGRAM, LOCKPLAN_TIDY, LOCKPLAN_SLIP, LOCKPLAN_CROSSINGS";
+        let names = "LOCKPLAN_PROGRAM, LOCKPLAN_TIDY, LOCKPLAN_STRAIGHT, LOCKPLAN_SLIP, LOCKPLAN_CROSSINGS";
         eprintln!("program: nothing was tested: {names} name no program");
         std::process::exit(2);
     }

@@ -16,10 +16,11 @@ use lockplan_tests::pairs::{by_execution, compositional, Pair};
 use lockplan_tests::random::Random;
 use lockplan_tests::reference::{
     bare, form, lines, named, passed_over, proc_text, read, sized, sizes, structure, Form, Lines, Plan,
-    Refusal, MAX_BYTES, MAX_PAIRS, MAX_SIZE, MAX_SUM, MOST_PAIRS,
+    Refusal, Stmt, MAX_BYTES, MAX_PAIRS, MAX_SIZE, MAX_SUM, MOST_PAIRS,
 };
 use lockplan_tests::report::{check, report};
 use lockplan_tests::shelf::{self, all, all_indented, shelf, Gives};
+use lockplan_tests::standin::{faulty_copies, Straight, Tidy};
 use lockplan_tests::tidy::{printed, tidy, tree};
 use lockplan_tests::twins::Twins;
 use lockplan_tests::verdict::{
@@ -30,6 +31,8 @@ use lockplan_tests::{guard, lengths, slip, standin};
 
 #[path = "selftest/crossings.rs"]
 mod crossings;
+#[path = "selftest/straight.rs"]
+mod straight;
 
 fn texts(default: u64) -> u64 {
     let factor = std::env::var("LOCKPLAN_FACTOR").ok().and_then(|value| value.parse().ok());
@@ -713,7 +716,7 @@ fn fixed_texts_have_no_idle_procedures() {
     let about: BTreeSet<&str> = on_shelf.chain(IDLE_EXAMPLES).collect();
     let shelf = all().into_iter().chain(all_indented()).map(|entry| (entry.name.to_string(), entry.text));
     let long = lengths::all().into_iter().map(|long| (long.name.to_string(), long.text));
-    let files = ["../c", "../../examples"].into_iter().flat_map(plans_in);
+    let files = ["../c", "../../examples"].into_iter().flat_map(shelf::plans_in);
     let texts: Vec<(String, Vec<u8>)> = shelf.chain(long).chain(files).collect();
     let draft_of = |text: &[u8]| lines(text).and_then(|lines| structure(&lines)).map(|plan| tree(&plan)).ok();
     let drafts = texts.into_iter().filter_map(|(name, text)| Some((name, draft_of(&text)?)));
@@ -726,16 +729,6 @@ fn fixed_texts_have_no_idle_procedures() {
     IDLE_EXAMPLES.iter().for_each(|name| assert!(met.contains(name), "{name}"));
     println!("{} texts without an idle procedure, {} with", checked.len(), met.len());
     assert!(checked.len() > 600 && met.len() > 100);
-}
-
-/// The plans in the files of a folder, whose path is from this package on, by name.
-fn plans_in(folder: &str) -> Vec<(String, Vec<u8>)> {
-    let files = std::fs::read_dir(format!("{}/{folder}", env!("CARGO_MANIFEST_DIR"))).unwrap();
-    let paths = files.map(|file| file.unwrap().path());
-    let plans = paths.filter(|path| path.extension().is_some_and(|end| end == "plan"));
-    plans
-        .map(|path| (path.file_stem().unwrap().display().to_string(), std::fs::read(&path).unwrap()))
-        .collect()
 }
 
 /// What is drawn for a plan without idle procedures has none and breaks the rule that it
@@ -1104,7 +1097,7 @@ fn generator_meets_everything() {
     let mut kinds = BTreeMap::new();
     let (mut over, mut called, mut summed) = (Over::default(), Called::default(), Summed::default());
     let (mut paired, mut unused) = (Paired::default(), Unused::default());
-    let mut crossings = crossings::Crossings::default();
+    let (mut crossings, mut branches) = (crossings::Crossings::default(), straight::Branches::default());
     for index in 0..TEXTS {
         let case = generate(&mut Random::of_text(1, index as u64));
         let outcome = match read(&case.text) {
@@ -1120,10 +1113,11 @@ fn generator_meets_everything() {
         paired.count(&case.text);
         unused.count(&case.text);
         crossings.count(&case.text);
+        branches.count(&case.text);
     }
     let accepted = outcomes[&Outcome::Free] + outcomes[&Outcome::Deadlock];
     println!("{outcomes:?}\n{kinds:?}\n{over:?}\n{called:?}\n{summed:?}\n{paired:?}\n{unused:?}");
-    println!("{crossings:?}");
+    println!("{crossings:?}\n{branches:?}");
     println!("{accepted} of {TEXTS} accepted, {} refused by rule 13", outcomes[&Outcome::Refused(13)]);
     over.enough();
     called.enough();
@@ -1131,6 +1125,7 @@ fn generator_meets_everything() {
     paired.enough();
     unused.enough();
     crossings.enough();
+    branches.enough();
     for rule in RULES {
         assert!(outcomes[&Outcome::Refused(rule)] >= 30, "rule {rule}");
     }
@@ -1488,6 +1483,9 @@ fn comparison_accepts_the_stand_in() {
     assert!(twins.shuffled > 1_000 && twins.shuffled_refused > 150);
     println!("two threads alone: {} free, {} deadlocks", twins.alone_free, twins.alone_deadlock);
     assert!(twins.alone_free > 1_000 && twins.alone_deadlock > 1_000);
+    println!("straightened: {} free, {} deadlocks", twins.straight_free, twins.straight_deadlock);
+    println!("{} plans with more eithers and loops", twins.bent);
+    assert!(twins.straight_free > 700 && twins.straight_deadlock > 500 && twins.bent > 1_000);
 }
 
 /// The comparison finds each fault of the stand-in, and soon.
@@ -1504,8 +1502,11 @@ fn comparison_finds_every_fault() {
     for (name, verdict) in standin::FAULTY_VERDICTS {
         found("verdict", name, Calls { verdict, ..standin::CALLS });
     }
-    for (name, tidy) in standin::FAULTY_TIDIES {
+    for (name, tidy) in standin::FAULTY_TIDIES.into_iter().chain(faulty_copies::<Tidy>()) {
         found("tidy", name, Calls { tidy, ..standin::CALLS });
+    }
+    for (name, straight) in standin::FAULTY_STRAIGHTS.into_iter().chain(faulty_copies::<Straight>()) {
+        found("straight", name, Calls { straight, ..standin::CALLS });
     }
     for (name, space) in standin::FAULTY_SPACES {
         found("space", name, Calls { space, ..standin::CALLS });
@@ -1540,8 +1541,8 @@ fn shuffled_procedures_find_faults() {
     let space = sum.map(|(name, Calls { space, .. })| (name, Calls { space, ..standin::CALLS }));
     for (name, calls) in readings.chain(space) {
         let mut twins = Twins::default();
-        // Each fixed text in twenty orders.
-        let found = (0..20 * fixed.len()).find_map(|index| {
+        // Each fixed text in sixty orders.
+        let found = (0..60 * fixed.len()).find_map(|index| {
             let (text, random) = (&fixed[index % fixed.len()], &mut Random::of_text(113, index as u64));
             let message = twins.check(calls, text, &read(text), random).err()?;
             message.starts_with("the procedures shuffled").then_some((index, message))

@@ -43,10 +43,10 @@ fn spin_time(table: &str, name: &str) -> String {
 }
 
 /// The calls that are timed on long texts.
-const CALLS: [&str; 3] = ["verdict", "pairs", "tidy"];
+const CALLS: [&str; 4] = ["verdict", "pairs", "tidy", "straight"];
 
 /// Their times on a text.
-fn times(text: &[u8], rounds: usize) -> [Duration; 3] {
+fn times(text: &[u8], rounds: usize) -> [Duration; 4] {
     let mut out = vec![0; COPY_BYTES.max(2 * MAX_SUM).max(8 * MAX_PAIRS)];
     let verdict = median(rounds, || {
         black_box(library::verdict(black_box(text), &mut out));
@@ -57,7 +57,10 @@ fn times(text: &[u8], rounds: usize) -> [Duration; 3] {
     let tidy = median(rounds, || {
         black_box(library::tidy(black_box(text), &mut out));
     });
-    [verdict, pairs, tidy]
+    let straight = median(rounds, || {
+        black_box(library::straight(black_box(text), &mut out));
+    });
+    [verdict, pairs, tidy, straight]
 }
 
 /// The texts of 32,768 bytes: each call's time, how many times that of the bare
@@ -65,7 +68,7 @@ fn times(text: &[u8], rounds: usize) -> [Duration; 3] {
 /// passed over.
 fn print_lengths(rounds: usize) {
     println!(
-        "{:28} {:>6} {:>6} {:>14} {:>11} {:>5} {:>11} {:>5} {:>11} {:>5} {:>11}  beside",
+        "{:28} {:>6} {:>6} {:>14} {:>11} {:>5} {:>11} {:>5} {:>11} {:>5} {:>11} {:>5} {:>11}  beside",
         "text",
         "lines",
         "forms",
@@ -76,9 +79,11 @@ fn print_lengths(rounds: usize) {
         "times",
         "tidy us",
         "times",
+        "straight us",
+        "times",
         "without us"
     );
-    let mut bare: HashMap<String, [Duration; 3]> = HashMap::new();
+    let mut bare: HashMap<String, [Duration; 4]> = HashMap::new();
     let mut highest = (0.0, String::new());
     for long in lengths::all() {
         let without = standin::copy_by(&long.text, standin::tidy_line);

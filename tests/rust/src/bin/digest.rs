@@ -3,20 +3,23 @@
 //!
 //!   cargo run --release --features library --bin digest -- [--texts N] [--seed S]
 //!   cargo run --release --features library,crossings --bin digest -- [--texts N] [--seed S]
+//!   cargo run --release --features library,straight --bin digest -- [--texts N] [--seed S]
 //!
 //! LOCKPLAN_LIB names the folder of another build. Of each text it asks for the
 //! verdict, the pair list of each procedure and of one behind the last, and the tidy
 //! copy, and takes in the answers and the whole buffers. Each verdict is lent 6,144
 //! entries, which are enough for every plan. The space call is left out, so that a
-//! library without it can be compared, and the crossings are taken in by the second
-//! command alone: of each two of the numbers 0 to 6, with room for some couples and half a
-//! one.
+//! library without it can be compared, the crossings are taken in by the second command
+//! alone: of each two of the numbers 0 to 6, with room for some couples and half a one; and
+//! the straightened copy by the third.
 
 use lockplan_tests::answer::{Answer, REFUSED};
 use lockplan_tests::families;
 use lockplan_tests::generate::generate;
 #[cfg(feature = "crossings")]
 use lockplan_tests::library::crossings;
+#[cfg(feature = "straight")]
+use lockplan_tests::library::straight;
 use lockplan_tests::library::{pairs, tidy, verdict};
 use lockplan_tests::random::Random;
 use lockplan_tests::reference::{MAX_PAIRS, MAX_SUM};
@@ -59,6 +62,8 @@ impl Digest {
         for (first, second) in (0..7).flat_map(|first| (0..7).map(move |second| (first, second))) {
             self.call(16 * 25 + 8, |out| crossings(text, first, second, out));
         }
+        #[cfg(feature = "straight")]
+        self.call(COPY_BYTES, |out| straight(text, out));
         judged.kind != REFUSED
     }
 }

@@ -1,12 +1,12 @@
 //! Prints the report of a plan from standard input, by the reference; with
-//! `--tidy` its tidy copy, with `--slip` the slip of the space that it needs, with
-//! `--crossings` the table of where its threads cross and with `--crossings FIRST SECOND`
-//! the couples of two of them, or the line of its refusal. With `--families FOLDER` it
-//! writes the plan of each family.
+//! `--tidy` its tidy copy, with `--straight` its straightened copy, with `--slip` the slip
+//! of the space that it needs, with `--crossings` the table of where its threads cross and
+//! with `--crossings FIRST SECOND` the couples of two of them, or the line of its refusal.
+//! With `--families FOLDER` it writes the plan of each family.
 
 use std::io::{Read, Write};
 
-use lockplan_tests::{crossings, families, report, slip, tidy};
+use lockplan_tests::{crossings, families, report, slip, straight, tidy};
 
 fn main() -> std::io::Result<()> {
     let mut arguments = std::env::args().skip(1);
@@ -20,6 +20,7 @@ fn main() -> std::io::Result<()> {
     let rest: Vec<&str> = rest.iter().map(String::as_str).collect();
     let printed = match what.as_deref() {
         Some("--tidy") => tidy::printed(&text),
+        Some("--straight") => straight::printed(&text),
         Some("--slip") => slip::printed(&text),
         Some("--crossings") => crossings::printed(&text, &rest).unwrap_or_else(|| {
             eprintln!("reference: --crossings takes the numbers of two threads, or nothing");

@@ -28,6 +28,7 @@ extern "C" {
     fn lockplan_verdict();
     fn lockplan_pairs();
     fn lockplan_tidy();
+    fn lockplan_straight();
     fn lockplan_space();
     fn lockplan_crossings();
 }
@@ -39,6 +40,7 @@ enum Call {
     /// The pair list of a procedure.
     Pairs(usize),
     Tidy,
+    Straight,
     Space,
     /// The crossings of the first two threads.
     Crossings,
@@ -51,6 +53,7 @@ impl Call {
             Call::Verdict => "verdict".into(),
             Call::Pairs(proc) => proc.to_string(),
             Call::Tidy => "tidy".into(),
+            Call::Straight => "straight".into(),
             Call::Space => "space".into(),
             Call::Crossings => "crossings".into(),
         }
@@ -60,6 +63,7 @@ impl Call {
         match word {
             "verdict" => Call::Verdict,
             "tidy" => Call::Tidy,
+            "straight" => Call::Straight,
             "space" => Call::Space,
             "crossings" => Call::Crossings,
             _ => Call::Pairs(word.parse().expect("a procedure")),
@@ -75,6 +79,7 @@ fn call_on(top: *mut u8, call: Call, text: &[u8]) -> Answer {
         Call::Verdict => (lockplan_verdict as *const (), [at, bytes, 0, 0]),
         Call::Pairs(proc) => (lockplan_pairs as *const (), [proc, at, bytes, 0]),
         Call::Tidy => (lockplan_tidy as *const (), [at, bytes, 0, 0]),
+        Call::Straight => (lockplan_straight as *const (), [at, bytes, 0, 0]),
         Call::Space => (lockplan_space as *const (), [0; 4]),
         Call::Crossings => (lockplan_crossings as *const (), [0, 1, at, bytes]),
     };
@@ -321,18 +326,20 @@ fn others_of(texts: u64, seed: u64) -> Vec<(String, Texts)> {
 }
 
 /// The plans of a row that need most, by call.
-struct Row([Most; 5]);
+struct Row([Most; 6]);
 
 impl Row {
     fn new() -> Row {
-        Row([Call::Verdict, Call::Pairs(0), Call::Tidy, Call::Space, Call::Crossings].map(Most::new))
+        let calls = [Call::Verdict, Call::Pairs(0), Call::Tidy, Call::Straight, Call::Space, Call::Crossings];
+        Row(calls.map(Most::new))
     }
 
     /// The verdict's answer.
     fn take(&mut self, painted: &mut Painted, proc: usize, text: &[u8], plan: &str) -> Answer {
-        let [verdict, pairs, tidy, space, crossings] = &mut self.0;
+        let [verdict, pairs, tidy, straight, space, crossings] = &mut self.0;
         pairs.take(painted, Call::Pairs(proc), text, plan);
         tidy.take(painted, Call::Tidy, text, plan);
+        straight.take(painted, Call::Straight, text, plan);
         space.take(painted, Call::Space, text, plan);
         crossings.take(painted, Call::Crossings, text, plan);
         verdict.take(painted, Call::Verdict, text, plan)
@@ -352,7 +359,7 @@ impl Row {
     fn print(&self, name: &str) {
         let [verdict, others @ ..] = &self.0;
         let mut plans = verdict.plan.clone();
-        for (call, most) in ["pairs", "tidy", "space", "crossings"].into_iter().zip(others) {
+        for (call, most) in ["pairs", "tidy", "straight", "space", "crossings"].into_iter().zip(others) {
             if most.plan != verdict.plan {
                 plans += &format!("; {call}: {}", most.plan);
             }
@@ -379,8 +386,8 @@ fn main() {
     }
     let mut painted = Painted::new();
     println!(
-        "{:14} {:>9} {:>9} {:>9} {:>9} {:>9}  plan of the verdict's figure; of the others where they have another",
-        "plans", "verdict", "pairs", "tidy", "space", "crossings"
+        "{:14} {:>9} {:>9} {:>9} {:>9} {:>9} {:>9}  plan of the verdict's figure; of the others where they have another",
+        "plans", "verdict", "pairs", "tidy", "straight", "space", "crossings"
     );
     for (name, towers) in towers() {
         let mut row = Row::new();

@@ -1,0 +1,3 @@
+-- A plan in bare form, and what its writers leave in the lent output.
+pub mod Bare
+pub mod Writing

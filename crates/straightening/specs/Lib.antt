@@ -1,0 +1,2 @@
+-- The straightened plan.
+pub mod Straight
