@@ -306,14 +306,8 @@ static uint64_t number(const char *digits)
     return strtoull(digits, NULL, 10);
 }
 
-int main(int count, char **arguments)
+static int answer(size_t length, int count, char **arguments)
 {
-    size_t length = fread(text, 1, sizeof text, stdin);
-
-    if (ferror(stdin)) {
-        perror("caller");
-        return 2;
-    }
     if (count > 1 && strcmp(arguments[1], "--tidy") == 0)
         return print_copy(lockplan_tidy, length);
     if (count > 1 && strcmp(arguments[1], "--straight") == 0)
@@ -326,4 +320,21 @@ int main(int count, char **arguments)
     if (count > 1 && strcmp(arguments[1], "--time") == 0)
         return least_time(length);
     return report(length);
+}
+
+int main(int count, char **arguments)
+{
+    size_t length = fread(text, 1, sizeof text, stdin);
+    int status;
+
+    if (ferror(stdin)) {
+        perror("caller");
+        return 2;
+    }
+    status = answer(length, count, arguments);
+    if (fflush(stdout) != 0 || ferror(stdout)) {
+        perror("caller");
+        return 2;
+    }
+    return status;
 }

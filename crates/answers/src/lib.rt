@@ -4,7 +4,7 @@ ghost use Prim.Native.Nat.{_^_, _<_};
 ghost use Rattle.answers.specs.Answers.{answerNumber, countedNumber, countedHigh, verdictNumber, verdictHigh};
 use text::Refusal;
 
-// How much a call found or wrote, or the refusal: the pairs of a list, the bytes of a copy, the entries that a schedule needs.
+// How much a call found or wrote, or the refusal: the pairs of a list, the bytes of a tidy copy or of a straightened one, the entries that a schedule needs, the couples of two threads.
 pub enum Counted {
     Count(usize),
     Refused(Refusal),

@@ -1,16 +1,41 @@
-// Where the threads of a plan cross: how many couples each two have, and the first couples of threads 0 and 1.
+// Where the threads of a plan cross: what the program `crossings` prints on request, and the first couples of threads 0 and 1.
 use super::print_number;
 use super::print_refused;
 use super::procs;
+use crossings_text::Request;
 use lockplan::Counted;
 
 // So many words are lent for the couples: two couples and a word more, which stays 0.
 const WORDS: usize = 5;
 
-// The table that the program `crossings` prints, and the couples of threads 0 and 1, or the refusal.
-pub fn show_crossings(text: &[u8]) {
+// The couples of two threads are printed where there are no more.
+const COUPLES: usize = 16;
+
+// Whether two threads have so few couples that they are printed; a refusal is printed too.
+fn few_couples(text: &[u8], first: usize, second: usize) -> bool {
+    let mut words = [0u64; 0];
+    match lockplan::crossings(text, first, second, &mut words) {
+        Counted::Count(n) => n <= COUPLES,
+        Counted::Refused(_) => true,
+    }
+}
+
+// What the program prints where it has these two arguments.
+fn show_two(text: &[u8], first: &[u8], second: &[u8]) {
+    let request = crossings_text::request_of(2, first, second);
+    if let Request::Two {
+        first: t,
+        second: u,
+    } = request {
+        if few_couples(text, t as usize, u as usize) {
+            crossing_streams::print_request(text, request);
+        }
+    }
+}
+
+// The couples of threads 0 and 1 as words, or the refusal.
+fn show_words(text: &[u8]) {
     let mut words = [0u64; WORDS];
-    crossing_streams::print_crossings(text);
     match lockplan::crossings(text, 0, 1, &mut words) {
         Counted::Count(n) => {
             print_number(b"  couples ", n as u64);
@@ -19,4 +44,14 @@ pub fn show_crossings(text: &[u8]) {
         }
         Counted::Refused(refusal) => print_refused(b"  couples refused ", refusal),
     }
+}
+
+// Without arguments, the words, and with two: threads in both orders, one that few plans have, and the same twice.
+pub fn show_crossings(text: &[u8]) {
+    crossing_streams::print_request(text, crossings_text::request_of(0, b"", b""));
+    show_words(text);
+    show_two(text, b"0", b"1");
+    show_two(text, b"1", b"0");
+    show_two(text, b"2", b"1");
+    show_two(text, b"0", b"0");
 }

@@ -1,9 +1,11 @@
 // The reference plans of document 01 and some more, from the files that `index` names beside the program: for each the critical pairs of its procedures, the slip of the
 // space that it needs, the verdict or the refusal, where its threads cross, the texts of its procedures, the tidy copy, the straightened one with its own pairs and verdict, and
-// the report. A schedule is replayed by a second gateway, crate `replay`, which reads the plan's text by itself.
+// the report. A schedule is replayed by a second gateway, crate `replay`, which reads the plan's text by itself: the entries of each verdict, and the steps in the lines of each report.
 mod copies;
 mod crossings;
+mod failing;
 mod procs;
+mod reports;
 mod schedules;
 mod spaces;
 
@@ -45,13 +47,6 @@ pub fn show_verdict(text: &[u8], out: &mut [u16]) {
     }
 }
 
-// The report that the program `report` prints.
-fn show_report(text: &[u8]) {
-    if text.len() <= REPORTED {
-        streams::print_report(text);
-    }
-}
-
 fn show_plan(text: &[u8], list: &mut [u64], out: &mut [u16]) {
     print_number(b"  bytes ", text.len() as u64);
     io::write_all(1, b"\n");
@@ -61,7 +56,7 @@ fn show_plan(text: &[u8], list: &mut [u64], out: &mut [u16]) {
     procs::show_procs(text, Shown::Text, list);
     copies::show_tidy(text);
     copies::show_straight(text, list, out);
-    show_report(text);
+    reports::show_report(text);
 }
 
 // A file into the start of a buffer: how many bytes.
@@ -103,6 +98,7 @@ fn main() {
     let mut buffer = [0u8; TEXT_ROOM];
     let mut list = [0u64; MAX_PAIRS];
     let mut out = [0u16; MAX_ENTRIES];
+    failing::show_failing();
     let n = read_file(b"index", &mut index);
     show_all(&index[0..n], &mut buffer, &mut list, &mut out);
 }

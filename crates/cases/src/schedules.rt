@@ -32,7 +32,7 @@ fn print_length(n: usize, bound: usize) {
     }
 }
 
-fn print_stuck(found: u64, named: u64) {
+pub fn print_stuck(found: u64, named: u64) {
     print_number(b", stuck set ", found);
     if found == named {
         io::write_all(1, b", as named\n");

@@ -57,14 +57,14 @@ unfolding twoListsOf
 both-kept none i j m n e = (refl, cc, cc)
 both-kept (some x) i j m n e = let z : _≡_ {A = ℕ} 0 1 = cc in absurd (omega arith)
 
-both-refused : (o : Option Refusal) (i j : ℕ) (x : Refusal) → Refused x ≡ twoListsOf o i j → o ≡ some x
+pub both-refused : (o : Option Refusal) (i j : ℕ) (x : Refusal) → Refused x ≡ twoListsOf o i j → o ≡ some x
 unfolding twoListsOf
 both-refused none i j x e = let z : _≡_ {A = ℕ} 0 1 = cc in absurd (omega arith)
 both-refused (some y) i j x e = let z : y ≡ x = cc in ap {B = Option Refusal} some z
 
 module _ (text : List ℕ) (t u : ℕ) (r : TwoLists) (one two : List ℕ) (f : TextLists text t u r one two) where
   module _ (m n : ℕ) (g : r ≡ Both m n) where
-    listed : (crossingsRefusal text t u ≡ none) × (m ≡ length (threadPairs (planOf text) t)) × (n ≡ length (threadPairs (planOf text) u))
+    pub listed : (crossingsRefusal text t u ≡ none) × (m ≡ length (threadPairs (planOf text) t)) × (n ≡ length (threadPairs (planOf text) u))
     listed = both-kept (crossingsRefusal text t u) (length (threadPairs (planOf text) t)) (length (threadPairs (planOf text) u)) m n (sym g ∙ f .answer)
 
     pub first-within : (one₀ : List ℕ) → maxPairs ≤ length one₀ → length one ≡ length one₀ → m ≤ length one
@@ -73,10 +73,10 @@ module _ (text : List ℕ) (t u : ℕ) (r : TwoLists) (one two : List ℕ) (f : 
     pub second-within : (two₀ : List ℕ) → maxPairs ≤ length two₀ → length two ≡ length two₀ → n ≤ length two
     second-within two₀ h e = omega (arith, listed .2, second-pairs-few text t u (listed .0))
 
-    first-is : take (m - 0) one ≡ threadPairs (planOf text) t
+    pub first-is : take (m - 0) one ≡ threadPairs (planOf text) t
     first-is = let z : m - 0 ≡ length (threadPairs (planOf text) t) = omega (arith, listed .1) in rw z (f .of-first (listed .0))
 
-    second-is : take (n - 0) two ≡ threadPairs (planOf text) u
+    pub second-is : take (n - 0) two ≡ threadPairs (planOf text) u
     second-is = let z : n - 0 ≡ length (threadPairs (planOf text) u) = omega (arith, listed .2) in rw z (f .of-second (listed .0))
 
     pub first-few : length (take (m - 0) one) ≤ maxPairs

@@ -1,51 +1,59 @@
 // Where the threads of a text cross, printed to standard output: which of them do, or the couples of two threads, part by part.
 ghost use Prim.Native.Nat.{_≤_};
-ghost use mathlib.Core.Bool.{true};
+ghost use mathlib.Core.List.{flatten};
 ghost use mathlib.Core.Path.{_≡_};
 ghost use lib.ListN.{length};
 ghost use Rattle.limits.specs.Limits.{maxPairs};
-ghost use Rattle.couple_lines.specs.CoupleLines.{couplesParts, couplesPartRoom};
+ghost use Rattle.report_lines.specs.Lines.{refusedLine};
+ghost use Rattle.couple_lines.specs.CoupleLines.{couplesParts, couplesPartRoom, printedCouples};
+ghost use Rattle.crossings_text.specs.AllCrossings.{printedCrossings};
+ghost use Rattle.crossings_text.specs.Request.{printedRequest};
+ghost use Rattle.streams.specs.Printing.{AllPrinted};
 use couple_lines::COUPLES_PART_ROOM;
 use crossing::TwoLists;
 use crossings_text::CROSSINGS_ROOM;
+use crossings_text::Request;
 use limits::MAX_PAIRS;
 use streams::Printed;
 
-// Which threads of a text's plan cross, or the line of its refusal: whether all of it was written.
-pub fn print_crossings(text: &[u8]) -> bool {
+// Which threads of a text's plan cross, or the line of its refusal.
+fn print_crossings(text: &[u8]) -> Printed
+    ensures { λ r. ⌜ AllPrinted r (printedCrossings (now (text .entry))) ⌝ }
+{
     let mut out = [0u8; CROSSINGS_ROOM];
     let n = crossings_text::put_crossings(text, &mut out);
-    io::write_all(1, &out[0..n])
+    streams::print_bytes(&out[0..n])
 }
 
 // The parts of what is printed of two threads with these pairs, in order, up to the last.
 fn print_couple_parts(first: u64, second: u64, one: &[u64], two: &[u64], out: &mut [u8]) -> Printed
-    requires { ⌜ (length (now one) ≤ maxPairs) × (length (now two) ≤ maxPairs) × (couplesPartRoom ≤ length (now out)) ⌝ }
-    ensures { λ r. ⌜ (r .whole ≡ true → r .parts ≡ length (couplesParts first second (now (one .entry)) (now (two .entry)))) ⌝ }
+    requires { ⌜ (length (now one) ≤ maxPairs) × (length (now two) ≤ maxPairs) × (length (now out) ≡ couplesPartRoom) ⌝ }
+    ensures { λ r. ⌜ AllPrinted r (flatten (couplesParts first second (now (one .entry)) (now (two .entry)))) ⌝ }
 {
-    let mut i: usize = 0;
-    while i < one.len() + 2 {
-        let n = couple_lines::put_part(first, second, one, two, i, out);
-        if !io::write_all(1, &out[0..n]) {
+    let mut bytes: usize = 0;
+    let mut k: usize = 0;
+    while k < one.len() + 2 {
+        let n = couple_lines::put_part(first, second, one, two, k, out);
+        let part = streams::print_bytes(&out[0..n]);
+        if !part.whole {
             return Printed {
                 whole: false,
-                parts: i,
+                bytes,
             };
         }
-        i += 1;
+        bytes += part.bytes;
+        k += 1;
     }
-    Printed {
-        whole: true,
-        parts: i,
-    }
+    Printed { whole: true, bytes }
 }
 
 // The line of a refusal.
-fn print_refused(rule: u8, line: usize, out: &mut [u8]) -> bool
-    requires { ⌜ couplesPartRoom ≤ length (now out) ⌝ }
+fn print_refused(rule: u8, line: usize, out: &mut [u8]) -> Printed
+    requires { ⌜ length (now out) ≡ couplesPartRoom ⌝ }
+    ensures { λ r. ⌜ AllPrinted r (refusedLine rule line) ⌝ }
 {
     let n = report_lines::put_refused(out, 0, rule, line);
-    io::write_all(1, &out[0..n])
+    streams::print_bytes(&out[0..n])
 }
 
 // The pairs of the two threads are found once.
@@ -56,32 +64,40 @@ fn print_lists(
     one: &mut [u64],
     two: &mut [u64],
     out: &mut [u8],
-) -> bool
-    requires { ⌜ (maxPairs ≤ length (now one)) × (maxPairs ≤ length (now two)) × (couplesPartRoom ≤ length (now out)) ⌝ }
+) -> Printed
+    requires { ⌜ (maxPairs ≤ length (now one)) × (maxPairs ≤ length (now two)) × (length (now out) ≡ couplesPartRoom) ⌝ }
+    ensures { λ r. ⌜ AllPrinted r (printedCouples (now (text .entry)) first second) ⌝ }
 {
     let lists = crossing::two_lists(text, first, second, one, two);
     match lists {
         TwoLists::Both {
             first: m,
             second: n,
-        } => {
-            let printed = print_couple_parts(
-                first as u64,
-                second as u64,
-                &one[0..m],
-                &two[0..n],
-                out,
-            );
-            printed.whole
-        }
+        } => print_couple_parts(first as u64, second as u64, &one[0..m], &two[0..n], out),
         TwoLists::Refused(refusal) => print_refused(refusal.rule, refusal.line, out),
     }
 }
 
-// The couples of two threads of a text, or the line of the refusal: whether all of it was written.
-pub fn print_couples(text: &[u8], first: usize, second: usize) -> bool {
+// The couples of two threads of a text, or the line of the refusal.
+fn print_couples(text: &[u8], first: usize, second: usize) -> Printed
+    ensures { λ r. ⌜ AllPrinted r (printedCouples (now (text .entry)) first second) ⌝ }
+{
     let mut one = [0u64; MAX_PAIRS];
     let mut two = [0u64; MAX_PAIRS];
     let mut out = [0u8; COUPLES_PART_ROOM];
     print_lists(text, first, second, &mut one, &mut two, &mut out)
+}
+
+// What is asked for of a text, or the line of the refusal.
+pub fn print_request(text: &[u8], request: Request) -> Printed
+    ensures { λ r. ⌜ AllPrinted r (printedRequest request (now (text .entry))) ⌝ }
+{
+    match request {
+        Request::All => print_crossings(text),
+        Request::Two { first, second } => print_couples(text, first as usize, second as usize),
+        Request::Unknown => Printed {
+            whole: true,
+            bytes: 0,
+        },
+    }
 }

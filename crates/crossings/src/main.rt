@@ -1,5 +1,7 @@
 // Where the threads of the plan on standard input cross: without arguments which threads do, with the numbers of two threads their couples; or the line of the refusal. What it
 // prints, and what its arguments ask for, is decided by the library `crossings_text`; arguments that ask for neither, and a stream that fails, are told on standard error.
+ghost use Prim.Native.Nat.{_-_};
+ghost use mathlib.Core.Path.{_≡_};
 use crossings_text::Request;
 use streams::TEXT_ROOM;
 
@@ -7,7 +9,9 @@ use streams::TEXT_ROOM;
 const ARGUMENT_ROOM: usize = 64;
 
 // How many arguments there are, of which `all` counts the program's own name too.
-fn behind_name(all: usize) -> usize {
+fn behind_name(all: usize) -> usize
+    ensures { λ r. ⌜ r ≡ all - 1 ⌝ }
+{
     if all == 0 {
         return 0;
     }
@@ -24,24 +28,14 @@ fn asked() -> Request {
     crossings_text::request_of(arguments, &first[..m], &second[..n])
 }
 
-// What is asked for of a text, if anything: whether all of it was written.
-fn print_asked(text: &[u8], request: Request) -> bool {
-    match request {
-        Request::All => crossing_streams::print_crossings(text),
-        Request::Two { first, second } => {
-            crossing_streams::print_couples(text, first as usize, second as usize)
-        }
-        Request::Unknown => true,
-    }
-}
-
-// The same of a text that was read, unless reading failed.
+// What is asked for of a text that was read, unless reading failed.
 fn cross_input(text: &[u8], whole: bool, request: Request) {
     if !whole {
         io::write_all(2, b"crossings: standard input cannot be read\n");
         return;
     }
-    if !print_asked(text, request) {
+    let printed = crossing_streams::print_request(text, request);
+    if !printed.whole {
         io::write_all(2, b"crossings: the crossings cannot be written\n");
     }
 }

@@ -6,6 +6,8 @@ use mathlib.Core.Bool.{Bool, true, false, _&&_, cond}
 use mathlib.Core.List.{List, [], _∷_, foldl}
 use mathlib.Core.Path.{_≡_}
 use lib.Dec.{leb, eqb}
+use Rattle.couple_lines.specs.CoupleLines.{printedCouples}
+use Rattle.crossings_text.specs.AllCrossings.{printedCrossings}
 use Rattle.crossings_text.specs.declared.Asked.{Asked}
 use Rattle.crossings_text.specs.declared.Request.{Request}
 use Rattle.crossings_text.specs.declared.Request.the-variants.{All, Two, Unknown}
@@ -45,3 +47,9 @@ unfoldable pub requestOf : ℕ → List ℕ → List ℕ → Request
 requestOf arguments first second =
     cond (eqb arguments 0) All
     (cond (eqb arguments 2 && (isDecimal first && isDecimal second)) (Two (askedNumber first) (askedNumber second)) Unknown)
+
+-- what is printed of a text on request, and nothing where it is not known what is asked for
+unfoldable pub printedRequest : Request → List ℕ → List ℕ
+printedRequest All text = printedCrossings text
+printedRequest (Two t u) text = printedCouples text t u
+printedRequest Unknown text = []

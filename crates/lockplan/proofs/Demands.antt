@@ -1,30 +1,33 @@
 -- What a call promises cites the refusals, the plan and the pairs that are computed; crate `demands` shows that these are the first rule broken, the plan that the text is written
--- of and the published critical pairs. The end of a deadlock's schedule is a moment that a run reaches, so free and deadlock exclude each other.
-use Prim.Native.Nat.{ℕ, _/_, _<_, _≤_}
+-- of and the published critical pairs. The end of a deadlock's schedule is a moment that a run reaches, so free and deadlock exclude each other. Which
+-- of the two it is, is computed too: the test over the threads' pair lists fails exactly where no run reaches a stuck set (`plan-characterisation`).
+use Prim.Native.Nat.{ℕ, _/_, _%_, _<_, _≤_}
 use native.Mathlib.Omega.{arith}
 use mathlib.Core.Path.{_≡_, refl, sym, ap, _∙_}
 use mathlib.Core.List.{List, []}
-use mathlib.Core.Logic.{_↔_}
+use mathlib.Core.Logic.{_↔_, ⊎-elim}
 use mathlib.Core.Option.{Option, none, some, Option·none-ne-some, Option·some-injective}
 use lib.ListN.{length}
 use Rattle.limits.specs.Limits.{maxPairs}
 use Rattle.laws.specs.Mask.{inMask}
+use Rattle.laws.proofs.Tests.{T-dec, T-true, T-false}
 use Rattle.text.specs.declared.Refusal.{Refusal}
 use Rattle.text.specs.Lines.{refusal}
 use Rattle.semantics.specs.Plan.{LockPlan}
 use Rattle.semantics.specs.Sizes.{threadSizes}
 use Rattle.semantics.proofs.Critical.PairList.{pair-list-ascends}
+use Rattle.semantics.proofs.Conflicts.Characterisation.{Ranked, plan-characterisation}
 use Rattle.plan.specs.Rules.{planOf, planRefusal, verdictRefusal, pairsRefusal, copyRefusal, crossingsRefusal}
 use Rattle.buffers.specs.LittleEndian.{listBytes}
 use Rattle.demands.specs.Broken.{Rule, FirstBroken, AcceptedText}
 use Rattle.demands.proofs.Refusals.{refused-exactly, verdict-refused-exactly, pairs-refused-exactly, copy-refused-exactly, crossings-refused-exactly}
-use Rattle.demands.proofs.Accepted.{accepted-plan, accepted-exactly, verdict-accepted-exactly, pairs-accepted-exactly, copy-accepted-exactly}
+use Rattle.demands.proofs.Accepted.{accepted-plan, plan-ranked, accepted-exactly, verdict-accepted-exactly, pairs-accepted-exactly, copy-accepted-exactly}
 use Rattle.demands.proofs.Accepted.{crossings-accepted-exactly, published-exactly}
 use Rattle.answers.specs.declared.Verdict.{Verdict}
 use Rattle.answers.specs.declared.Verdict.the-variants.{Free, Deadlock, Refused}
 use Rattle.answers.specs.declared.Counted.{Counted}
 use Rattle.answers.specs.declared.Counted.the-variants as counted
-use Rattle.answers.specs.Answers.{countedOf, countedNumber, readCounted, readVerdict, written}
+use Rattle.answers.specs.Answers.{countedOf, countedNumber, readCounted, verdictNumber, readVerdict, written}
 use Rattle.listing.specs.Listed.{pairsOf, ListedBytes}
 use Rattle.copies.specs.Copies.{tidyOf, straightOf, Copied, CopiedNumber}
 use Rattle.space.specs.Slip.{neededEntries, Needs, NeedsNumber}
@@ -32,6 +35,7 @@ use Rattle.couples.specs.Fitting.{fittingWords, fittingBytes}
 use Rattle.crossing.specs.Crossed.{couplesIn, CrossedBytes}
 use Rattle.answers.specs.Judgement.{Judgement}
 use Rattle.verdict.specs.Judged.{JudgedBytes}
+use Rattle.lockplan.specs.VerdictKind.{conflictIn, verdictKind, computedKind}
 use Rattle.lockplan.specs.Demands.{RefusesExactly, VerdictRefuses, PairsRefuse, CopyRefuses, SpaceRefuses, CrossingsRefuse, Demand1, ListsExactly, Demand2, JudgesExactly, Demand3}
 use Rattle.answers.proofs.LineBounds.{plan-bounded, pairs-bounded, copy-bounded, crossings-bounded}
 use Rattle.answers.proofs.Counts.{counted-is}
@@ -188,7 +192,7 @@ demand-2 text before after = record {
 
 -- ---- demand 3
 
-judges-exactly : (plan : LockPlan) (v : Verdict) (es : List ℕ) → Judgement none plan v es → JudgesExactly plan v es
+pub judges-exactly : (plan : LockPlan) (v : Verdict) (es : List ℕ) → Judgement none plan v es → JudgesExactly plan v es
 unfolding Judgement
 judges-exactly plan Free es j = record {
   free = (λ _. j .2, λ _. refl);
@@ -211,6 +215,29 @@ module _ (text : List ℕ) (lent : ℕ) (x : AcceptedText text) (enough : thread
   judged-exactly : (v : Verdict) (es : List ℕ) → Judgement (verdictRefusal text lent) (planOf text) v es → JudgesExactly (x .plan) v es
   judged-exactly v es j = judges-exactly (x .plan) v es (rw (verdict-accepted-exactly text lent .1 (x, enough), accepted-plan text x) at j)
 
+-- the kind, where the rules leave a plan with ranks or refuse it: a test over lists holds or fails, and it fails exactly where no run reaches a stuck set
+kind-computed : (a : Option Refusal) (plan : LockPlan) → (a ≡ none → Ranked plan) → (v : Verdict) (es : List ℕ) → Judgement a plan v es
+    → verdictKind v ≡ computedKind a (conflictIn plan)
+unfolding Judgement verdictKind computedKind conflictIn
+kind-computed a plan ranked Free es j = rw (j .0, T-false (conflictIn plan) (plan-characterisation plan (ranked (j .0)) .free .1 (j .2)))
+kind-computed a plan ranked (Deadlock n S) es j =
+    let s = j .2 in
+    let free = plan-characterisation plan (ranked (j .0)) .free in
+    ⊎-elim (λ t. rw (j .0, T-true (conflictIn plan) t)) (λ f. absurd (free .0 f es (s .there) (inMask S) (s .reached) (s .largest .stuck))) (T-dec (conflictIn plan))
+kind-computed a plan ranked (Refused x) es j = rw (j .0)
+
+judged-kind : (text : List ℕ) (lent : ℕ) (v : Verdict) (es : List ℕ) → Judgement (verdictRefusal text lent) (planOf text) v es
+    → verdictKind v ≡ computedKind (verdictRefusal text lent) (conflictIn (planOf text))
+judged-kind text lent =
+    kind-computed (verdictRefusal text lent) (planOf text) (λ e. let x = verdict-accepted-exactly text lent .0 e .0 in rw (accepted-plan text x) (plan-ranked text x))
+
+-- the lowest byte of a verdict's number is its kind
+number-kind : (v : Verdict) → verdictNumber v % 256 ≡ verdictKind v
+unfolding verdictNumber verdictKind
+number-kind Free = refl
+number-kind (Deadlock n S) = omega arith
+number-kind (Refused x) = omega arith
+
 pub demand-3 : (text before after : List ℕ) → Demand3 text before after
 demand-3 text before after = record {
   judge = λ v d x h. (d .schedule, judged-exactly text (length before) x h v (d .schedule) (d .judged), d .buffer);
@@ -219,4 +246,7 @@ demand-3 text before after = record {
     rw (verdict-carried text before after n d) (judged-exactly text (length before / 2) x h (d .verdict) (d .schedule) (d .judged)),
     d .buffer,
   );
+  judge-computed = λ v d. judged-kind text (length before) v (d .schedule) (d .judged);
+  lockplan-verdict-computed = λ n d.
+      ap (λ m. m % 256) (d .number) ∙ number-kind (d .verdict) ∙ judged-kind text (length before / 2) (d .verdict) (d .schedule) (d .judged);
 }

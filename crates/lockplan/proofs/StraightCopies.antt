@@ -3,7 +3,7 @@
 -- deadlock.
 use Prim.Native.Nat.{ℕ, _<_, _≤_}
 use native.Mathlib.Omega.{arith}
-use mathlib.Core.List.{List, map}
+use mathlib.Core.List.{List, flatten}
 use mathlib.Core.Logic.{_↔_, Iff·symm, ⊎-elim}
 use mathlib.Core.Option.{none}
 use mathlib.Core.Path.{_≡_, refl, sym, ap, subst, _∙_}
@@ -15,7 +15,6 @@ use Rattle.semantics.specs.Plan.{LockPlan, bodyIn, Plain}
 use Rattle.semantics.specs.Sizes.{threadSizes}
 use Rattle.semantics.specs.Stuck.{DeadlockFree}
 use Rattle.semantics.specs.Pairs.{pairList}
-use Rattle.semantics.specs.Conflict.{conflicting}
 use Rattle.semantics.specs.Language.{PublishedCritical}
 use Rattle.semantics.proofs.Thread.Remainders.{plain-body}
 use Rattle.semantics.proofs.Conflicts.Characterisation.{Ranked, plan-characterisation}
@@ -38,10 +37,12 @@ use Rattle.space.specs.Slip.{neededEntries, Needs}
 use Rattle.bare_text.specs.Bare.{bareText}
 use Rattle.copies.specs.Copies.{tidyOf, straightOf}
 use Rattle.copies.proofs.Straight.{straight-short, straight-plan, straight-accepted, straight-again, straight-tidy}
+use Rattle.report_text.specs.Report.{Report}
+use Rattle.lockplan.specs.VerdictKind.{conflictIn}
 use Rattle.lockplan.specs.Demands.{StuckReached, JudgesExactly}
 use Rattle.lockplan.specs.StraightCopies.{Straightening, SameVerdict, both-free, both-deadlock, StraightCopy, StraightCopies}
-use Rattle.lockplan.proofs.Demands.{copied-carried, space-carried, demand-3}
-use Rattle.lockplan.proofs.SamePromises.{AgreeInPairs, same-pairs, same-pairs-bytes, same-crossings, same-crossings-bytes}
+use Rattle.lockplan.proofs.Demands.{copied-carried, space-carried, judges-exactly, demand-3}
+use Rattle.lockplan.proofs.SamePromises.{AgreeInPairs, same-pairs, same-pairs-bytes, same-crossings, same-crossings-bytes, same-parts}
 use Rattle.lockplan.proofs.WrittenCopies.{written-copy}
 
 -- ---- free or deadlock
@@ -51,6 +52,7 @@ not-free plan s f = f (s .entries) (s .there) (s .set) (s .reached) (s .stuck)
 
 -- whether pairs conflict is decided, so a plan that is not free reaches a stuck set
 stuck-reached : (plan : LockPlan) → Ranked plan → (DeadlockFree (plan .procs) (plan .threads) → ⊥) → StuckReached plan
+unfolding conflictIn
 stuck-reached plan r h =
     let decides = plan-characterisation plan r in
     ⊎-elim
@@ -59,7 +61,7 @@ stuck-reached plan r h =
     let s = x .schedule in
     record { entries = x .entries; there = s .there; set = _; reached = s .reached; stuck = s .largest .stuck })
     (λ f. absurd (h (decides .free .0 f)))
-    (T-dec (conflicting (map (pairList (plan .procs)) (plan .threads))))
+    (T-dec (conflictIn plan))
 
 -- a verdict that is exact is no refusal: it would be neither free nor a deadlock
 not-refused : (plan : LockPlan) (x : Refusal) (es : List ℕ) → JudgesExactly plan (Refused x) es → ⊥
@@ -155,6 +157,10 @@ module _ (text : List ℕ) (x : AcceptedText text) where
   verdicts : (v v′ : Verdict) (es es′ : List ℕ) → JudgesExactly (x .plan) v es → JudgesExactly (copy-accepted .plan) v′ es′ → SameVerdict v v′
   verdicts = same-verdict (x .plan) (copy-accepted .plan) (plan-ranked copy copy-accepted) (Iff·symm same-free)
 
+  -- the verdict of a report
+  reported : (t : List ℕ) (y : AcceptedText t) (bytes : List ℕ) (d : Report t bytes) → JudgesExactly (y .plan) (d .verdict) (d .schedule)
+  reported t y bytes d = judges-exactly (y .plan) (d .verdict) (d .schedule) (rw (accepted-exactly t .1 y, accepted-plan t y) at (d .judged))
+
   straightening : Straightening (x .plan) (copy-accepted .plan)
   unfolding straightPlan
   straightening = record {
@@ -198,6 +204,10 @@ module _ (text : List ℕ) (x : AcceptedText text) where
         let j = demand-3 text before after .lockplan-verdict n d x h in
         let j′ = demand-3 copy before′ after′ .lockplan-verdict n′ d′ copy-accepted h′ in
         verdicts (readVerdict n) (readVerdict n′) (j .0) (j′ .0) (j .1) (j′ .1);
+    reports = λ bytes bytes′ d d′. (
+      verdicts (d .verdict) (d′ .verdict) (d .schedule) (d′ .schedule) (reported text x bytes d) (reported copy copy-accepted bytes′ d′),
+      d′ .joined ∙ ap flatten (sym (same-parts text copy agrees (d′ .verdict) (d′ .schedule))),
+    );
     spaces = needed;
     lockplan-spaces = λ m m′ n n′ d d′ e e′. needed n n′ (sym e ∙ space-carried text m d) (sym e′ ∙ space-carried copy m′ d′);
     unaltered = λ before r after d h. rw (straight-again text kept) at (written-copy (straightOf copy) copy copy-accepted before r after d h);

@@ -23,6 +23,7 @@ use Rattle.copies.specs.Copies.{tidyOf, straightOf, Straightened, StraightenedN
 use Rattle.space.specs.Slip.{neededEntries, printedSlip}
 use Rattle.couple_lines.specs.CoupleLines.{printedCouples}
 use Rattle.crossings_text.specs.AllCrossings.{printedCrossings}
+use Rattle.report_text.specs.Report.{partsOf, Report}
 use Rattle.copies.proofs.Tidy.{tidy-plan, tidy-accepted, tidy-twice, tidy-same}
 use Rattle.copies.proofs.Copies.{copy-fits}
 use Rattle.lockplan.specs.TidyCopies.{TidyCopy, TidyCopies}
@@ -56,6 +57,10 @@ module _ (s t : List ℕ) (refused : planRefusal s ≡ planRefusal t) (plans : p
 
   same-straight-number : (before : List ℕ) (n : ℕ) (after : List ℕ) → StraightenedNumber s before n after → StraightenedNumber t before n after
   same-straight-number before n after d = record { counted = d .counted; number = d .number; copied = same-straight before (d .counted) after (d .copied) }
+
+  same-report : (bytes : List ℕ) → Report s bytes → Report t bytes
+  unfolding partsOf
+  same-report bytes d = record { verdict = d .verdict; schedule = d .schedule; judged = rw (refused, plans) at (d .judged); joined = rw plans at (d .joined) }
 
 -- ---- the copy
 
@@ -125,6 +130,7 @@ module _ (text : List ℕ) (x : AcceptedText text) where
         (same-verdict-bytes text copy same-refusal same-plans before n after, same-verdict-bytes copy text (sym same-refusal) (sym same-plans) before n after);
     pairs = same-pairs text copy agrees;
     lockplan-pairs = same-pairs-bytes text copy agrees;
+    reports = λ bytes. (same-report text copy same-refusal same-plans bytes, same-report copy text (sym same-refusal) (sym same-plans) bytes);
     spaces = λ r. (λ e. e ∙ same-needed, λ e. e ∙ sym same-needed);
     lockplan-spaces = λ n. (λ e. e ∙ ap countedNumber same-needed, λ e. e ∙ ap countedNumber (sym same-needed));
     slips = same-slip;

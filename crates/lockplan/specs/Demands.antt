@@ -1,6 +1,6 @@
 -- The three demands, of a call's answer and of what it leaves in the lent buffer: said of the text, of its plan, and of all runs of the plan's gateway. Each is a
 -- theorem, `demand-1`, `demand-2` and `demand-3`, about whatever the promises of the calls let them answer; of a call for C it is about the answer that its number carries.
-use Prim.Native.Nat.{ℕ, _/_, _<_, _≤_}
+use Prim.Native.Nat.{ℕ, _/_, _%_, _<_, _≤_}
 use mathlib.Core.Bool.{Bool}
 use mathlib.Core.List.{List, List·Memᴰ}
 use mathlib.Core.Logic.{_≢_, _↔_}
@@ -17,6 +17,7 @@ use Rattle.semantics.specs.Sizes.{threadSizes}
 use Rattle.semantics.specs.Run.{ThreadState, run, start}
 use Rattle.semantics.specs.Stuck.{Stuck, DeadlockFree, Schedule}
 use Rattle.semantics.specs.Language.{PublishedCritical}
+use Rattle.plan.specs.Rules.{planOf, verdictRefusal}
 use Rattle.buffers.specs.LittleEndian.{listBytes}
 use Rattle.demands.specs.Broken.{Rule, FirstBroken, planRules, verdictRules, pairsRules, copyRules, crossingsRules, AcceptedText}
 use Rattle.answers.specs.declared.Verdict.{Verdict}
@@ -31,6 +32,7 @@ use Rattle.verdict.specs.Judged.{Judged, JudgedBytes}
 use Rattle.copies.specs.Copies.{Tidied, TidiedNumber, Straightened, StraightenedNumber}
 use Rattle.space.specs.Slip.{Needs, NeedsNumber}
 use Rattle.crossing.specs.Crossed.{Crossed, CrossedBytes}
+use Rattle.lockplan.specs.VerdictKind.{conflictIn, verdictKind, computedKind}
 
 -- the answer is a refusal exactly by the first rule broken, in checking order, and by its line; it is none exactly where the rules are kept. `Refuses x` says that the answer
 -- is the refusal x, `Kept` that the rules are kept
@@ -116,3 +118,6 @@ pub record Demand3 (text before after : List ℕ) : Type 0 where
       → (schedule : List ℕ) × JudgesExactly (x .plan) v schedule × (after ≡ filled schedule before)
   pub lockplan-verdict : (n : ℕ) → JudgedBytes text before n after → (x : AcceptedText text) → threadSizes (x .plan) ≤ length before / 2
       → (schedule : List ℕ) × JudgesExactly (x .plan) (readVerdict n) schedule × (after ≡ filled (listBytes 2 schedule) before)
+  -- "by an equation with a definition": of every text, accepted or not, and every buffer, which kind of verdict it is. Of the number for C the kind is the lowest byte
+  pub judge-computed : (v : Verdict) → Judged text before v after → verdictKind v ≡ computedKind (verdictRefusal text (length before)) (conflictIn (planOf text))
+  pub lockplan-verdict-computed : (n : ℕ) → JudgedBytes text before n after → n % 256 ≡ computedKind (verdictRefusal text (length before / 2)) (conflictIn (planOf text))

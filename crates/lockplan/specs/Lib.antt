@@ -1,4 +1,6 @@
--- The three demands; what is asked of tidy copies, of straightened ones, of the space that a schedule needs, of the limit of pairs, and of the couples at which two threads cross.
+-- The kind of a verdict, computed; the three demands; what is asked of tidy copies, of straightened ones, of the space that a schedule needs, of the limit of pairs, and of the
+-- couples at which two threads cross.
+pub mod VerdictKind
 pub mod Demands
 pub mod TidyCopies
 pub mod StraightCopies

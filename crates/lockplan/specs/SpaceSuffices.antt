@@ -1,20 +1,22 @@
--- What 02, change 4, asks of the space that a schedule needs, of the number that the call answers with: said of the text, of its plan, and of what the verdict may answer. A
--- theorem about whatever the promises let the calls answer, `space-suffices`.
+-- What 02, change 4, asks of the space that a schedule needs, of the number that the call answers with: said of the text, of its plan, of what the verdict may answer, and of the
+-- slip. A theorem about whatever the promises let the calls answer, `space-suffices`.
 use Prim.Native.Nat.{ℕ, _/_, _<_, _≤_}
-use mathlib.Core.List.{List}
+use mathlib.Core.List.{List, _++_}
 use mathlib.Core.Path.{_≡_}
 use lib.ListN.{length}
 use Rattle.limits.specs.Limits.{maxEntries}
 use Rattle.text.specs.declared.Refusal.{Refusal}
 use Rattle.text.specs.Lines.{refusal}
-use Rattle.semantics.specs.Sizes.{threadSizes}
+use Rattle.semantics.specs.Sizes.{threadSize, threadSizes}
 use Rattle.demands.specs.Broken.{AcceptedText}
+use Rattle.report_lines.specs.Lines.{refusedLine}
 use Rattle.answers.specs.declared.Verdict.{Verdict}
 use Rattle.answers.specs.declared.Verdict.the-variants.{Deadlock, Refused}
 use Rattle.answers.specs.declared.Counted.the-variants.{Count}
+use Rattle.answers.specs.declared.Counted.the-variants as counted
 use Rattle.answers.specs.Answers.{readCounted, readVerdict}
 use Rattle.verdict.specs.Judged.{Judged, JudgedBytes}
-use Rattle.space.specs.Slip.{Needs, NeedsNumber}
+use Rattle.space.specs.Slip.{Needs, NeedsNumber, sizeLines, sumLine, printedSlip}
 
 -- a verdict where so many entries are lent and n are needed
 pub record BufferOf (lent n : ℕ) (v : Verdict) (before after : List ℕ) : Type 0 where
@@ -33,8 +35,18 @@ pub record EntriesNeeded (text : List ℕ) (n : ℕ) : Type 0 where
   -- of the verdict
   pub judge : (before : List ℕ) (v : Verdict) (after : List ℕ) → Judged text before v after → BufferOf (length before) n v before after
   pub lockplan-verdict : (before : List ℕ) (m : ℕ) (after : List ℕ) → JudgedBytes text before m after → BufferOf (length before / 2) n (readVerdict m) before after
+  -- of the slip: "`(size T S)` for each thread, then `(sum S)`", and S is n
+  pub slip : printedSlip text ≡ sizeLines (threadSize (accepted .plan)) (length (accepted .plan .threads)) ++ sumLine n
 
--- of the calls, where they answer with a number of entries
+-- a text that is refused with x: the verdict refuses it alike, whatever is lent, and the slip has "only its `(refused R L)`"
+pub record RefusedAlike (text : List ℕ) (x : Refusal) : Type 0 where
+  pub judge : (before : List ℕ) (v : Verdict) (after : List ℕ) → Judged text before v after → v ≡ Refused x
+  pub lockplan-verdict : (before : List ℕ) (m : ℕ) (after : List ℕ) → JudgedBytes text before m after → readVerdict m ≡ Refused x
+  pub slip : printedSlip text ≡ refusedLine (x .rule) (x .line)
+
+-- of the calls, where they answer with a number of entries and where they refuse
 pub record SpaceSuffices (text : List ℕ) : Type 0 where
   pub space : (n : ℕ) → Needs text (Count n) → EntriesNeeded text n
   pub lockplan-space : (m n : ℕ) → NeedsNumber text m → readCounted m ≡ Count n → EntriesNeeded text n
+  pub space-refused : (x : Refusal) → Needs text (counted.Refused x) → RefusedAlike text x
+  pub lockplan-space-refused : (m : ℕ) (x : Refusal) → NeedsNumber text m → readCounted m ≡ counted.Refused x → RefusedAlike text x

@@ -1,7 +1,7 @@
 -- What 02, change 8, asks of the straightened copy, of the bytes that the call writes: said of the text, of both plans, of the critical pairs of source 000, of all runs of both
 -- gateways, and of what the other calls may answer. A theorem about whatever the promise lets the call write, `straight-copies`.
 use Prim.Native.Nat.{ℕ, _/_, _<_, _≤_}
-use mathlib.Core.List.{List}
+use mathlib.Core.List.{List, flatten}
 use mathlib.Core.Logic.{_↔_}
 use mathlib.Core.Path.{_≡_}
 use lib.ListN.{length}
@@ -25,6 +25,7 @@ use Rattle.verdict.specs.Judged.{Judged, JudgedBytes}
 use Rattle.copies.specs.Copies.{Tidied, Straightened, StraightenedNumber}
 use Rattle.space.specs.Slip.{Needs, NeedsNumber}
 use Rattle.crossing.specs.Crossed.{Crossed, CrossedBytes}
+use Rattle.report_text.specs.Report.{partsOf, Report}
 use Rattle.lockplan.specs.Demands.{StuckReached}
 
 -- a straightened plan beside its original
@@ -67,6 +68,9 @@ pub record StraightCopy (text : List ℕ) (x : AcceptedText text) (copy : List �
   pub lockplan-verdicts : (before : List ℕ) (n : ℕ) (after : List ℕ) → JudgedBytes text before n after → (before′ : List ℕ) (n′ : ℕ) (after′ : List ℕ)
       → JudgedBytes copy before′ n′ after′ → threadSizes (x .plan) ≤ length before / 2 → threadSizes (accepted .plan) ≤ length before′ / 2
       → SameVerdict (readVerdict n) (readVerdict n′)
+  -- and so in print: a report on the copy has the procedures, with their pairs, of one on the text, and the same free or deadlock
+  pub reports : (bytes bytes′ : List ℕ) (d : Report text bytes) (d′ : Report copy bytes′)
+      → SameVerdict (d .verdict) (d′ .verdict) × (bytes′ ≡ flatten (partsOf text (d′ .verdict) (d′ .schedule)))
   -- no more entries are to be lent for a schedule of the copy
   pub spaces : (n n′ : ℕ) → Needs text (Count n) → Needs copy (Count n′) → n′ ≤ n
   pub lockplan-spaces : (m m′ n n′ : ℕ) → NeedsNumber text m → NeedsNumber copy m′ → readCounted m ≡ Count n → readCounted m′ ≡ Count n′ → n′ ≤ n

@@ -22,6 +22,7 @@ use Rattle.space.specs.Slip.{Needs, NeedsNumber, printedSlip}
 use Rattle.crossing.specs.Crossed.{Crossed, CrossedBytes}
 use Rattle.couple_lines.specs.CoupleLines.{printedCouples}
 use Rattle.crossings_text.specs.AllCrossings.{printedCrossings}
+use Rattle.report_text.specs.Report.{Report}
 
 -- a copy of the accepted text
 pub record TidyCopy (text : List ℕ) (x : AcceptedText text) (copy : List ℕ) : Type 0 where
@@ -43,6 +44,8 @@ pub record TidyCopy (text : List ℕ) (x : AcceptedText text) (copy : List ℕ) 
   pub lockplan-verdicts : (before : List ℕ) (n : ℕ) (after : List ℕ) → JudgedBytes text before n after ↔ JudgedBytes copy before n after
   pub pairs : (p : ℕ) (before : List ℕ) (r : Counted) (after : List ℕ) → Listed text p before r after ↔ Listed copy p before r after
   pub lockplan-pairs : (p : ℕ) (before : List ℕ) (n : ℕ) (after : List ℕ) → ListedBytes text p before n after ↔ ListedBytes copy p before n after
+  -- and so is the report
+  pub reports : (bytes : List ℕ) → Report text bytes ↔ Report copy bytes
   -- and so are the space that a schedule needs and the slip
   pub spaces : (r : Counted) → Needs text r ↔ Needs copy r
   pub lockplan-spaces : (n : ℕ) → NeedsNumber text n ↔ NeedsNumber copy n

@@ -20,7 +20,7 @@ ghost use Rattle.replay.specs.Tables.{threadRoom, stateRoom};
 pub const STATE_ROOM: usize = MAX_THREADS * THREAD_ROOM;
 
 // An entry of a schedule is the thread and this times the choice.
-const CHOICE: u16 = 8;
+pub const CHOICE: u16 = 8;
 
 // Whether a thread has a positive count of a lock.
 pub fn holds(state: &[usize], t: usize, lock: usize) -> bool
@@ -66,7 +66,7 @@ fn apart(state: &[usize]) -> bool
 }
 
 // Takes an entry of a schedule: whether it is a step that its thread's remainder offers and that is permitted.
-fn take(text: &[u8], state: &mut [usize], entry: u16) -> bool
+pub fn take(text: &[u8], state: &mut [usize], entry: u16) -> bool
     requires { ⌜ stateRoom ≤ length (now state) ⌝ }
 {
     let t = (entry % CHOICE) as usize;

@@ -7,7 +7,8 @@ fn report_input(text: &[u8], whole: bool) {
         io::write_all(2, b"report: standard input cannot be read\n");
         return;
     }
-    if !streams::print_report(text) {
+    let printed = streams::print_report(text);
+    if !printed.whole {
         io::write_all(2, b"report: the report cannot be written\n");
     }
 }

@@ -51,7 +51,7 @@ procOpen p = bytes "(proc " ++ digits p ++ bytes "\n"
 unfoldable pub refusedLine : ℕ → ℕ → List ℕ
 refusedLine r l = bytes "(refused " ++ digits r ++ (bytes " " ++ digits l) ++ bytes ")\n"
 
--- what the programs `tidy`, `slip` and `crossings` print of a text: what is given, and of a refused text `(refused R L)` alone
+-- what the programs `tidy`, `straight`, `slip` and `crossings` print of a text: what is given, and of a refused text, or of threads that rule 14 refuses, `(refused R L)` alone
 abbrev pub unlessRefused : Option Refusal → List ℕ → List ℕ
 unlessRefused none given = given
 unlessRefused (some x) given = refusedLine (x .rule) (x .line)

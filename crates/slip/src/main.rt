@@ -8,7 +8,8 @@ fn slip_input(text: &[u8], whole: bool) {
         io::write_all(2, b"slip: standard input cannot be read\n");
         return;
     }
-    if !streams::print_slip(text) {
+    let printed = streams::print_slip(text);
+    if !printed.whole {
         io::write_all(2, b"slip: the slip cannot be written\n");
     }
 }

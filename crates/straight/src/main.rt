@@ -8,7 +8,8 @@ fn straighten_input(text: &[u8], whole: bool) {
         io::write_all(2, b"straight: standard input cannot be read\n");
         return;
     }
-    if !streams::print_copy(text, true) {
+    let printed = streams::print_copy(text, true);
+    if !printed.whole {
         io::write_all(2, b"straight: the copy cannot be written\n");
     }
 }

@@ -8,7 +8,8 @@ fn tidy_input(text: &[u8], whole: bool) {
         io::write_all(2, b"tidy: standard input cannot be read\n");
         return;
     }
-    if !streams::print_copy(text, false) {
+    let printed = streams::print_copy(text, false);
+    if !printed.whole {
         io::write_all(2, b"tidy: the copy cannot be written\n");
     }
 }

@@ -6,9 +6,10 @@
 //!       LOCKPLAN_SLIP=<slip> LOCKPLAN_CROSSINGS=<crossings> cargo test --test program
 //!
 //! The programs read a plan from standard input. One that is not named is not
-//! tested. LOCKPLAN_TEXTS and LOCKPLAN_SEED choose the generated texts. Ends with 1
-//! after a difference, and with 2 where nothing was tested because no program is
-//! named.
+//! tested. LOCKPLAN_TEXTS and LOCKPLAN_SEED choose the generated texts. Each program
+//! is also run with a standard input that cannot be read and on a full disk: it says
+//! so on standard error, and else nothing there. Ends with 1 after a difference, and
+//! with 2 where nothing was tested because no program is named.
 
 use std::io::Write;
 use std::process::{Command, Output, Stdio};
@@ -39,9 +40,9 @@ fn run(program: &str, arguments: &[&str], text: &[u8]) -> Result<Output, String>
     Ok(output)
 }
 
-/// What a program prints, if it ends well.
+/// What a program prints, if it ends well and says nothing on standard error.
 fn printed(output: Output) -> Result<Vec<u8>, String> {
-    if !output.status.success() {
+    if !output.status.success() || !output.stderr.is_empty() {
         return Err(format!("ended with {}: {}", output.status, String::from_utf8_lossy(&output.stderr)));
     }
     Ok(output.stdout)
@@ -145,6 +146,41 @@ fn crosses(program: &str, text: &[u8], _: Option<bool>) -> Result<(), String> {
     Ok(())
 }
 
+/// What a program says on standard error where its input or its output is this file.
+fn said(program: &str, arguments: &[&str], input: &str, output: &str) -> Result<String, String> {
+    let file = |path: &str, writes: bool| {
+        let opened = std::fs::OpenOptions::new().read(!writes).write(writes).open(path);
+        opened.map_err(|error| format!("{path}: {error}"))
+    };
+    let ended = Command::new(program)
+        .args(arguments)
+        .stdin(file(input, false)?)
+        .stdout(file(output, true)?)
+        .stderr(Stdio::piped())
+        .output()
+        .map_err(|error| format!("{program}: {error}"))?;
+    Ok(String::from_utf8_lossy(&ended.stderr).into_owned())
+}
+
+/// Whether a program tells of a standard input that cannot be read, a folder, and of an
+/// output that cannot be written, on a full disk, of an accepted plan and of a refused one.
+fn tells(name: &str, program: &str) -> Result<(), String> {
+    let two: &[&[&str]] = if name == "crossings" { &[&[], &["0", "1"], &["0", "0"]] } else { &[&[]] };
+    for arguments in two {
+        let unread = said(program, arguments, ".", "/dev/null")?;
+        if unread != format!("{name}: standard input cannot be read\n") {
+            return Err(format!("{arguments:?}, an input that cannot be read: {unread:?}"));
+        }
+        for plan in ["../../examples/a-crossed-locks.plan", "../../examples/lock-32.plan"] {
+            let full = said(program, arguments, plan, "/dev/full")?;
+            if !full.starts_with(&format!("{name}: the ")) || !full.ends_with(" cannot be written\n") {
+                return Err(format!("{arguments:?}, {plan} on a full disk: {full:?}"));
+            }
+        }
+    }
+    Ok(())
+}
+
 /// A test of a program: its path, a text, and whether that deadlocks where this is known.
 type Test = fn(&str, &[u8], Option<bool>) -> Result<(), String>;
 
@@ -200,7 +236,11 @@ fn test((program, path, right): &Tested, cases: &[Case]) -> usize {
             }
         }
     }
-    println!("{program}: {} texts, {differences} differences", cases.len());
+    if let Err(message) = tells(program, path) {
+        differences += 1;
+        println!("{program}: {message}");
+    }
+    println!("{program}: {} texts and failing streams, {differences} differences", cases.len());
     differences
 }
 

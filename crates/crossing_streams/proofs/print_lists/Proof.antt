@@ -1,5 +1,6 @@
 -- The pairs of both threads lie within the lists that were lent, and are few.
 use Rattle.crossing.proofs.ThreadCouples.{first-within, second-within, first-few, second-few}
+use Rattle.crossing_streams.proofs.Printing.{lists-printed, refusal-printed}
 use borrow.Author.Needs.{needs}
 use Rattle.crossing_streams.proofs.print_lists.Statement.{statement}
 use Rattle.crossing_streams.proofs.print_lists.Tie as tie
@@ -47,7 +48,7 @@ same-length-3 : tie.Need-same-length-3
 same-length-3 c = search needs
 
 returns : tie.Need-returns
-returns c = search needs
+returns c = search (lists-printed, needs)
 
 same-length-4 : tie.Need-same-length-4
 same-length-4 c = search needs
@@ -59,7 +60,7 @@ same-length-6 : tie.Need-same-length-6
 same-length-6 c = search needs
 
 returns-2 : tie.Need-returns-2
-returns-2 c = search needs
+returns-2 c = search (refusal-printed, needs)
 
 pub print-lists-spec : {M : Type 1} → statement M
 print-lists-spec =

@@ -1,16 +1,18 @@
 //! The stack that a call of the library needs, on plans made for it.
 //!
-//!   cargo run --release --features library --bin stack -- [--texts N] [--seed S]
+//!   cargo run --release --features library --bin stack -- [--texts N] [--seed S] [--program P]
 //!
 //! A figure is the least number of bytes, in steps of 16, on which the call
 //! returns: found by halving, each try in a process of its own, since a call on
 //! too few ends the process. The frames of the caller are not counted. The plans
 //! are towers, as high as the rules allow, the shelf, the families and generated
 //! texts. Of several plans that one counts which wrote farthest down on a stack
-//! filled with a pattern.
+//! filled with a pattern. The tries are made by this program, in which the loader
+//! has bound memset and memcpy at start, or by that of `--program`: `../c/stack.c`.
 
 use std::arch::asm;
 use std::io::{Read, Write};
+use std::path::{Path, PathBuf};
 use std::process::{Command, Stdio};
 
 use lockplan_tests::answer::{Answer, DEADLOCK};
@@ -142,9 +144,9 @@ fn try_on(size: usize, call: Call) {
     call_on(pages.bytes()[..size].as_mut_ptr_range().end, call, &text);
 }
 
-/// Whether a call returns on so many bytes.
-fn returns(size: usize, call: Call, text: &[u8]) -> bool {
-    let mut child = Command::new(std::env::current_exe().expect("this program"))
+/// Whether a call of a program returns on so many bytes.
+fn returns(program: &Path, size: usize, call: Call, text: &[u8]) -> bool {
+    let mut child = Command::new(program)
         .args(["--try", &size.to_string(), &call.word()])
         .stdin(Stdio::piped())
         .stderr(Stdio::null())
@@ -175,10 +177,11 @@ impl Most {
         answer
     }
 
-    /// The least stack. A call can read a little below what it writes.
-    fn least(&self) -> usize {
-        let returns = |size| returns(size, self.call, &self.text);
-        let (mut low, mut high) = (self.wrote - 16, self.wrote + 1_024);
+    /// The least stack. A call can read a little below what it writes, and the
+    /// loader can have something to bind.
+    fn least(&self, program: &Path) -> usize {
+        let returns = |size| returns(program, size, self.call, &self.text);
+        let (mut low, mut high) = (self.wrote - 16, self.wrote + 16_384);
         assert!(!returns(low) && returns(high), "{}: not between {low} and {high}", self.plan);
         while high - low > 16 {
             let middle = (low + high) / 32 * 16;
@@ -356,7 +359,7 @@ impl Row {
         }
     }
 
-    fn print(&self, name: &str) {
+    fn print(&self, name: &str, program: &Path) {
         let [verdict, others @ ..] = &self.0;
         let mut plans = verdict.plan.clone();
         for (call, most) in ["pairs", "tidy", "straight", "space", "crossings"].into_iter().zip(others) {
@@ -364,19 +367,21 @@ impl Row {
                 plans += &format!("; {call}: {}", most.plan);
             }
         }
-        let figures: String = self.0.iter().map(|most| format!(" {:9}", most.least())).collect();
+        let figures: String = self.0.iter().map(|most| format!(" {:9}", most.least(program))).collect();
         println!("{name:14}{figures}  {plans}");
     }
 }
 
 fn main() {
     let (mut texts, mut seed) = (2_000, 1);
+    let mut program = std::env::current_exe().expect("this program");
     let mut arguments = std::env::args().skip(1);
     while let Some(name) = arguments.next() {
         let mut value = || arguments.next().unwrap_or_else(|| panic!("{name} needs a value"));
         match name.as_str() {
             "--texts" => texts = value().parse().expect("a number"),
             "--seed" => seed = value().parse().expect("a number"),
+            "--program" => program = PathBuf::from(value()),
             "--try" => {
                 let size = value().parse().expect("a number");
                 return try_on(size, Call::of_word(&value()));
@@ -392,13 +397,13 @@ fn main() {
     for (name, towers) in towers() {
         let mut row = Row::new();
         towers.into_iter().for_each(|tower| row.take_tower(&mut painted, tower));
-        row.print(&name);
+        row.print(&name, &program);
     }
     for (name, plans) in others_of(texts, seed) {
         let mut row = Row::new();
         for (plan, text) in &plans {
             row.take(&mut painted, 0, text, plan);
         }
-        row.print(&name);
+        row.print(&name, &program);
     }
 }

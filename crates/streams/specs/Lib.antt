@@ -1,0 +1,2 @@
+-- What a function that prints says of it.
+pub mod Printing
