@@ -37,11 +37,17 @@
  * A buffer of fewer words or bytes than the constants below is refused with rule 1
  * by the pair list and the two copies, before the plan is looked at.
  *
+ * A critical pair is a record of three 64-bit words: the set of the locks held, the set
+ * of the locks shared, the wanted lock times 2 plus 1 where it is wanted by hold. In a
+ * set lock k is the bit 2 to the power k. A list is in the order of these words in turn,
+ * and its number is one of pairs, not of words.
+ *
  * The crossings of two threads, which are numbered from 0 in the order of their lines,
- * are the couples of a critical pair of the first and one of the second that hold no
- * lock in common and each want a lock that the other holds: none exactly where these
- * two threads alone can never become stuck. Their order is by the first word, then the
- * second. The buffer may have any length, also 0: it takes the first couples that fit
+ * are the couples of a critical pair of the first and one of the second whose locks may
+ * stand together, and each of which wants what may not stand beside what the other has:
+ * none exactly where these two threads alone can never become stuck. No lock may be held
+ * in one thread while another holds or shares it. The order is by the first pair, then
+ * the second. The buffer may have any length, also 0: it takes the first couples that fit
  * whole, LOCKPLAN_COUPLE_BYTES each, and the count is of all. A thread that is not
  * there, or the same one twice, is refused with rule 14, line 0, but only if no rule of
  * the plan is broken.
@@ -60,16 +66,18 @@ extern "C" {
 
 /* A number of 16-bit entries that suffices for the verdict on every plan. */
 #define LOCKPLAN_ENTRIES 6144
-/* Least number of 64-bit words in the buffer of a pair list; no procedure of an
- * accepted plan has more pairs. */
-#define LOCKPLAN_WORDS 511
-/* The same in bytes. */
+/* No procedure of an accepted plan has more pairs. */
+#define LOCKPLAN_PAIRS 511
+/* Least number of 64-bit words in the buffer of a pair list: three for each pair, 1533. */
+#define LOCKPLAN_WORDS (3 * LOCKPLAN_PAIRS)
+/* The same in bytes: 12288 for the entries, 12264 for the words. */
 #define LOCKPLAN_ENTRY_BYTES (2 * LOCKPLAN_ENTRIES)
 #define LOCKPLAN_WORD_BYTES (8 * LOCKPLAN_WORDS)
 /* Least number of bytes in the buffer of a tidy or a straightened copy. */
 #define LOCKPLAN_COPY_BYTES 32768
-/* The bytes that a couple of a crossing takes: two words. */
-#define LOCKPLAN_COUPLE_BYTES 16
+/* The bytes that a pair takes, three words, and those of a couple of a crossing, six. */
+#define LOCKPLAN_PAIR_BYTES 24
+#define LOCKPLAN_COUPLE_BYTES 48
 
 #define LOCKPLAN_FREE 0
 #define LOCKPLAN_LISTED 0
@@ -144,8 +152,7 @@ static inline unsigned lockplan_choice(unsigned entry)
     return entry / 8;
 }
 
-/* Word k of a pair list: the locks held as a set of bits, times 32, plus the
- * lock wanted. docs/WIRING.md has the bit of each lock. */
+/* Word k of a buffer of words. */
 
 static inline uint64_t lockplan_word(const uint8_t *out, size_t k)
 {
@@ -156,27 +163,37 @@ static inline uint64_t lockplan_word(const uint8_t *out, size_t k)
     return word;
 }
 
-static inline unsigned lockplan_wanted(uint64_t word)
+/* A critical pair. docs/WIRING.md has the bit of each lock. */
+
+struct lockplan_pair {
+    uint32_t held;    /* the locks held, as a set of bits */
+    uint32_t shared;  /* the locks shared, as a set of bits */
+    unsigned wanted;  /* the lock wanted */
+    unsigned by_hold; /* 1 where it is wanted by hold, 0 by share */
+};
+
+/* Pair k of a pair list. */
+static inline struct lockplan_pair lockplan_pair_at(const uint8_t *out, size_t k)
 {
-    return (unsigned)(word % 32);
+    struct lockplan_pair pair;
+    uint64_t third = lockplan_word(out, 3 * k + 2);
+    pair.held = (uint32_t)lockplan_word(out, 3 * k);
+    pair.shared = (uint32_t)lockplan_word(out, 3 * k + 1);
+    pair.wanted = (unsigned)(third / 2);
+    pair.by_hold = (unsigned)(third % 2);
+    return pair;
 }
 
-static inline uint32_t lockplan_held(uint64_t word)
+/* Couple k of a crossing: the pair of the first thread, and that of the second. */
+
+static inline struct lockplan_pair lockplan_first(const uint8_t *out, size_t k)
 {
-    return (uint32_t)(word / 32);
+    return lockplan_pair_at(out, 2 * k);
 }
 
-/* Couple k of a crossing: the word of the first thread's pair, and that of the
- * second's. */
-
-static inline uint64_t lockplan_first(const uint8_t *out, size_t k)
+static inline struct lockplan_pair lockplan_second(const uint8_t *out, size_t k)
 {
-    return lockplan_word(out, 2 * k);
-}
-
-static inline uint64_t lockplan_second(const uint8_t *out, size_t k)
-{
-    return lockplan_word(out, 2 * k + 1);
+    return lockplan_pair_at(out, 2 * k + 1);
 }
 
 #ifdef __cplusplus

@@ -40,13 +40,16 @@ static int refused(uint64_t answer)
     return 0;
 }
 
-static void print_pair(uint64_t word)
+static void print_pair(struct lockplan_pair pair)
 {
     unsigned lock;
-    printf("(pair %u", lockplan_wanted(word));
-    for (lock = 0; lock < 32; lock++)
-        if (lockplan_held(word) >> lock & 1)
+    printf("(pair %u%s", pair.wanted, pair.by_hold ? "" : "s");
+    for (lock = 0; lock < 32; lock++) {
+        if (pair.held >> lock & 1)
             printf(" %u", lock);
+        if (pair.shared >> lock & 1)
+            printf(" %us", lock);
+    }
     printf(")");
 }
 
@@ -54,7 +57,7 @@ static void print_pairs(uint64_t count)
 {
     uint64_t k;
     for (k = 0; k < count; k++) {
-        print_pair(lockplan_word(words, (size_t)k));
+        print_pair(lockplan_pair_at(words, (size_t)k));
         printf("\n");
     }
 }
@@ -204,7 +207,7 @@ static int same_crossings(size_t length, uint64_t first, uint64_t second, size_t
  * buffers of less or little more than a couple have given the same. */
 static int crossings(size_t length, uint64_t first, uint64_t second)
 {
-    static const size_t few[] = {0, 1, 8, 15, 16, 17, 31, 32, 33};
+    static const size_t few[] = {0, 1, 8, 24, 40, 47, 48, 49, 72, 95, 96, 97};
     uint64_t answer = lockplan_crossings(text, length, first, second, words, 0), k;
     size_t lent = 0;
     uint8_t *couples;
@@ -273,10 +276,29 @@ static int least_time(size_t length)
     return 0;
 }
 
+/* Whether pair lists that are lent a word or a byte too few, or room for the pairs in one
+ * word each, are refused by rule 1, at no line, and keep their buffers. */
+static int short_lists_refused(size_t length)
+{
+    static const size_t few[] = {0, 8 * LOCKPLAN_PAIRS, LOCKPLAN_WORD_BYTES - 8,
+                                 LOCKPLAN_WORD_BYTES - 1};
+    size_t k;
+    memset(words, 0xa5, sizeof words);
+    for (k = 0; k < sizeof few / sizeof few[0]; k++) {
+        uint64_t answer = lockplan_pairs(text, length, 0, words, few[k]);
+        if (lockplan_kind(answer) != LOCKPLAN_REFUSED || lockplan_rule(answer) != 1
+            || lockplan_line(answer) != 0)
+            return 0;
+    }
+    return kept(words, 0, sizeof words);
+}
+
 static int report(size_t length)
 {
     uint64_t answer, proc;
     int status;
+    if (!short_lists_refused(length))
+        return 3;
     printf("(report\n");
     for (proc = 0;; proc++) {
         memset(words, 0xa5, sizeof words);
@@ -289,7 +311,7 @@ static int report(size_t length)
                 break;
             return refused(answer);
         }
-        if (!kept(words, 8 * (size_t)lockplan_count(answer), sizeof words))
+        if (!kept(words, LOCKPLAN_PAIR_BYTES * (size_t)lockplan_count(answer), sizeof words))
             return 3;
         printf("(proc %llu\n", (unsigned long long)proc);
         print_pairs(lockplan_count(answer));

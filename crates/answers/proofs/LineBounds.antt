@@ -8,7 +8,7 @@ use mathlib.Core.List.{List, [], _∷_}
 use mathlib.Core.Option.{Option, none, some, Option·none-ne-some, Option·some-injective, orElse}
 use lib.ListN.{length}
 use lib.Dec.{ltb, eqb, leb}
-use Rattle.limits.specs.Limits.{maxBytes, maxPairs}
+use Rattle.limits.specs.Limits.{maxBytes, maxPairWords}
 use Rattle.laws.specs.Choice.{pick}
 use Rattle.text.specs.declared.Form.{Form}
 use Rattle.text.specs.declared.Kind.{Kind}
@@ -135,7 +135,7 @@ module _ (text : List ℕ) where
 pub pairs-bounded : (text : List ℕ) (p lent : ℕ) (w : Refusal) → pairsRefusal text p lent ≡ some w → Numbers w
 unfolding pairsRefusal
 pairs-bounded text p lent =
-    if-or _ _ (bounded-if 1 (ltb lent maxPairs) (omega arith))
+    if-or _ _ (bounded-if 1 (ltb lent maxPairWords) (omega arith))
     (λ _. if-or _ _ (plan-bounded text) (λ _. bounded-if 11 (leb (length (planOf text .procs)) p) (omega arith)))
 
 pub verdict-bounded : (text : List ℕ) (lent : ℕ) (w : Refusal) → verdictRefusal text lent ≡ some w → Numbers w

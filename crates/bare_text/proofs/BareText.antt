@@ -7,16 +7,18 @@ use mathlib.Core.Logic.{⊎-elim}
 use mathlib.Core.List.{List, [], _∷_, List·Memᴰ, List·Memᴰ·not-nil, List·Memᴰ·cases-cons}
 use mathlib.Core.Option.{none}
 use lib.ListN.{length, getD}
-use Rattle.limits.specs.Limits.{maxBytes}
+use Rattle.limits.specs.Limits.{maxBytes, claimCount}
 use Rattle.text.specs.declared.Form.{Form}
-use Rattle.text.specs.declared.Form.the-variants.{Plan, Proc, Thread, Close, Skip, Call, Hold, Loop, Either, One, Two}
+use Rattle.text.specs.declared.Form.the-variants.{Plan, Proc, Thread, Close, Skip, Call, Loop, Either, One, Two}
 use Rattle.text.specs.Forms.{numberIn}
 use Rattle.text.specs.Lines.{formsOf, unreadableLine}
 use Rattle.text.proofs.Splits.{written-readable}
 use Rattle.semantics.specs.Plan.{Block, done, skip, call, hold, loop, either, end, LockPlan, bodyIn, Written}
-use Rattle.plan.specs.Grammar.{blockForms, procForms, threadForms, forms, planIn}
+use Rattle.semantics.proofs.Ground.Claims.{lock-lt}
+use Rattle.plan.specs.Grammar.{claimForm, blockForms, procForms, threadForms, forms, planIn}
 use Rattle.plan.specs.Settled.{Settled}
 use Rattle.plan.specs.Rules.{recursive, idle, tooLarge, planRefusal, planOf}
+use Rattle.plan.proofs.ClaimForms.{by-claim}
 use Rattle.plan.proofs.Trees.{plan-of-forms}
 use Rattle.plan.proofs.Allowed.{settled-grammatical, settled-accepted}
 use Rattle.plan.proofs.AcceptedTable.{rules-accepted}
@@ -33,14 +35,19 @@ smalls-cons f fs h s g m = ⊎-elim (λ (e : g ≡ f). subst (λ k. numberIn k <
 smalls-none : Smalls []
 smalls-none f m = absurd (List·Memᴰ·not-nil m)
 
+-- so has the lock of a claim
+claim-small : (a : ℕ) → a < claimCount → numberIn (claimForm a) < 1000
+unfolding numberIn
+claim-small a h = let b = lock-lt a h in by-claim (λ f. numberIn f < 1000) a (omega arith) (omega arith)
+
 module _ (C : ℕ → Type 0) (small : (q : ℕ) → C q → q < 1000) where
   block-smalls : (b : Block) (fs : List Form) → Written C b → Smalls fs → Smalls (blockForms b fs)
   unfolding blockForms Written numberIn
   block-smalls done fs w s = s
   block-smalls (skip r) fs w s = smalls-cons Skip _ (omega arith) (block-smalls r fs w s)
   block-smalls (call p r) fs w s = smalls-cons (Call p) _ (small p (w .0)) (block-smalls r fs (w .1) s)
-  block-smalls (hold l b r) fs w s =
-      smalls-cons (Hold l) _ (omega (arith, w .0)) (block-smalls b _ (w .1) (smalls-cons Close _ (omega arith) (block-smalls r fs (w .2) s)))
+  block-smalls (hold a b r) fs w s =
+      smalls-cons (claimForm a) _ (claim-small a (w .0)) (block-smalls b _ (w .1) (smalls-cons Close _ (omega arith) (block-smalls r fs (w .2) s)))
   block-smalls (loop b r) fs w s =
       smalls-cons Loop _ (omega arith) (block-smalls b _ (w .0) (smalls-cons Close _ (omega arith) (block-smalls r fs (w .1) s)))
   block-smalls (either a b r) fs w s =

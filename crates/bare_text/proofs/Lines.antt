@@ -12,7 +12,7 @@ use Rattle.laws.specs.Wrote.{Wrote}
 use Rattle.laws.proofs.Tests.{lt-or-le}
 use Rattle.laws.proofs.Wrote.{wrote-length}
 use Rattle.text.specs.declared.Form.{Form}
-use Rattle.text.specs.declared.Form.the-variants.{Plan, Proc, Thread, Close, Skip, Call, Hold, Loop, Either, One, Two}
+use Rattle.text.specs.declared.Form.the-variants.{Plan, Proc, Thread, Close, Skip, Call, Hold, Loop, Either, One, Two, Share}
 use Rattle.text.specs.Forms.{decimal, write, numberIn}
 use Rattle.report_lines.specs.Lines.{digits}
 use Rattle.report_lines.proofs.Digits.{digits-one, digits-more}
@@ -85,7 +85,11 @@ module _ (f : Form) where
     unfolding formLine write numberIn
     line-hold e = ap formLine e ∙ ap (λ d. bytes "(hold " ++ d ++ bytes "\n") (sym (digits-decimal n (rw e at small)))
 
-pub ruleset lines = (line-plan, line-proc, line-close, line-skip, line-loop, line-either, line-one, line-two, line-thread, line-call, line-hold)
+    pub line-share : f ≡ Share n → formLine f ≡ bytes "(share " ++ digits n ++ bytes "\n"
+    unfolding formLine write numberIn
+    line-share e = ap formLine e ∙ ap (λ d. bytes "(share " ++ d ++ bytes "\n") (sym (digits-decimal n (rw e at small)))
+
+pub ruleset lines = (line-plan, line-proc, line-close, line-skip, line-loop, line-either, line-one, line-two, line-thread, line-call, line-hold, line-share)
 
 -- ---- a line of bytes t
 
@@ -111,6 +115,9 @@ module _ (f : Form) (small : numberIn f < 1000) (n : ℕ) (l : List ℕ) (room :
 
   pub hold-room : f ≡ Hold n → 6 + length (digits n) + 1 ≤ length l
   hold-room e = numbered-room f (bytes "(hold ") (digits n) (bytes "\n") l (line-hold f small n e) room
+
+  pub share-room : f ≡ Share n → 7 + length (digits n) + 1 ≤ length l
+  share-room e = numbered-room f (bytes "(share ") (digits n) (bytes "\n") l (line-share f small n e) room
 
 module _ (l l₁ keyword : List ℕ) (i n : ℕ) (rest : List ℕ) (room : length keyword + length (digits n) + length rest ≤ length l) where
   pub number-room : 0 + length (keyword ++ digits n) ≤ length l

@@ -7,7 +7,7 @@ use mathlib.Core.Path.{_≡_}
 use lib.ListN.{length, drop, getD}
 use Rattle.laws.specs.Wrote.{Wrote}
 use Rattle.text.specs.declared.Form.{Form}
-use Rattle.text.specs.declared.Form.the-variants.{Plan, Proc, Hold, Loop, Either, One, Two}
+use Rattle.text.specs.declared.Form.the-variants.{Plan, Proc, Hold, Loop, Either, One, Two, Share}
 use Rattle.text.specs.Forms.{write, numberIn, kindIn, isClose}
 use Rattle.text.specs.Lines.{textOf}
 use Rattle.plan.specs.Table.{formAt, tableForms}
@@ -32,7 +32,7 @@ RoomFor ws at out = bytesFrom ws at ≤ length out
 
 -- forms that open a bracket, of the plan, of a procedure or within one
 abbrev pub opensBlock : Form → Bool
-opensBlock f = kindIn (Plan ∷ Proc ∷ Hold 0 ∷ Loop ∷ Either ∷ One ∷ Two ∷ []) f
+opensBlock f = kindIn (Plan ∷ Proc ∷ Hold 0 ∷ Loop ∷ Either ∷ One ∷ Two ∷ Share 0 ∷ []) f
 
 -- forms of loops and eithers, which straightening leaves out
 abbrev pub leftOut : Form → Bool

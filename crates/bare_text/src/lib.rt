@@ -45,6 +45,7 @@ fn put_form(out: &mut [u8], form: Form) -> usize
         Form::Either => report_lines::put_text(out, 0, b"(either\n"),
         Form::One => report_lines::put_text(out, 0, b"(one\n"),
         Form::Two => report_lines::put_text(out, 0, b"(two\n"),
+        Form::Share(n) => put_number_line(out, b"(share ", n, b"\n"),
     }
 }
 

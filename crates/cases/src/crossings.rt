@@ -5,8 +5,8 @@ use super::procs;
 use crossings_text::Request;
 use lockplan::Counted;
 
-// So many words are lent for the couples: two couples and a word more, which stays 0.
-const WORDS: usize = 5;
+// So many words are lent for the couples: two couples of six words, and five more, in which a third has no room: they stay 0.
+const WORDS: usize = 2 * 6 + 5;
 
 // The couples of two threads are printed where there are no more.
 const COUPLES: usize = 16;

@@ -12,7 +12,7 @@ mod spaces;
 ghost use Prim.Native.Nat.{_≤_};
 ghost use lib.ListN.{length};
 use limits::MAX_ENTRIES;
-use limits::MAX_PAIRS;
+use limits::MAX_PAIR_WORDS;
 use lockplan::Verdict;
 use procs::Shown;
 use streams::TEXT_ROOM;
@@ -96,7 +96,7 @@ fn show_all(index: &[u8], buffer: &mut [u8], list: &mut [u64], out: &mut [u16]) 
 fn main() {
     let mut index = [0u8; INDEX_ROOM];
     let mut buffer = [0u8; TEXT_ROOM];
-    let mut list = [0u64; MAX_PAIRS];
+    let mut list = [0u64; MAX_PAIR_WORDS];
     let mut out = [0u16; MAX_ENTRIES];
     failing::show_failing();
     let n = read_file(b"index", &mut index);

@@ -4,8 +4,11 @@ use super::print_refused;
 use limits::MAX_PROCS;
 use lockplan::Counted;
 
-// Of the pairs of a procedure so many are printed.
-const PAIRS: usize = 8;
+// A pair is a record of three words.
+const RECORD: usize = 3;
+
+// Of a list so many words are printed: eight records.
+const PRINTED: usize = 8 * RECORD;
 
 // The texts of procedures are printed of plans with no more bytes; of a longer one how many bytes each has.
 const SHORT: usize = 300;
@@ -16,12 +19,20 @@ pub enum Shown {
     Text,
 }
 
-// The first ones of a list.
-pub fn print_list(pairs: &[u64]) {
+// A word of a list, behind a comma where a record begins.
+fn print_word(i: usize, word: u64) {
+    if i % RECORD == 0 {
+        io::write_all(1, b",");
+    }
+    print_number(b" ", word);
+}
+
+// The first records of a list.
+pub fn print_list(words: &[u64]) {
     let mut i: usize = 0;
-    while i < pairs.len() {
-        if i < PAIRS {
-            print_number(b" ", pairs[i]);
+    while i < words.len() {
+        if i < PRINTED {
+            print_word(i, words[i]);
         }
         i += 1;
     }
@@ -31,8 +42,8 @@ pub fn print_list(pairs: &[u64]) {
 fn print_pairs(p: usize, n: usize, list: &[u64]) {
     print_number(b"  proc ", p as u64);
     print_number(b" pairs ", n as u64);
-    if n <= list.len() {
-        print_list(&list[0..n]);
+    if n <= list.len() / RECORD {
+        print_list(&list[0..n * RECORD]);
     } else {
         io::write_all(1, b" ?\n");
     }

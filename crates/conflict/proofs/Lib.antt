@@ -1,5 +1,5 @@
--- The search for a cycle, over all candidates and lock by lock.
+-- The search for a cycle, over all candidates and claim by claim.
 pub mod Cycles
-pub mod LockByLock
+pub mod ClaimByClaim
 -- The whole.
 pub mod Finding

@@ -7,11 +7,13 @@ use mathlib.Core.Path.{_≡_, refl, sym, ap, _∙_}
 use mathlib.Core.List.{List, [], _∷_, map}
 use lib.ListN.{length, length-append}
 use Rattle.text.specs.declared.Form.{Form}
-use Rattle.text.specs.declared.Form.the-variants.{Plan, Proc, Thread, Close, Skip, Call, Hold, Loop, Either, One, Two}
+use Rattle.text.specs.declared.Form.the-variants.{Plan, Proc, Thread, Close, Skip, Call, Hold, Loop, Either, One, Two, Share}
 use Rattle.text.specs.Forms.{write, kindIn, isClose}
 use Rattle.text.specs.Lines.{textOf}
 use Rattle.semantics.specs.Plan.{Block, done, skip, call, hold, loop, either, end, _⨾_, LockPlan}
-use Rattle.plan.specs.Grammar.{blockForms, procForms, threadForms, forms}
+use Rattle.semantics.specs.Claims.{lockOf}
+use Rattle.plan.specs.Grammar.{claimForm, blockForms, procForms, threadForms, forms}
+use Rattle.plan.proofs.ClaimForms.{by-claim}
 use Rattle.straightening.specs.Straight.{straight, straightPlan}
 use Rattle.bare_text.specs.Writing.{opensBlock, leftOut, isRetained, innermost, enclosing, around, retainedForms}
 
@@ -64,18 +66,24 @@ unfolding blockForms _⨾_
 forms-⨾ done b fs = refl
 forms-⨾ (skip r) b fs = ap (λ x. Skip ∷ x) (forms-⨾ r b fs)
 forms-⨾ (call p r) b fs = ap (λ x. Call p ∷ x) (forms-⨾ r b fs)
-forms-⨾ (hold l x r) b fs = ap (λ y. Hold l ∷ blockForms x (Close ∷ y)) (forms-⨾ r b fs)
+forms-⨾ (hold a x r) b fs = ap (λ y. claimForm a ∷ blockForms x (Close ∷ y)) (forms-⨾ r b fs)
 forms-⨾ (loop x r) b fs = ap (λ y. Loop ∷ blockForms x (Close ∷ y)) (forms-⨾ r b fs)
 forms-⨾ (either x y r) b fs = ap (λ z. Either ∷ One ∷ blockForms x (Close ∷ Two ∷ blockForms y (Close ∷ Close ∷ z))) (forms-⨾ r b fs)
 forms-⨾ (end l r) b fs = forms-⨾ r b fs
+
+-- the form of a claim opens a bracket and is retained
+claim-retained : (a : ℕ) (ks : List Bool) (fs gs : List Form) → retainedForms true (true ∷ ks) fs ≡ gs → retainedForms true ks (claimForm a ∷ fs) ≡ claimForm a ∷ gs
+unfolding retainedForms around isRetained kindIn
+claim-retained a ks fs gs e =
+    by-claim (λ f. retainedForms true ks (f ∷ fs) ≡ f ∷ gs) a (ap (λ x. Hold (lockOf a) ∷ x) e) (ap (λ x. Share (lockOf a) ∷ x) e)
 
 block-retained : (b : Block) (ks : List Bool) (fs : List Form) → retainedForms true ks (blockForms b fs) ≡ blockForms (straight b) (retainedForms true ks fs)
 unfolding retainedForms around isRetained kindIn blockForms straight
 block-retained done ks fs = refl
 block-retained (skip r) ks fs = ap (λ x. Skip ∷ x) (block-retained r ks fs)
 block-retained (call p r) ks fs = ap (λ x. Call p ∷ x) (block-retained r ks fs)
-block-retained (hold l b r) ks fs =
-    ap (λ x. Hold l ∷ x) (block-retained b (true ∷ ks) (Close ∷ blockForms r fs) ∙ ap (λ x. blockForms (straight b) (Close ∷ x)) (block-retained r ks fs))
+block-retained (hold a b r) ks fs =
+    claim-retained a ks (blockForms b (Close ∷ blockForms r fs)) _ (block-retained b (true ∷ ks) (Close ∷ blockForms r fs) ∙ ap (λ x. blockForms (straight b) (Close ∷ x)) (block-retained r ks fs))
 block-retained (loop b r) ks fs =
     block-retained b (false ∷ ks) (Close ∷ blockForms r fs) ∙ ap (blockForms (straight b)) (block-retained r ks fs)
     ∙ sym (forms-⨾ (straight b) (straight r) (retainedForms true ks fs))

@@ -8,7 +8,8 @@ use lib.ListN.{length}
 use Rattle.laws.specs.Bytes.{bytes}
 use Rattle.laws.specs.Wrote.{Wrote}
 use Rattle.laws.proofs.Wrote.{wrote-none, wrote-three}
-use Rattle.report_lines.specs.Lines.{pairForm}
+use Rattle.report_lines.specs.Lines.{pairForm, pairFormRoom}
+use Rattle.report_lines.proofs.WholeLines.{form-within}
 use Rattle.couples.specs.Couples.{couple, crosses}
 use Rattle.couple_lines.specs.CoupleLines.{coupleLine, crossingLine, coupleLineRoom}
 
@@ -25,3 +26,7 @@ module _ (v w at : ℕ) (out : List ℕ) (q : Bool) (e : q ≡ crosses v w) wher
   pub crossing-none : q ≡ false → at + coupleLineRoom ≤ length out → Wrote out out at at (crossingLine v w)
   unfolding crossingLine
   crossing-none z h = let t : crosses v w ≡ false = sym e ∙ z in rw t (wrote-none out at (omega arith))
+
+-- a pair behind other bytes
+pub behind-short : (o o₁ o₂ before : List ℕ) (at i r w : ℕ) → Wrote o o₁ at i before → Wrote o₁ o₂ i r (pairForm w) → r ≤ at + length before + pairFormRoom
+behind-short o o₁ o₂ before at i r w a b = omega (arith, a .place, b .place, form-within w)

@@ -1,6 +1,6 @@
 -- The lines of the couples of one pair: those of its couples with the first pairs of a list, and behind them that of its couple with the next, if the two cross. The parts that
 -- are printed, joined, are the whole (`parts-joined`), and of two threads of a text what is printed of them (`printed-joined`).
-use Prim.Native.Nat.{ℕ, _+_, _<_, _≤_}
+use Prim.Native.Nat.{ℕ, _+_, _/_, _<_, _≤_}
 use native.Mathlib.Numerals.{add-one}
 use native.Mathlib.Omega.{arith}
 use mathlib.Core.Bool.{Bool, true, false, cond}
@@ -14,6 +14,8 @@ use Rattle.laws.proofs.Wrote.{wrote-none, wrote-more}
 use Rattle.plan.specs.Rules.{planOf, crossingsRefusal}
 use Rattle.report_lines.specs.Lines.{closing}
 use Rattle.couples.specs.Couples.{Couple, couple, crosses, couplesWith, couplesOf, threadPairs, couples}
+use Rattle.couples.specs.Records.{pairsFrom}
+use Rattle.couples.proofs.Records.{from-length}
 use Rattle.couple_lines.specs.CoupleLines.{crossOpen, coupleLine, coupleLines, printedCouples, crossingLine, couplesPart, couplesParts}
 
 lines-append : (cs ds : List Couple) → coupleLines (cs ++ ds) ≡ coupleLines cs ++ coupleLines ds
@@ -52,16 +54,17 @@ pub part-none : (v : ℕ) (ws out : List ℕ) → Wrote out out 0 0 (couplesPart
 unfolding couplesPart couplesWith flatMap
 part-none v ws out = wrote-none out 0 (omega arith)
 
-module _ (v : ℕ) (ws out₀ out : List ℕ) (i k : ℕ) (part : Wrote out₀ out 0 i (couplesPart (take k ws) v)) where
-  pub part-more : (out′ : List ℕ) (i′ : ℕ) → k < length ws → Wrote out out′ i i′ (crossingLine v (getD ws k 0)) → Wrote out₀ out′ 0 i′ (couplesPart (take (k + 1) ws) v)
-  part-more out′ i′ h w =
-      let t : take (k + 1) ws ≡ take k ws ++ (getD ws k 0 ∷ []) = rw add-one (take-suc ws k 0 h) in
-      rw (t, part-snoc v (getD ws k 0) (take k ws)) (wrote-more out₀ out out′ 0 i i′ _ _ part w)
+module _ (v : ℕ) (ws out₀ out : List ℕ) (i k : ℕ) (part : Wrote out₀ out 0 i (couplesPart (take k (pairsFrom ws)) v)) where
+  pub part-more : (w : ℕ) (out′ : List ℕ) (i′ : ℕ) → k < length ws / 3 → w ≡ getD (pairsFrom ws) k 0 → Wrote out out′ i i′ (crossingLine v w)
+      → Wrote out₀ out′ 0 i′ (couplesPart (take (k + 1) (pairsFrom ws)) v)
+  part-more w out′ i′ h e x =
+      let t : take (k + 1) (pairsFrom ws) ≡ take k (pairsFrom ws) ++ (w ∷ []) = rw (e, add-one) (take-suc (pairsFrom ws) k 0 (omega (arith, from-length ws))) in
+      rw (t, part-snoc v w (take k (pairsFrom ws))) (wrote-more out₀ out out′ 0 i i′ _ _ part x)
 
-  pub part-done : k ≤ length ws → length ws ≤ k → Wrote out₀ out 0 i (couplesPart ws v)
+  pub part-done : k ≤ length ws / 3 → length ws / 3 ≤ k → Wrote out₀ out 0 i (couplesPart (pairsFrom ws) v)
   part-done h g =
-      let e : k ≡ length ws = omega arith in
-      let t : take k ws ≡ ws = ap (λ n. take n ws) e ∙ take-length ws in
+      let e : k ≡ length (pairsFrom ws) = omega (arith, from-length ws) in
+      let t : take k (pairsFrom ws) ≡ pairsFrom ws = ap (λ n. take n (pairsFrom ws)) e ∙ take-length (pairsFrom ws) in
       rw t at part
 
 -- ---- all parts

@@ -4,12 +4,14 @@ ghost use mathlib.Core.Path.{_≡_};
 ghost use mathlib.Core.List.{[], _++_};
 ghost use Prim.Native.Nat.{_+_, _≤_};
 ghost use lib.ListN.{length, getD};
-ghost use Rattle.limits.specs.Limits.{maxPairs};
+ghost use Rattle.limits.specs.Limits.{maxPairWords};
 ghost use Rattle.laws.specs.Wrote.{Wrote};
 ghost use Rattle.report_lines.specs.Lines.{pairForm, pairFormRoom};
 ghost use Rattle.couples.specs.Couples.{couple, couplesOf};
+ghost use Rattle.couples.specs.Records.{pairsFrom, pairIn};
 ghost use Rattle.couple_lines.specs.CoupleLines.{crossHead, crossOpen, crossLine, coupleLine, crossingLine, couplesPart, couplesParts};
 ghost use Rattle.couple_lines.specs.CoupleLines.{crossHeadRoom, crossLineRoom, coupleLineRoom, couplesPartRoom};
+use couples::Pair;
 use limits::MAX_PAIRS;
 use report_lines::PAIR_FORM_ROOM;
 
@@ -55,19 +57,19 @@ pub fn put_cross(out: &mut [u8], at: usize, t: u64, u: u64, n: u64) -> usize
 }
 
 // A pair and what stands before it.
-fn put_behind(out: &mut [u8], at: usize, before: &[u8], pair: u64) -> usize
+fn put_behind(out: &mut [u8], at: usize, before: &[u8], pair: Pair) -> usize
     requires { ⌜ at + length (now before) + pairFormRoom ≤ length (now out) ⌝ }
-    ensures { λ r. ⌜ Wrote (now (out .entry)) (now (out .exit)) at r (now (before .entry) ++ pairForm pair) ⌝ }
+    ensures { λ r. ⌜ Wrote (now (out .entry)) (now (out .exit)) at r (now (before .entry) ++ pairForm (pairIn pair)) ⌝ }
     ensures { λ r. ⌜ r ≤ at + length (now (before .entry)) + pairFormRoom ⌝ }
 {
     let i = report_lines::put_text(out, at, before);
-    report_lines::put_pair_form(out, i, pair)
+    report_lines::put_pair_form(out, i, pair.mask, pair.code)
 }
 
 // `(couple (pair L ..) (pair L ..))`
-fn put_couple(out: &mut [u8], at: usize, v: u64, w: u64) -> usize
+fn put_couple(out: &mut [u8], at: usize, v: Pair, w: Pair) -> usize
     requires { ⌜ at + coupleLineRoom ≤ length (now out) ⌝ }
-    ensures { λ r. ⌜ Wrote (now (out .entry)) (now (out .exit)) at r (coupleLine (couple v w)) ⌝ }
+    ensures { λ r. ⌜ Wrote (now (out .entry)) (now (out .exit)) at r (coupleLine (couple (pairIn v) (pairIn w))) ⌝ }
     ensures { λ r. ⌜ r ≤ at + coupleLineRoom ⌝ }
 {
     let i = put_behind(out, at, b"(couple ", v);
@@ -76,9 +78,9 @@ fn put_couple(out: &mut [u8], at: usize, v: u64, w: u64) -> usize
 }
 
 // The line of a couple where the two pairs cross, and else nothing.
-fn put_crossing(out: &mut [u8], at: usize, v: u64, w: u64) -> usize
+fn put_crossing(out: &mut [u8], at: usize, v: Pair, w: Pair) -> usize
     requires { ⌜ at + coupleLineRoom ≤ length (now out) ⌝ }
-    ensures { λ r. ⌜ Wrote (now (out .entry)) (now (out .exit)) at r (crossingLine v w) ⌝ }
+    ensures { λ r. ⌜ Wrote (now (out .entry)) (now (out .exit)) at r (crossingLine (pairIn v) (pairIn w)) ⌝ }
     ensures { λ r. ⌜ r ≤ at + coupleLineRoom ⌝ }
 {
     if couples::cross(v, w) {
@@ -88,14 +90,15 @@ fn put_crossing(out: &mut [u8], at: usize, v: u64, w: u64) -> usize
 }
 
 // The lines of the couples of one pair with those of a list.
-fn put_couples(v: u64, others: &[u64], out: &mut [u8]) -> usize
-    requires { ⌜ (length (now others) ≤ maxPairs) × (couplesPartRoom ≤ length (now out)) ⌝ }
-    ensures { λ r. ⌜ Wrote (now (out .entry)) (now (out .exit)) 0 r (couplesPart (now (others .entry)) v) ⌝ }
+fn put_couples(v: Pair, others: &[u64], out: &mut [u8]) -> usize
+    requires { ⌜ (length (now others) ≤ maxPairWords) × (couplesPartRoom ≤ length (now out)) ⌝ }
+    ensures { λ r. ⌜ Wrote (now (out .entry)) (now (out .exit)) 0 r (couplesPart (pairsFrom (now (others .entry))) (pairIn v)) ⌝ }
 {
     let mut i: usize = 0;
     let mut k: usize = 0;
-    while k < others.len() {
-        i = put_crossing(out, i, v, others[k]);
+    while k < others.len() / 3 {
+        let w = couples::pair_at(others, k);
+        i = put_crossing(out, i, v, w);
         k += 1;
     }
     i
@@ -103,8 +106,8 @@ fn put_couples(v: u64, others: &[u64], out: &mut [u8]) -> usize
 
 // How many couples the pairs of two lists have.
 fn count_couples(one: &[u64], two: &[u64]) -> usize
-    requires { ⌜ (length (now one) ≤ maxPairs) × (length (now two) ≤ maxPairs) ⌝ }
-    ensures { λ r. ⌜ r ≡ length (couplesOf (now (one .entry)) (now (two .entry))) ⌝ }
+    requires { ⌜ (length (now one) ≤ maxPairWords) × (length (now two) ≤ maxPairWords) ⌝ }
+    ensures { λ r. ⌜ r ≡ length (couplesOf (pairsFrom (now (one .entry))) (pairsFrom (now (two .entry)))) ⌝ }
 {
     let mut words = [0u64; 0];
     let mut bytes = [0u8; 0];
@@ -120,17 +123,18 @@ pub fn put_part(
     k: usize,
     out: &mut [u8],
 ) -> usize
-    requires { ⌜ (length (now one) ≤ maxPairs) × (length (now two) ≤ maxPairs) × (couplesPartRoom ≤ length (now out)) ⌝ }
-    ensures { λ r. ⌜ Wrote (now (out .entry)) (now (out .exit)) 0 r (getD (couplesParts first second (now (one .entry)) (now (two .entry))) k []) ⌝ }
+    requires { ⌜ (length (now one) ≤ maxPairWords) × (length (now two) ≤ maxPairWords) × (couplesPartRoom ≤ length (now out)) ⌝ }
+    ensures { λ r. ⌜ Wrote (now (out .entry)) (now (out .exit)) 0 r (getD (couplesParts first second (pairsFrom (now (one .entry))) (pairsFrom (now (two .entry)))) k []) ⌝ }
 {
     if k == 0 {
         let n = count_couples(one, two);
         return put_open(out, first, second, n as u64);
     }
-    if k <= one.len() {
-        return put_couples(one[k - 1], two, out);
+    if k <= one.len() / 3 {
+        let v = couples::pair_at(one, k - 1);
+        return put_couples(v, two, out);
     }
-    if k == one.len() + 1 {
+    if k == one.len() / 3 + 1 {
         return report_lines::put_text(out, 0, b")\n");
     }
     0

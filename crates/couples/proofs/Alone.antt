@@ -4,19 +4,19 @@ use Prim.Native.Nat.{ℕ, zero, suc, _<_}
 use mathlib.Core.Bool.{Bool, cond, _||_}
 use mathlib.Core.List.{List, [], _∷_, map, List·Memᴰ, List·Memᴰ·head, List·Memᴰ·not-nil}
 use mathlib.Core.Logic.{⊎-elim, _≢_, _↔_}
-use mathlib.Core.Path.{_≡_, refl, sym, subst, _∙_}
+use mathlib.Core.Path.{_≡_, refl, sym, subst}
 use native.Mathlib.Omega.{arith}
 use borrow.Author.Tests.{eq-eqb, ne-eqb}
-use lib.Bits.{and-comm}
 use lib.Dec.{T, eqb, eqb→eq}
 use lib.ListN.{length, getD, drop-of-length-le}
 use Rattle.laws.proofs.Folds.{map-at}
 use Rattle.laws.proofs.Tests.{T-or, eq-or-ne}
 use Rattle.semantics.specs.Plan.{LockPlan, threadProc}
 use Rattle.semantics.specs.Stuck.{DeadlockFree}
-use Rattle.semantics.specs.Pairs.{heldOf, wantedOf, Critical, pairList}
+use Rattle.semantics.specs.Pairs.{hadOf, wantedOf, Critical, pairList}
 use Rattle.semantics.specs.Conflict.{CompatibleIn, ExcludesIn, PairConflict, conflicting}
 use Rattle.semantics.proofs.Critical.PairList.{pair-list-critical, pair-list-ascends}
+use Rattle.semantics.proofs.Gateway.Compatible.{apart-sym}
 use Rattle.semantics.proofs.Conflicts.ConflictTest.{conflicting-pairs, pairs-conflicting, pair-in}
 use Rattle.semantics.proofs.Conflicts.Characterisation.{Ranked, plan-characterisation}
 use Rattle.couples.specs.Couples.{Couple, couple, couplesOf, threadPairs, couples, CriticalCouple, NeverStuckAlone, CouplesExact}
@@ -53,11 +53,11 @@ module _ (vss : List (List ℕ)) (t u : ℕ) (apart : u ≢ t) (c : Couple) (x :
   couple-conflict : PairConflict vss both chosen
   couple-conflict = record {
     from = by-thread (λ i w. List·Memᴰ w (getD vss i [])) (x .first-from) (x .second-from);
-    disjoint = λ i j s r n. by-thread (λ i w. i ≢ j → CompatibleIn (heldOf w) (heldOf (chosen j)))
-        (λ m. by-thread (λ j w. t ≢ j → CompatibleIn (heldOf (c .first)) (heldOf w)) (λ e. absurd (e refl)) (λ _. x .cross .apart) j r m)
-        (λ m. by-thread (λ j w. u ≢ j → CompatibleIn (heldOf (c .second)) (heldOf w))
-        (λ _. and-comm (heldOf (c .second)) (heldOf (c .first)) ∙ x .cross .apart) (λ e. absurd (e refl)) j r m) i s n;
-    wanted = by-thread (λ i w. (j : ℕ) × (j ≢ i) × T (both j) × ExcludesIn (heldOf (chosen j)) (wantedOf w))
+    disjoint = λ i j s r n. by-thread (λ i w. i ≢ j → CompatibleIn (hadOf w) (hadOf (chosen j)))
+        (λ m. by-thread (λ j w. t ≢ j → CompatibleIn (hadOf (c .first)) (hadOf w)) (λ e. absurd (e refl)) (λ _. x .cross .apart) j r m)
+        (λ m. by-thread (λ j w. u ≢ j → CompatibleIn (hadOf (c .second)) (hadOf w))
+        (λ _. apart-sym (hadOf (c .first)) (hadOf (c .second)) (x .cross .apart)) (λ e. absurd (e refl)) j r m) i s n;
+    wanted = by-thread (λ i w. (j : ℕ) × (j ≢ i) × T (both j) × ExcludesIn (hadOf (chosen j)) (wantedOf w))
         (u, apart, second-chosen .0, rw (second-chosen .1) (x .cross .first-wants))
         (t, (λ e. apart (sym e)), first-chosen .0, rw (first-chosen .1) (x .cross .second-wants));
     member = (t, first-chosen .0);
@@ -74,7 +74,7 @@ uncrossed vss t u apart none (c ∷ cs) e =
 
 module _ (vs ws : List ℕ) (S : ℕ → Bool) (pair : ℕ → ℕ) (k : PairConflict (vs ∷ ws ∷ []) S pair) where
   -- of two threads the other one
-  other : (t : ℕ) → T (S t) → (u : ℕ) × (u ≢ t) × T (S u) × ExcludesIn (heldOf (pair u)) (wantedOf (pair t)) × (t < 2) × (u < 2)
+  other : (t : ℕ) → T (S t) → (u : ℕ) × (u ≢ t) × T (S u) × ExcludesIn (hadOf (pair u)) (wantedOf (pair t)) × (t < 2) × (u < 2)
   other t s =
       let (u, n, r, e) = k .wanted t s in
       (u, n, r, e, pair-in (vs ∷ ws ∷ []) t (pair t) (k .from t s), pair-in (vs ∷ ws ∷ []) u (pair u) (k .from u r))
@@ -103,8 +103,8 @@ module _ (vs ws : List ℕ) (S : ℕ → Bool) (pair : ℕ → ℕ) (k : PairCon
         second-from = k .from 1 r;
         cross = record {
           apart = k .disjoint 0 1 s r (λ z. omega arith);
-          first-wants = subst (λ i. ExcludesIn (heldOf (pair i)) (wantedOf (pair 0))) is-one e;
-          second-wants = subst (λ i. ExcludesIn (heldOf (pair i)) (wantedOf (pair 1))) is-zero f;
+          first-wants = subst (λ i. ExcludesIn (hadOf (pair i)) (wantedOf (pair 0))) is-one e;
+          second-wants = subst (λ i. ExcludesIn (hadOf (pair i)) (wantedOf (pair 1))) is-zero f;
         };
       }
 

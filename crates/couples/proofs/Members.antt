@@ -13,26 +13,26 @@ use lib.ListN.{length, length-append}
 use Rattle.limits.specs.Limits.{maxPairs}
 use Rattle.laws.specs.Mask.{bit}
 use Rattle.laws.proofs.Tests.{T-and, and-T, T-true, eq→eqb}
-use Rattle.semantics.specs.Pairs.{heldOf, wantedOf}
-use Rattle.semantics.specs.Conflict.{compatibleSets, excludesSet}
+use Rattle.semantics.specs.Pairs.{hadOf, wantedOf}
+use Rattle.semantics.specs.Conflict.{bars, compatibleSets, excludesSet}
 use Rattle.couples.specs.Couples.{Couple, couple, Crosses, crosses, couplesWith, couplesOf}
 
 pub crosses-is : (v w : ℕ) → T (crosses v w) ↔ Crosses v w
 unfolding crosses
 crosses-is v w = (
   λ t.
-      let x = T-and (compatibleSets (heldOf v) (heldOf w)) (excludesSet (heldOf w) (wantedOf v) && excludesSet (heldOf v) (wantedOf w)) t in
-      let y = T-and (excludesSet (heldOf w) (wantedOf v)) (excludesSet (heldOf v) (wantedOf w)) (x .1) in
+      let x = T-and (compatibleSets (hadOf v) (hadOf w)) (excludesSet (hadOf w) (wantedOf v) && excludesSet (hadOf v) (wantedOf w)) t in
+      let y = T-and (excludesSet (hadOf w) (wantedOf v)) (excludesSet (hadOf v) (wantedOf w)) (x .1) in
       record {
-        apart = eqb→eq (bitAnd (heldOf v) (heldOf w)) 0 (x .0);
-        first-wants = eqb→eq (bit (heldOf w) (wantedOf v)) 1 (y .0);
-        second-wants = eqb→eq (bit (heldOf v) (wantedOf w)) 1 (y .1);
+        apart = eqb→eq (bitAnd (bars (hadOf v)) (hadOf w)) 0 (x .0);
+        first-wants = eqb→eq (bit (bars (hadOf w)) (wantedOf v)) 1 (y .0);
+        second-wants = eqb→eq (bit (bars (hadOf v)) (wantedOf w)) 1 (y .1);
       },
   λ c.
-      and-T (compatibleSets (heldOf v) (heldOf w)) (excludesSet (heldOf w) (wantedOf v) && excludesSet (heldOf v) (wantedOf w))
-      (eq→eqb (bitAnd (heldOf v) (heldOf w)) 0 (c .apart))
-      (and-T (excludesSet (heldOf w) (wantedOf v)) (excludesSet (heldOf v) (wantedOf w))
-      (eq→eqb (bit (heldOf w) (wantedOf v)) 1 (c .first-wants)) (eq→eqb (bit (heldOf v) (wantedOf w)) 1 (c .second-wants))),
+      and-T (compatibleSets (hadOf v) (hadOf w)) (excludesSet (hadOf w) (wantedOf v) && excludesSet (hadOf v) (wantedOf w))
+      (eq→eqb (bitAnd (bars (hadOf v)) (hadOf w)) 0 (c .apart))
+      (and-T (excludesSet (hadOf w) (wantedOf v)) (excludesSet (hadOf v) (wantedOf w))
+      (eq→eqb (bit (bars (hadOf w)) (wantedOf v)) 1 (c .first-wants)) (eq→eqb (bit (bars (hadOf v)) (wantedOf w)) 1 (c .second-wants))),
 )
 
 -- ---- the couples of one pair

@@ -21,10 +21,10 @@ pub record Sized (size : ℕ) (cells : Couple → List ℕ) : Type 0 where
   pub each : (c : Couple) → length (cells c) ≡ size
   pub room : (n l : ℕ) → n < l / size → size * n + size ≤ l
 
-pub words-sized : Sized 2 asWords
+pub words-sized : Sized 6 asWords
 words-sized = record { each = λ c. refl; room = λ n l h. omega arith }
 
-pub bytes-sized : Sized 16 asBytes
+pub bytes-sized : Sized 48 asBytes
 unfolding listBytes numberBytes
 bytes-sized = record { each = λ c. refl; room = λ n l h. omega arith }
 

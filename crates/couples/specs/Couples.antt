@@ -1,5 +1,5 @@
 -- Where two threads cross. 02, change 7: "Given two threads of a plan, list every couple of pairs, one from each, with no held lock in common and each wanting a lock that the
--- other holds. Order is by the first word, then the second."
+-- other holds. Order is by the first word, then the second." Change 9 widens when two pairs cross (`Crosses`).
 use Prim.Native.Nat.{ℕ, _<_}
 use mathlib.Core.Bool.{Bool, cond, _&&_}
 use mathlib.Core.List.{List, [], _∷_, flatMap, List·Memᴰ}
@@ -8,10 +8,10 @@ use mathlib.Core.Path.{_≡_}
 use lib.ListN.{length}
 use Rattle.semantics.specs.Plan.{LockPlan, threadProc}
 use Rattle.semantics.specs.Stuck.{DeadlockFree}
-use Rattle.semantics.specs.Pairs.{heldOf, wantedOf, Critical, pairList}
+use Rattle.semantics.specs.Pairs.{hadOf, wantedOf, Critical, pairList}
 use Rattle.semantics.specs.Conflict.{CompatibleIn, ExcludesIn, compatibleSets, excludesSet}
 
--- a couple of pairs, each as its 64-bit word
+-- a couple of pairs, each as its number
 pub record Couple : Type 0 where
   pub first : ℕ
   pub second : ℕ
@@ -19,15 +19,15 @@ pub record Couple : Type 0 where
 abbrev pub couple : ℕ → ℕ → Couple
 couple v w = record { first = v; second = w }
 
--- "with no held lock in common and each wanting a lock that the other holds"
+-- change 9: "Threads cross when their locks may stand together, and each one's wish may not stand beside what another has."
 pub record Crosses (v w : ℕ) : Type 0 where
-  pub apart : CompatibleIn (heldOf v) (heldOf w)
-  pub first-wants : ExcludesIn (heldOf w) (wantedOf v)
-  pub second-wants : ExcludesIn (heldOf v) (wantedOf w)
+  pub apart : CompatibleIn (hadOf v) (hadOf w)
+  pub first-wants : ExcludesIn (hadOf w) (wantedOf v)
+  pub second-wants : ExcludesIn (hadOf v) (wantedOf w)
 
 -- the same as a test (theorem `crosses-is`)
 unfoldable pub crosses : ℕ → ℕ → Bool
-crosses v w = compatibleSets (heldOf v) (heldOf w) && (excludesSet (heldOf w) (wantedOf v) && excludesSet (heldOf v) (wantedOf w))
+crosses v w = compatibleSets (hadOf v) (hadOf w) && (excludesSet (hadOf w) (wantedOf v) && excludesSet (hadOf v) (wantedOf w))
 
 -- the couples of the pair v with pairs of a list that cross it, in the list's order
 unfoldable pub couplesWith : ℕ → List ℕ → List Couple
@@ -46,7 +46,7 @@ threadPairs plan t = pairList (plan .procs) (threadProc plan t)
 unfoldable pub couples : LockPlan → ℕ → ℕ → List Couple
 couples plan t u = couplesOf (threadPairs plan t) (threadPairs plan u)
 
--- "Order is by the first word, then the second."
+-- "Order is by the first word, then the second." Of records it is by their words in turn, which is the order of their numbers (semantics, `pair-order`)
 abbrev pub Before : Couple → Couple → Type 0
 Before c d = (c .first < d .first) ⊎ ((c .first ≡ d .first) × (c .second < d .second))
 

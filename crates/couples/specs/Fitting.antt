@@ -1,5 +1,5 @@
--- Couples in lent buffers: "the lent buffer, of any length, takes the first ones that fit whole (two words each) and keeps its remainder" (02, change 7). Said once for a buffer
--- of words and one of bytes: a couple fills `size` cells of it.
+-- Couples in lent buffers: "the lent buffer, of any length, takes the first ones that fit whole .. and keeps its remainder" (02, change 7), six words each (change 9). Said once
+-- for a buffer of words and one of bytes: a couple fills `size` cells of it.
 use Prim.Native.Nat.{ℕ, _+_, _*_, _/_}
 use mathlib.Core.Bool.{cond}
 use mathlib.Core.List.{List, [], _∷_, _++_, flatMap}
@@ -7,12 +7,13 @@ use mathlib.Core.Path.{_≡_}
 use lib.Dec.{ltb}
 use lib.ListN.{length, take, drop}
 use Rattle.laws.specs.Wrote.{filled}
+use Rattle.semantics.specs.Pairs.{pairWords}
 use Rattle.buffers.specs.LittleEndian.{listBytes}
 use Rattle.couples.specs.Couples.{Couple}
 
--- "two words each"
+-- "a crossing couple six": the three words of each pair
 abbrev pub asWords : Couple → List ℕ
-asWords c = c .first ∷ c .second ∷ []
+asWords c = pairWords (c .first) ++ pairWords (c .second)
 
 -- for C each word as eight bytes, "lowest byte first" (01)
 abbrev pub asBytes : Couple → List ℕ
@@ -24,10 +25,10 @@ fitting size cells lent cs = flatMap cells (take (lent / size) cs)
 
 -- of a buffer of words, and of one of bytes
 abbrev pub fittingWords : ℕ → List Couple → List ℕ
-fittingWords lent cs = fitting 2 asWords lent cs
+fittingWords lent cs = fitting 6 asWords lent cs
 
 abbrev pub fittingBytes : ℕ → List Couple → List ℕ
-fittingBytes lent cs = fitting 16 asBytes lent cs
+fittingBytes lent cs = fitting 48 asBytes lent cs
 
 -- "The count is of all couples": how many, and what the two buffers hold then
 pub record CouplesFound (cs : List Couple) (words words′ bytes bytes′ : List ℕ) (r : ℕ) : Type 0 where
@@ -49,5 +50,5 @@ putFrom size cells out n (c ∷ cs) = putFrom size cells (putAt size cells out n
 -- couples behind n others: how many there are then, and what the two buffers hold then
 pub record CouplesPut (cs : List Couple) (n : ℕ) (words words′ bytes bytes′ : List ℕ) (r : ℕ) : Type 0 where
   pub count : r ≡ n + length cs
-  pub in-words : words′ ≡ putFrom 2 asWords words n cs
-  pub in-bytes : bytes′ ≡ putFrom 16 asBytes bytes n cs
+  pub in-words : words′ ≡ putFrom 6 asWords words n cs
+  pub in-bytes : bytes′ ≡ putFrom 48 asBytes bytes n cs

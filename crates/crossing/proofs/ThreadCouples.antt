@@ -1,12 +1,12 @@
 -- The couples of two threads of a text, from their pair lists; what they are, since the text is accepted and the threads are there and two; and handed to the caller.
-use Prim.Native.Nat.{ℕ, _-_, _^_, _<_, _≤_}
+use Prim.Native.Nat.{ℕ, _-_, _*_, _^_, _<_, _≤_}
 use native.Mathlib.Omega.{arith}
 use mathlib.Core.List.{List}
 use mathlib.Core.Logic.{_≢_}
 use mathlib.Core.Option.{Option, none, some}
 use mathlib.Core.Path.{_≡_, refl, sym, ap, _∙_}
-use lib.ListN.{length, take}
-use Rattle.limits.specs.Limits.{maxPairs}
+use lib.ListN.{length, take, length-take}
+use Rattle.limits.specs.Limits.{maxPairs, maxPairWords}
 use Rattle.text.specs.declared.Refusal.{Refusal}
 use Rattle.semantics.specs.Plan.{threadProc}
 use Rattle.plan.specs.Rules.{planOf, planRefusal, crossingsRefusal}
@@ -20,6 +20,8 @@ use Rattle.answers.proofs.LineBounds.{crossings-bounded}
 use Rattle.answers.proofs.Counts.{counted-carried}
 use Rattle.couples.specs.Couples.{couplesOf, threadPairs, couples, CouplesExact}
 use Rattle.couples.specs.Fitting.{CouplesFound}
+use Rattle.couples.specs.Records.{pairsFrom}
+use Rattle.couples.proofs.Records.{thread-records}
 use Rattle.couples.proofs.Members.{couples-few}
 use Rattle.couples.proofs.Alone.{couples-exact}
 use Rattle.crossing.specs.declared.TwoLists.{TwoLists}
@@ -67,25 +69,43 @@ module _ (text : List ℕ) (t u : ℕ) (r : TwoLists) (one two : List ℕ) (f : 
     pub listed : (crossingsRefusal text t u ≡ none) × (m ≡ length (threadPairs (planOf text) t)) × (n ≡ length (threadPairs (planOf text) u))
     listed = both-kept (crossingsRefusal text t u) (length (threadPairs (planOf text) t)) (length (threadPairs (planOf text) u)) m n (sym g ∙ f .answer)
 
-    pub first-within : (one₀ : List ℕ) → maxPairs ≤ length one₀ → length one ≡ length one₀ → m ≤ length one
-    first-within one₀ h e = omega (arith, listed .1, first-pairs-few text t u (listed .0))
+    first-short : m ≤ maxPairs
+    first-short = omega (arith, listed .1, first-pairs-few text t u (listed .0))
 
-    pub second-within : (two₀ : List ℕ) → maxPairs ≤ length two₀ → length two ≡ length two₀ → n ≤ length two
-    second-within two₀ h e = omega (arith, listed .2, second-pairs-few text t u (listed .0))
+    second-short : n ≤ maxPairs
+    second-short = omega (arith, listed .2, second-pairs-few text t u (listed .0))
 
-    pub first-is : take (m - 0) one ≡ threadPairs (planOf text) t
-    first-is = let z : m - 0 ≡ length (threadPairs (planOf text) t) = omega (arith, listed .1) in rw z (f .of-first (listed .0))
+    pub first-fits : 3 * m < 2 ^ 64
+    first-fits = omega (arith, first-short)
 
-    pub second-is : take (n - 0) two ≡ threadPairs (planOf text) u
-    second-is = let z : n - 0 ≡ length (threadPairs (planOf text) u) = omega (arith, listed .2) in rw z (f .of-second (listed .0))
+    pub second-fits : 3 * n < 2 ^ 64
+    second-fits = omega (arith, second-short)
 
-    pub first-few : length (take (m - 0) one) ≤ maxPairs
-    first-few = rw first-is (first-pairs-few text t u (listed .0))
+    pub first-within : (one₀ : List ℕ) → maxPairWords ≤ length one₀ → length one ≡ length one₀ → 3 * m ≤ length one
+    first-within one₀ h e = omega (arith, first-short)
 
-    pub second-few : length (take (n - 0) two) ≤ maxPairs
-    second-few = rw second-is (second-pairs-few text t u (listed .0))
+    pub second-within : (two₀ : List ℕ) → maxPairWords ≤ length two₀ → length two ≡ length two₀ → 3 * n ≤ length two
+    second-within two₀ h e = omega (arith, second-short)
 
-    pub couples-counted : (words words′ bytes bytes′ : List ℕ) (k : ℕ) → CouplesFound (couplesOf (take (m - 0) one) (take (n - 0) two)) words words′ bytes bytes′ k
+    pub first-few : length (take (3 * m - 0) one) ≤ maxPairWords
+    first-few = rw (length-take (3 * m - 0) one) (omega (arith, first-short))
+
+    pub second-few : length (take (3 * n - 0) two) ≤ maxPairWords
+    second-few = rw (length-take (3 * n - 0) two) (omega (arith, second-short))
+
+    -- the pairs read from the lists are those of the threads
+    pub first-is : pairsFrom (take (3 * m - 0) one) ≡ threadPairs (planOf text) t
+    first-is =
+        let z : 3 * m - 0 ≡ 3 * length (threadPairs (planOf text) t) = omega (arith, listed .1) in
+        rw (z, f .of-first (listed .0)) (thread-records (planOf text) (accepted-ranked text (kept text t u (listed .0) .0)) t (kept text t u (listed .0) .1))
+
+    pub second-is : pairsFrom (take (3 * n - 0) two) ≡ threadPairs (planOf text) u
+    second-is =
+        let z : 3 * n - 0 ≡ 3 * length (threadPairs (planOf text) u) = omega (arith, listed .2) in
+        rw (z, f .of-second (listed .0)) (thread-records (planOf text) (accepted-ranked text (kept text t u (listed .0) .0)) u (kept text t u (listed .0) .2))
+
+    pub couples-counted : (words words′ bytes bytes′ : List ℕ) (k : ℕ)
+        → CouplesFound (couplesOf (pairsFrom (take (3 * m - 0) one)) (pairsFrom (take (3 * n - 0) two))) words words′ bytes bytes′ k
         → CouplesIn text t u words words′ bytes bytes′ (Count k)
     unfolding couples countedOf
     couples-counted words words′ bytes bytes′ k c =

@@ -1,5 +1,5 @@
 -- The pair lists of two threads, found by the rules in checking order: of a table, then of the text whose table it is.
-use Prim.Native.Nat.{ℕ, _-_, _<_, _≤_}
+use Prim.Native.Nat.{ℕ, _-_, _*_, _<_, _≤_}
 use native.Mathlib.Omega.{arith}
 use mathlib.Core.Bool.{Bool, true, false}
 use mathlib.Core.List.{List}
@@ -8,7 +8,6 @@ use mathlib.Core.Path.{_≡_, refl, sym, _∙_}
 use borrow.Author.Tests.{le-leb, lt-leb}
 use lib.Dec.{eqb}
 use lib.ListN.{length, take, getD}
-use Rattle.laws.specs.Wrote.{Wrote}
 use Rattle.laws.proofs.Wrote.{wrote-start}
 use Rattle.text.specs.declared.Refusal.{Refusal}
 use Rattle.text.specs.Lines.{refusal, formsOf}
@@ -20,11 +19,11 @@ use Rattle.plan.specs.Rules.{planRefusal, areNoTwo, crossingsRefusal, Tabled}
 use Rattle.plan.proofs.AcceptedTable.{plan-kept, plan-same}
 use Rattle.plan.proofs.Filling.{refused-is}
 use Rattle.plan.proofs.TwoThreads.{two-exactly}
-use Rattle.semantics.specs.Pairs.{pairList}
+use Rattle.semantics.specs.Plan.{threadProc}
 use Rattle.procs.specs.declared.Layout.{Layout}
 use Rattle.procs.specs.Laid.{Laid}
 use Rattle.procs.proofs.Layouts.{runs-at, runs-present}
-use Rattle.couples.specs.Couples.{threadPairs}
+use Rattle.pairs.specs.Words.{WordsOfPairs}
 use Rattle.crossing.specs.declared.TwoLists.{TwoLists}
 use Rattle.crossing.specs.declared.TwoLists.the-variants.{Both, Refused}
 use Rattle.crossing.specs.Crossed.{twoListsOf, TableLists, TextLists}
@@ -35,8 +34,7 @@ module _ (table : List ℕ) (l : Layout) (laid : Laid table l) (t : ℕ) (h : t 
   pub proc-there : RulesKept table → getD runs t 0 < l .procs
   proc-there k = rw e (omega (arith, runs-present table l laid t h (k .plan), laid .procs-all))
 
-  pub pairs-of-thread : (before after : List ℕ) (r : ℕ) → Wrote before after 0 r (pairList (tablePlan table .procs) (getD runs t 0))
-      → Wrote before after 0 r (threadPairs (tablePlan table) t)
+  pub pairs-of-thread : (before after : List ℕ) (r : ℕ) → WordsOfPairs table (getD runs t 0) before r after → WordsOfPairs table (threadProc (tablePlan table) t) before r after
   pairs-of-thread before after r w = rw (e, runs-at table l laid t h) at w
 
 -- ---- two threads
@@ -73,16 +71,14 @@ module _ (table : List ℕ) (l : Layout) (laid : Laid table l) (t u : ℕ) (b : 
     of-second = λ g. absurd (Option·some-ne-none _ g);
   })
 
-  pub lists-found : (one₀ two₀ : List ℕ) (m n : ℕ) → b ≡ false → Wrote one₀ one 0 m (threadPairs (tablePlan table) t) → Wrote two₀ two 0 n (threadPairs (tablePlan table) u)
-      → TableLists table t u (Both m n) one two
+  pub lists-found : (one₀ two₀ : List ℕ) (m n : ℕ) → b ≡ false → WordsOfPairs table (threadProc (tablePlan table) t) one₀ m one
+      → WordsOfPairs table (threadProc (tablePlan table) u) two₀ n two → TableLists table t u (Both m n) one two
   unfolding twoListsOf
   lists-found one₀ two₀ m n f v w =
-      let i : m ≡ length (threadPairs (tablePlan table) t) = omega (arith, v .place) in
-      let j : n ≡ length (threadPairs (tablePlan table) u) = omega (arith, w .place) in
       rw (same, f) (record {
-        answer = rw (← i, ← j);
-        of-first = λ _. rw (← i) (wrote-start one₀ one 0 m (threadPairs (tablePlan table) t) v refl);
-        of-second = λ _. rw (← j) (wrote-start two₀ two 0 n (threadPairs (tablePlan table) u) w refl);
+        answer = rw (← v .count, ← w .count);
+        of-first = λ _. rw (← v .count) (wrote-start one₀ one 0 (3 * m) _ (v .list) refl);
+        of-second = λ _. rw (← w .count) (wrote-start two₀ two 0 (3 * n) _ (w .list) refl);
       })
 
 -- ---- in a text

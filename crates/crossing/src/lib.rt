@@ -2,16 +2,16 @@
 ghost use mathlib.Core.Path.{_≡_};
 ghost use Prim.Native.Nat.{_≤_, _<_};
 ghost use lib.ListN.{length};
-ghost use Rattle.limits.specs.Limits.{maxForms, maxPairs};
-ghost use Rattle.laws.specs.Wrote.{Wrote};
+ghost use Rattle.limits.specs.Limits.{maxForms, maxPairWords};
+ghost use Rattle.semantics.specs.Plan.{threadProc};
 ghost use Rattle.plan.specs.Rules.{areNoTwo};
 ghost use Rattle.plan.specs.Settled.{RulesKept, tablePlan};
 ghost use Rattle.procs.specs.Laid.{Laid};
-ghost use Rattle.couples.specs.Couples.{threadPairs};
+ghost use Rattle.pairs.specs.Words.{WordsOfPairs};
 ghost use Rattle.crossing.specs.Crossed.{TableLists, TextLists, CouplesIn, Crossed, CrossedBytes};
 use answers::Counted;
 use limits::MAX_FORMS;
-use limits::MAX_PAIRS;
+use limits::MAX_PAIR_WORDS;
 use plan::Reading;
 use procs::Layout;
 use text::Refusal;
@@ -22,14 +22,14 @@ pub enum TwoLists {
     Refused(Refusal),
 }
 
-// The pairs of the procedure that thread t of a table runs.
+// The pairs of the procedure that thread t of a table runs, three words each.
 fn thread_pairs(table: &[u64], layout: Layout, t: usize, list: &mut [u64]) -> usize
-    requires { ⌜ RulesKept (now table) × Laid (now table) layout × (t < layout .threads) × (maxPairs ≤ length (now list)) ⌝ }
-    ensures { λ r. ⌜ Wrote (now (list .entry)) (now (list .exit)) 0 r (threadPairs (tablePlan (now (table .entry))) t) ⌝ }
+    requires { ⌜ RulesKept (now table) × Laid (now table) layout × (t < layout .threads) × (maxPairWords ≤ length (now list)) ⌝ }
+    ensures { λ r. ⌜ WordsOfPairs (now (table .entry)) (threadProc (tablePlan (now (table .entry))) t) (now (list .entry)) r (now (list .exit)) ⌝ }
 {
     let runs = layout.runs;
     let p = runs[t] as usize;
-    pairs::collect_pairs(table, layout, p, list)
+    pairs::collect_words(table, layout, p, list)
 }
 
 // Whether of n threads one of the two is not there, or both are the same.
@@ -54,7 +54,7 @@ fn table_lists(
     one: &mut [u64],
     two: &mut [u64],
 ) -> TwoLists
-    requires { ⌜ RulesKept (now table) × Laid (now table) layout × (maxPairs ≤ length (now one)) × (maxPairs ≤ length (now two)) ⌝ }
+    requires { ⌜ RulesKept (now table) × Laid (now table) layout × (maxPairWords ≤ length (now one)) × (maxPairWords ≤ length (now two)) ⌝ }
     ensures { λ r. ⌜ TableLists (now (table .entry)) first second r (now (one .exit)) (now (two .exit)) ⌝ }
 {
     if are_no_two(layout.threads, first, second) {
@@ -77,7 +77,7 @@ fn find_lists(
     one: &mut [u64],
     two: &mut [u64],
 ) -> TwoLists
-    requires { ⌜ (maxForms ≤ length (now table)) × (maxPairs ≤ length (now one)) × (maxPairs ≤ length (now two)) ⌝ }
+    requires { ⌜ (maxForms ≤ length (now table)) × (maxPairWords ≤ length (now one)) × (maxPairWords ≤ length (now two)) ⌝ }
     ensures { λ r. ⌜ TextLists (now (text .entry)) first second r (now (one .exit)) (now (two .exit)) ⌝ }
 {
     let checked = checked::read_text(text, table);
@@ -96,7 +96,7 @@ pub fn two_lists(
     one: &mut [u64],
     two: &mut [u64],
 ) -> TwoLists
-    requires { ⌜ (maxPairs ≤ length (now one)) × (maxPairs ≤ length (now two)) ⌝ }
+    requires { ⌜ (maxPairWords ≤ length (now one)) × (maxPairWords ≤ length (now two)) ⌝ }
     ensures { λ r. ⌜ TextLists (now (text .entry)) first second r (now (one .exit)) (now (two .exit)) ⌝ }
 {
     let mut table = [0u64; MAX_FORMS];
@@ -113,7 +113,7 @@ fn find_crossings(
     words: &mut [u64],
     bytes: &mut [u8],
 ) -> Counted
-    requires { ⌜ (maxPairs ≤ length (now one)) × (maxPairs ≤ length (now two)) ⌝ }
+    requires { ⌜ (maxPairWords ≤ length (now one)) × (maxPairWords ≤ length (now two)) ⌝ }
     ensures { λ r. ⌜ CouplesIn (now (text .entry)) first second (now (words .entry)) (now (words .exit)) (now (bytes .entry)) (now (bytes .exit)) r ⌝ }
 {
     let lists = two_lists(text, first, second, one, two);
@@ -122,7 +122,7 @@ fn find_crossings(
             first: m,
             second: n,
         } => {
-            let count = couples::find_couples(&one[0..m], &two[0..n], words, bytes);
+            let count = couples::find_couples(&one[0..3 * m], &two[0..3 * n], words, bytes);
             Counted::Count(count)
         }
         TwoLists::Refused(refusal) => Counted::Refused(refusal),
@@ -139,12 +139,12 @@ fn cross_threads(
 ) -> Counted
     ensures { λ r. ⌜ CouplesIn (now (text .entry)) first second (now (words .entry)) (now (words .exit)) (now (bytes .entry)) (now (bytes .exit)) r ⌝ }
 {
-    let mut one = [0u64; MAX_PAIRS];
-    let mut two = [0u64; MAX_PAIRS];
+    let mut one = [0u64; MAX_PAIR_WORDS];
+    let mut two = [0u64; MAX_PAIR_WORDS];
     find_crossings(text, first, second, &mut one, &mut two, words, bytes)
 }
 
-// The couples at the start of `out`, as far as they fit whole, two words each.
+// The couples at the start of `out`, as far as they fit whole, six words each.
 pub fn crossings(text: &[u8], first: usize, second: usize, out: &mut [u64]) -> Counted
     ensures { λ r. ⌜ Crossed (now (text .entry)) first second (now (out .entry)) r (now (out .exit)) ⌝ }
 {

@@ -1,5 +1,5 @@
 -- Of two threads there are as many parts as the first has pairs and two more, so the loop prints every part, and stops behind the last. Joined they are what is to be printed.
-use Prim.Native.Nat.{ℕ, _+_, _-_, _≤_}
+use Prim.Native.Nat.{ℕ, _+_, _-_, _*_, _/_, _≤_}
 use native.Mathlib.Omega.{arith}
 use mathlib.Core.List.{List, flatten}
 use mathlib.Core.Path.{_≡_, sym, _∙_}
@@ -7,6 +7,8 @@ use lib.ListN.{length, take}
 use Rattle.text.specs.declared.Refusal.{Refusal}
 use Rattle.plan.specs.Rules.{crossingsRefusal}
 use Rattle.report_lines.specs.Lines.{refusedLine}
+use Rattle.couples.specs.Records.{pairsFrom}
+use Rattle.couples.proofs.Records.{from-length}
 use Rattle.couple_lines.specs.CoupleLines.{couplesParts, printedCouples}
 use Rattle.couple_lines.proofs.Places.{parts-count}
 use Rattle.couple_lines.proofs.Parts.{printed-joined}
@@ -22,12 +24,15 @@ use Rattle.streams.specs.declared.Printed.{Printed}
 use Rattle.streams.specs.Printing.{AllPrinted}
 use Rattle.streams.proofs.Printing.{PrintedTo, parts-printed}
 
-pub couples-printed : (t u : ℕ) (vs ws : List ℕ) (k bytes : ℕ) → PrintedTo (couplesParts t u vs ws) k bytes → length vs + 2 ≤ k → bytes ≡ length (flatten (couplesParts t u vs ws))
-couples-printed t u vs ws k bytes before h = parts-printed (couplesParts t u vs ws) k bytes before (omega (arith, parts-count t u vs ws))
+pub couples-printed : (t u : ℕ) (one ws : List ℕ) (k bytes : ℕ) → PrintedTo (couplesParts t u (pairsFrom one) ws) k bytes → length one / 3 + 2 ≤ k
+    → bytes ≡ length (flatten (couplesParts t u (pairsFrom one) ws))
+couples-printed t u one ws k bytes before h =
+    parts-printed (couplesParts t u (pairsFrom one) ws) k bytes before (omega (arith, from-length one, parts-count t u (pairsFrom one) ws))
 
 -- what is printed of the pair lists found in a text, or of the refusal, is what is to be printed of it
 module _ (text : List ℕ) (t u : ℕ) (q : TwoLists) (one two : List ℕ) (f : TextLists text t u q one two) (r : Printed) where
-  pub lists-printed : (m n : ℕ) → q ≡ Both m n → AllPrinted r (flatten (couplesParts t u (take (m - 0) one) (take (n - 0) two))) → AllPrinted r (printedCouples text t u)
+  pub lists-printed : (m n : ℕ) → q ≡ Both m n → AllPrinted r (flatten (couplesParts t u (pairsFrom (take (3 * m - 0) one)) (pairsFrom (take (3 * n - 0) two))))
+      → AllPrinted r (printedCouples text t u)
   lists-printed m n g p whole =
       rw (first-is text t u q one two f m n g, second-is text t u q one two f m n g, printed-joined text t u (listed text t u q one two f m n g .0)) at (p whole)
 

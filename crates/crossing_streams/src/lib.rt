@@ -3,8 +3,9 @@ ghost use Prim.Native.Nat.{_≤_};
 ghost use mathlib.Core.List.{flatten};
 ghost use mathlib.Core.Path.{_≡_};
 ghost use lib.ListN.{length};
-ghost use Rattle.limits.specs.Limits.{maxPairs};
+ghost use Rattle.limits.specs.Limits.{maxPairWords};
 ghost use Rattle.report_lines.specs.Lines.{refusedLine};
+ghost use Rattle.couples.specs.Records.{pairsFrom};
 ghost use Rattle.couple_lines.specs.CoupleLines.{couplesParts, couplesPartRoom, printedCouples};
 ghost use Rattle.crossings_text.specs.AllCrossings.{printedCrossings};
 ghost use Rattle.crossings_text.specs.Request.{printedRequest};
@@ -13,7 +14,7 @@ use couple_lines::COUPLES_PART_ROOM;
 use crossing::TwoLists;
 use crossings_text::CROSSINGS_ROOM;
 use crossings_text::Request;
-use limits::MAX_PAIRS;
+use limits::MAX_PAIR_WORDS;
 use streams::Printed;
 
 // Which threads of a text's plan cross, or the line of its refusal.
@@ -27,12 +28,12 @@ fn print_crossings(text: &[u8]) -> Printed
 
 // The parts of what is printed of two threads with these pairs, in order, up to the last.
 fn print_couple_parts(first: u64, second: u64, one: &[u64], two: &[u64], out: &mut [u8]) -> Printed
-    requires { ⌜ (length (now one) ≤ maxPairs) × (length (now two) ≤ maxPairs) × (length (now out) ≡ couplesPartRoom) ⌝ }
-    ensures { λ r. ⌜ AllPrinted r (flatten (couplesParts first second (now (one .entry)) (now (two .entry)))) ⌝ }
+    requires { ⌜ (length (now one) ≤ maxPairWords) × (length (now two) ≤ maxPairWords) × (length (now out) ≡ couplesPartRoom) ⌝ }
+    ensures { λ r. ⌜ AllPrinted r (flatten (couplesParts first second (pairsFrom (now (one .entry))) (pairsFrom (now (two .entry))))) ⌝ }
 {
     let mut bytes: usize = 0;
     let mut k: usize = 0;
-    while k < one.len() + 2 {
+    while k < one.len() / 3 + 2 {
         let n = couple_lines::put_part(first, second, one, two, k, out);
         let part = streams::print_bytes(&out[0..n]);
         if !part.whole {
@@ -65,7 +66,7 @@ fn print_lists(
     two: &mut [u64],
     out: &mut [u8],
 ) -> Printed
-    requires { ⌜ (maxPairs ≤ length (now one)) × (maxPairs ≤ length (now two)) × (length (now out) ≡ couplesPartRoom) ⌝ }
+    requires { ⌜ (maxPairWords ≤ length (now one)) × (maxPairWords ≤ length (now two)) × (length (now out) ≡ couplesPartRoom) ⌝ }
     ensures { λ r. ⌜ AllPrinted r (printedCouples (now (text .entry)) first second) ⌝ }
 {
     let lists = crossing::two_lists(text, first, second, one, two);
@@ -73,7 +74,13 @@ fn print_lists(
         TwoLists::Both {
             first: m,
             second: n,
-        } => print_couple_parts(first as u64, second as u64, &one[0..m], &two[0..n], out),
+        } => print_couple_parts(
+            first as u64,
+            second as u64,
+            &one[0..3 * m],
+            &two[0..3 * n],
+            out,
+        ),
         TwoLists::Refused(refusal) => print_refused(refusal.rule, refusal.line, out),
     }
 }
@@ -82,8 +89,8 @@ fn print_lists(
 fn print_couples(text: &[u8], first: usize, second: usize) -> Printed
     ensures { λ r. ⌜ AllPrinted r (printedCouples (now (text .entry)) first second) ⌝ }
 {
-    let mut one = [0u64; MAX_PAIRS];
-    let mut two = [0u64; MAX_PAIRS];
+    let mut one = [0u64; MAX_PAIR_WORDS];
+    let mut two = [0u64; MAX_PAIR_WORDS];
     let mut out = [0u8; COUPLES_PART_ROOM];
     print_lists(text, first, second, &mut one, &mut two, &mut out)
 }

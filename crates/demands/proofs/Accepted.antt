@@ -9,7 +9,7 @@ use native.Mathlib.Omega.{arith}
 use lib.Dec.{ltb, leb}
 use lib.ListN.{length}
 use borrow.Author.Tests.{le-ltb, lt-leb, ltb-false, leb-false}
-use Rattle.limits.specs.Limits.{maxBytes, maxSize, maxPairs}
+use Rattle.limits.specs.Limits.{maxBytes, maxSize, maxPairWords}
 use Rattle.laws.proofs.Tests.{first-none}
 use Rattle.text.specs.Lines.{formsOf, unreadableLine, IsText}
 use Rattle.text.proofs.Splits.{readable-written, text-written}
@@ -138,19 +138,19 @@ module _ (text : List ℕ) where
   )
 
   -- with rules 1 and 11
-  pub pairs-accepted-exactly : (p lent : ℕ) → (pairsRefusal text p lent ≡ none) ↔ ((maxPairs ≤ lent) × (x : AcceptedText text) × (p < length (x .plan .procs)))
+  pub pairs-accepted-exactly : (p lent : ℕ) → (pairsRefusal text p lent ≡ none) ↔ ((maxPairWords ≤ lent) × (x : AcceptedText text) × (p < length (x .plan .procs)))
   unfolding pairsRefusal orElse
   pairs-accepted-exactly p lent =
       let absent = refusedIf 11 (leb (length (planOf text .procs)) p) in (
         λ e.
-            let y = first-none (refusedIf 1 (ltb lent maxPairs)) (orElse (planRefusal text) absent) e in
+            let y = first-none (refusedIf 1 (ltb lent maxPairWords)) (orElse (planRefusal text) absent) e in
             let z = first-none (planRefusal text) absent (y .1) in
             let x = accepted (z .0) in (
-              ltb-false lent maxPairs (unflagged 1 (ltb lent maxPairs) (y .0)),
+              ltb-false lent maxPairWords (unflagged 1 (ltb lent maxPairWords) (y .0)),
               x,
               subst (λ (q : LockPlan). p < length (q .procs)) (accepted-plan x) (leb-false (length (planOf text .procs)) p (unflagged 11 _ (z .1))),
             ),
-        λ y. rw (le-ltb lent maxPairs (y .0), unrefused (y .1), accepted-plan (y .1), lt-leb (length (y .1 .plan .procs)) p (y .2)),
+        λ y. rw (le-ltb lent maxPairWords (y .0), unrefused (y .1), accepted-plan (y .1), lt-leb (length (y .1 .plan .procs)) p (y .2)),
       )
 
   -- with rule 14 behind the plan's

@@ -8,13 +8,13 @@ use mathlib.Core.Path.{_≡_, refl, sym, ap, _∙_}
 use native.Mathlib.Omega.{arith}
 use Rattle.limits.specs.Limits.{maxBrackets}
 use Rattle.text.specs.declared.Form.{Form}
-use Rattle.text.specs.declared.Form.the-variants.{Plan, Proc, Thread, Close, Skip, Call, Hold, Loop, Either, One, Two}
+use Rattle.text.specs.declared.Form.the-variants.{Plan, Proc, Thread, Close, Skip, Call, Hold, Loop, Either, One, Two, Share}
 use Rattle.text.specs.Forms.{kindIn, isProc, isBracket, isClose}
 use Rattle.plan.specs.declared.Counts.{Counts}
 use Rattle.plan.specs.Limits.{counted, countIf}
 use Rattle.plan.proofs.States.{Bracket, statement, one, two}
 use Rattle.plan.proofs.States.{State, initial, first-proc, next-proc, next-thread, finished, in-block, needs-one, needs-two, ends-either}
-use Rattle.plan.proofs.States.{Step, begins-plan, first, next, first-thread, more-threads, ends-plan, skips, calls, holds, loops, chooses}
+use Rattle.plan.proofs.States.{Step, begins-plan, first, next, first-thread, more-threads, ends-plan, skips, calls, holds, shares, loops, chooses}
 use Rattle.plan.proofs.States.{begins-one, begins-two, ends-proc, ends-statement, ends-one, ends-two, ends-choice}
 use Rattle.demands.specs.Broken.{TooDeep}
 use Rattle.demands.proofs.Counting as Counting
@@ -122,6 +122,7 @@ open-step ends-plan fs c x = ended-more fs Close _ _ refl refl (omega (arith, x 
 open-step (skips {ks}) fs c x = within-more fs Skip _ _ refl (levels ks) (levels ks) refl (x .depth) x
 open-step (calls {ks} {n}) fs c x = within-more fs (Call n) _ _ refl (levels ks) (levels ks) refl (x .depth) x
 open-step (holds {ks} {l}) fs c x = within-more fs (Hold l) _ _ refl (levels ks) (suc (levels ks)) (omega arith) (omega (arith, x .depth)) x
+open-step (shares {ks} {l}) fs c x = within-more fs (Share l) _ _ refl (levels ks) (suc (levels ks)) (omega arith) (omega (arith, x .depth)) x
 open-step (loops {ks}) fs c x = within-more fs Loop _ _ refl (levels ks) (suc (levels ks)) (omega arith) (omega (arith, x .depth)) x
 open-step (chooses {ks}) fs c x = within-more fs Either _ _ refl (levels ks) (suc (levels ks)) (omega arith) (omega (arith, x .depth)) x
 open-step (begins-one {ks}) fs c x = within-more fs One _ _ refl (suc (levels ks)) (suc (suc (levels ks))) (omega arith) (omega (arith, x .depth)) x

@@ -14,16 +14,17 @@ use Rattle.laws.specs.Mask.{bit}
 use Rattle.laws.specs.Sums.{total}
 use Rattle.laws.proofs.Tests.{T-and}
 use Rattle.text.specs.Forms.{decimal, numberIn, kindIn}
-use Rattle.text.specs.Kinds.{kindOf, planKind, twoKind, threadKind, callKind, holdKind, numbered, keywordKind}
+use Rattle.text.specs.Kinds.{kindOf, planKind, twoKind, skipKind, threadKind, callKind, holdKind, shareKind, numbered, keywordKind}
 use Rattle.text.specs.Kinds.{betweenKeyword, afterKeyword, numberOf, appendDigit, leadingOf, digitOf}
 use Rattle.text.specs.Lines.{split, unindented, passedOver, formsIn, formsOf, unreadable, unreadableLine, lineFor, lineOf}
+use Rattle.semantics.specs.Claims.{byShare, byHold, lockOf, isHold, noneBelow, together, freshTo}
 use Rattle.semantics.specs.Plan.{bodyIn, _⨾_}
 use Rattle.semantics.specs.CallMasks.{callMask, joinThrough, warshallRound, reachMasks, reachMask, joinReached}
 use Rattle.semantics.specs.Sizes.{sizeWith, sizeAt, sizeOf, threadSize, threadSizes}
 use Rattle.semantics.specs.Run.{up, down, move, compatible, withAll, apart, threadAt, stepIn, step, run, start}
-use Rattle.semantics.specs.Pairs.{heldFrom, pairsWith, pairsAt, pairList}
+use Rattle.semantics.specs.Pairs.{hadFrom, pairsWith, pairsAt, pairList}
 use Rattle.semantics.specs.Cases.{setOf}
-use Rattle.semantics.specs.Conflict.{any, unmet, searchFrom}
+use Rattle.semantics.specs.Conflict.{bars, any, unmet, searchFrom}
 use Rattle.semantics.proofs.Stuck.LargestStuck.{atHold, round, rounds}
 use Rattle.semantics.proofs.Analysis.CaseTest.{written, allWritten, all, pairsFrom, sameBelow, stuckAre, answers, passes, passes-facts}
 use Rattle.plan.specs.Grammar.{inFront, behind, planIn}
@@ -33,8 +34,8 @@ use Rattle.text.specs.declared.Refusal.{Refusal}
 use Rattle.text.specs.Lines.{refusal}
 use Rattle.plan.specs.Rules.{tooLong, linesRefusal, referencesRefusal, grammarRefusal, formsRefusal, planOf, procFormFrom}
 use Rattle.plan.specs.Rules.{lowestFrom, procRefusal, recursive, idle, tooLarge, planRefusal}
-use Rattle.demands.specs.Examples.{Outcome, refusedBy, accepted, Example, Gives, copies, loops, eithers, callsBelow}
-use Rattle.demands.specs.Examples.{rule3, rule4, rule5, rule678, laterCalls, idleProcs, rule9, remarks, to8, to9, reference, limits}
+use Rattle.demands.specs.Examples.{Outcome, refusedBy, accepted, Example, Gives, copies, loops, eithers, callsBelow, sharings}
+use Rattle.demands.specs.Examples.{rule3, rule4, rule5, rule678, laterCalls, idleProcs, rule9, remarks, shares, to8, to9, reference, limits}
 
 -- ---- the test
 
@@ -55,12 +56,12 @@ right [] = true
 right (e ∷ es) = comesOut (e .text) (e .outcome) && right es
 
 examples-right : T (right (reference ++ limits))
-unfolding right comesOut reference limits rule3 rule4 rule5 rule678 laterCalls idleProcs rule9 remarks copies loops eithers callsBelow decimal kindOf planKind twoKind threadKind callKind
-    holdKind numbered keywordKind betweenKeyword afterKeyword numberOf appendDigit leadingOf digitOf split unindented passedOver formsIn formsOf unreadable unreadableLine
+unfolding right comesOut reference limits rule3 rule4 rule5 rule678 laterCalls idleProcs rule9 remarks shares copies loops eithers callsBelow sharings decimal kindOf planKind twoKind skipKind threadKind callKind
+    holdKind shareKind numbered keywordKind betweenKeyword afterKeyword numberOf appendDigit leadingOf digitOf split unindented passedOver formsIn formsOf unreadable unreadableLine
     lineFor lineOf pick orElse bind equal inFront behind planIn among only closeBlock onClose advanceOf misplaced misplacedForm counted overLimit pastLimitFrom pastLimitForm testedBy leastBad
     numberIn kindIn breaks breaking countIf breakingForm tooLong linesRefusal referencesRefusal grammarRefusal formsRefusal planOf procFormFrom lowestFrom procRefusal recursive
-    callMask joinThrough warshallRound reachMasks reachMask idle joinReached tooLarge planRefusal bodyIn _⨾_ sizeWith sizeAt sizeOf threadSize threadSizes total heldFrom pairsWith pairsAt pairList up down insertOnce
-    ascending move compatible withAll apart threadAt stepIn step run start bit any unmet searchFrom atHold round rounds written
+    callMask joinThrough warshallRound reachMasks reachMask idle joinReached tooLarge planRefusal bodyIn _⨾_ sizeWith sizeAt sizeOf threadSize threadSizes total hadFrom pairsWith pairsAt pairList up down insertOnce
+    ascending byShare byHold lockOf isHold noneBelow together freshTo bars move compatible withAll apart threadAt stepIn step run start bit any unmet searchFrom atHold round rounds written
     allWritten all pairsFrom sameBelow setOf stuckAre answers passes
 examples-right = tt
 
@@ -99,6 +100,6 @@ reference-facts e m = examples-facts e (Memᴰ·append-left limits m)
 
 -- "procedure 8 has size 766", procedure 9 "size 1,534"
 pub doubling-sizes : (sizeOf (planOf to8 .procs) 8 ≡ 766) × (sizeOf (planOf to9 .procs) 9 ≡ 1534)
-unfolding kindOf planKind twoKind threadKind callKind holdKind numbered keywordKind betweenKeyword afterKeyword numberOf appendDigit leadingOf digitOf
+unfolding kindOf planKind twoKind skipKind threadKind callKind holdKind shareKind numbered keywordKind betweenKeyword afterKeyword numberOf appendDigit leadingOf digitOf
     split unindented formsIn formsOf pick equal inFront behind planIn planOf bodyIn sizeWith sizeAt sizeOf
 doubling-sizes = (refl, refl)

@@ -1,21 +1,21 @@
 -- Rules 5 to 8: the pass of each names the first form that breaks the rule, that of rule 5 in the forms of a plan. A form breaks a rule of 6 to 8 exactly if the rule tests
 -- its number and that is too high (`number-breaks`).
 use Prim.Native.Nat.{ℕ, _<_, _≤_}
-use mathlib.Core.Bool.{Bool, true, false, cond}
+use mathlib.Core.Bool.{Bool, true, false, _||_, cond}
 use mathlib.Core.List.{List, [], _∷_, _++_}
-use mathlib.Core.Logic.{inl, inr, ⊎-elim, _↔_}
+use mathlib.Core.Logic.{_⊎_, inl, inr, ⊎-elim, _↔_}
 use mathlib.Core.Option.{none}
 use mathlib.Core.Path.{_≡_, refl, sym, ap, subst, _∙_}
 use native.Mathlib.Omega.{arith}
-use lib.Dec.{leb}
+use lib.Dec.{eqb, leb}
 use lib.Seq.{append-snoc}
 use borrow.Author.Tests.{lt-ltb, le-ltb}
 use Rattle.limits.specs.Limits.{maxProcs, maxStatements, maxThreads, maxBrackets}
 use Rattle.laws.specs.Choice.{pick}
 use Rattle.laws.proofs.Tests.{lt-or-le, eqb-cases}
 use Rattle.text.specs.declared.Form.{Form}
-use Rattle.text.specs.declared.Form.the-variants.{Thread, Call, Hold}
-use Rattle.text.specs.Forms.{numberIn, kindIn, isProc, isThread, isCall, isHold}
+use Rattle.text.specs.declared.Form.the-variants.{Thread, Call, Hold, Share}
+use Rattle.text.specs.Forms.{numberIn, kindNumber, kindIn, isProc, isThread, isCall, isHold, isShare, takesLock}
 use Rattle.text.proofs.Matches.{kind-form}
 use Rattle.plan.specs.declared.Counts.{Counts}
 use Rattle.plan.specs.Limits.{overLimit, pastLimitForm, testedBy, leastBad, breaks, countIf, breakingForm}
@@ -75,21 +75,34 @@ data Tested : ℕ → Form → Type 0 where
   thread : (n : ℕ) → Tested 8 (Thread n)
   call : (n : ℕ) → Tested 7 (Call n)
   hold : (l : ℕ) → Tested 6 (Hold l)
+  share : (l : ℕ) → Tested 6 (Share l)
   untested : {f : Form} → Tested 0 f
+
+-- a form that takes a lock is a hold or a share
+takes-cases : (f : Form) → takesLock f ≡ true → (isHold f ≡ true) ⊎ (isShare f ≡ true)
+unfolding kindIn
+takes-cases f = go (eqb (kindNumber (Hold 0)) (kindNumber f)) (isShare f)
+  where
+    go : (a b : Bool) → (a || b) ≡ true → ((a || false) ≡ true) ⊎ (b ≡ true)
+    go true b e = inl refl
+    go false b e = inr e
 
 tested : (rule : ℕ) (f : Form) → testedBy f ≡ rule → Tested rule f
 unfolding testedBy
-tested rule f e = subst (λ r. Tested r f) e (go (isThread f) refl (isCall f) refl (isHold f) refl)
+tested rule f e = subst (λ r. Tested r f) e (go (isThread f) refl (isCall f) refl (takesLock f) refl)
   where
-    go : (a : Bool) → isThread f ≡ a → (b : Bool) → isCall f ≡ b → (c : Bool) → isHold f ≡ c → Tested (cond a 8 (cond b 7 (cond c 6 0))) f
+    go : (a : Bool) → isThread f ≡ a → (b : Bool) → isCall f ≡ b → (c : Bool) → takesLock f ≡ c → Tested (cond a 8 (cond b 7 (cond c 6 0))) f
     go true h b i c j = subst (Tested 8) (sym (kind-form (Thread 0) f h)) (thread (numberIn f))
     go false h true i c j = subst (Tested 7) (sym (kind-form (Call 0) f i)) (call (numberIn f))
-    go false h false i true j = subst (Tested 6) (sym (kind-form (Hold 0) f j)) (hold (numberIn f))
+    go false h false i true j =
+        ⊎-elim (λ k. subst (Tested 6) (sym (kind-form (Hold 0) f k)) (hold (numberIn f)))
+        (λ k. subst (Tested 6) (sym (kind-form (Share 0) f k)) (share (numberIn f))) (takes-cases f j)
     go false h false i false j = untested
 
-tested-hold : {f : Form} → Tested 6 f → f ≡ Hold (numberIn f)
+tested-lock : {f : Form} → Tested 6 f → (f ≡ Hold (numberIn f)) ⊎ (f ≡ Share (numberIn f))
 unfolding numberIn
-tested-hold (hold l) = refl
+tested-lock (hold l) = inl refl
+tested-lock (share l) = inr refl
 
 tested-call : {f : Form} → Tested 7 f → f ≡ Call (numberIn f)
 unfolding numberIn
@@ -120,8 +133,8 @@ module _ (fs : List Form) where
   pub locks-names : Names (breakingForm 6 fs) (First (FormWhere (λ before f. HighLock f) fs))
   unfolding leastBad testedBy numberIn pick kindIn
   locks-names = numbers-names 6 HighLock (λ f. (
-    λ x. record { lock = numberIn f; hold = tested-hold (tested 6 f (x .0)); above = x .1 },
-    λ y. (ap testedBy (y .hold), omega (arith, y .above, ap numberIn (y .hold))),
+    λ x. record { lock = numberIn f; takes = tested-lock (tested 6 f (x .0)); above = x .1 },
+    λ y. ⊎-elim (λ h. (ap testedBy h, omega (arith, y .above, ap numberIn h))) (λ h. (ap testedBy h, omega (arith, y .above, ap numberIn h))) (y .takes),
   ))
 
   pub calls-names : Names (breakingForm 7 fs) (First (FormWhere (λ before f. AbsentCallee fs f) fs))

@@ -8,7 +8,7 @@ use mathlib.Core.Option.{Option, none, some, Option·none-ne-some, Option·some-
 use mathlib.Core.Path.{_≡_, sym, ap, subst, _∙_}
 use lib.Dec.{ltb, leb, eqb}
 use lib.ListN.{length}
-use Rattle.limits.specs.Limits.{maxBytes, maxSize, maxPairs}
+use Rattle.limits.specs.Limits.{maxBytes, maxSize, maxPairWords}
 use Rattle.laws.proofs.Tests.{first-none}
 use Rattle.text.specs.declared.Form.{Form}
 use Rattle.text.specs.Lines.{refusal, formsOf, unreadableLine, IsText}
@@ -167,7 +167,7 @@ module _ (text : List ℕ) where
 
   pub pairs-refuses : (p lent : ℕ) → RefusesBy (pairsRules text p lent) (pairsRefusal text p lent)
   unfolding pairsRules pairsRefusal
-  pairs-refuses p lent = then (rule-1 maxPairs lent) (λ _. then plan-refuses (λ e. let r = accepted-rules text e in rule-11 text (r .readable) (r .formed) p))
+  pairs-refuses p lent = then (rule-1 maxPairWords lent) (λ _. then plan-refuses (λ e. let r = accepted-rules text e in rule-11 text (r .readable) (r .formed) p))
 
   pub copy-refuses : (lent : ℕ) → RefusesBy (copyRules text lent) (copyRefusal text lent)
   unfolding copyRules copyRefusal

@@ -8,9 +8,9 @@ use mathlib.Core.Bool.{false}
 use mathlib.Core.Logic.{_⊎_}
 use mathlib.Core.Path.{_≡_}
 use lib.ListN.{length}
-use Rattle.limits.specs.Limits.{maxBytes, maxProcs, maxStatements, maxThreads, maxBrackets, lockCount, maxSize, maxPairs}
+use Rattle.limits.specs.Limits.{maxBytes, maxProcs, maxStatements, maxThreads, maxBrackets, lockCount, maxSize, maxPairWords}
 use Rattle.text.specs.declared.Form.{Form}
-use Rattle.text.specs.declared.Form.the-variants.{Proc, Thread, Call, Hold}
+use Rattle.text.specs.declared.Form.the-variants.{Proc, Thread, Call, Hold, Share}
 use Rattle.text.specs.Forms.{IsForm, isProc, isThread, isStatement, isBracket, isClose}
 use Rattle.text.specs.Lines.{split, endedLine, unindented, passedOver, IsText}
 use Rattle.semantics.specs.Plan.{LockPlan}
@@ -24,7 +24,7 @@ use Rattle.demands.specs.Lines.{First, FormWhere, InFile}
 
 -- ---- of the lent buffer and the bytes
 
--- 1: "The lent buffer is shorter than .. (line 0)." 02, change 5: "Raise .. the pair buffer to 511 words"; change 1, of the tidy copy: "The output must hold 32,768 bytes,
+-- 1: "The lent buffer is shorter than .. (line 0)." 02, change 9: "The pair buffer is 1,533 words"; change 1, of the tidy copy: "The output must hold 32,768 bytes,
 -- otherwise rule 1 applies."; change 8: "into an output as for the tidy one"
 abbrev pub TooShort : ℕ → ℕ → ℕ → Type 0
 TooShort needed lent n = (lent < needed) × (n ≡ 0)
@@ -66,7 +66,8 @@ FirstForm P text n = OfForms (λ fs. First (FormWhere (P fs) fs)) text n
 abbrev pub Misplaced : List Form → ℕ → Type 0
 Misplaced fs n = NoPlace fs n ⊎ EndsEarly fs n
 
--- "16 brackets of hold, loop, either, one and two open together in a procedure": of those opened behind the last `(proc`, more than 16 are not closed again
+-- "16 brackets of hold, loop, either, one and two open together in a procedure"; 02, change 9: a share is "one bracket in rule 5". Of those opened behind the last `(proc`, more
+-- than 16 are not closed again
 pub record TooDeep (fs : List Form) : Type 0 where
   pub earlier : List Form
   pub inside : List Form
@@ -81,10 +82,10 @@ pub data PastLimit (fs : List Form) : Type 0 where
   threads : maxThreads < countIf isThread fs → PastLimit fs
   brackets : TooDeep fs → PastLimit fs
 
--- 6: "A hold names a lock above 31 (first such line)."
+-- 6: "A hold names a lock above 31 (first such line)." 02, change 9, of a share: "with rule 6 for its lock"
 pub record HighLock (f : Form) : Type 0 where
   pub lock : ℕ
-  pub hold : f ≡ Hold lock
+  pub takes : (f ≡ Hold lock) ⊎ (f ≡ Share lock)
   pub above : lockCount ≤ lock
 
 -- 7, by 02, change 2: "rule 7 now means a call of a procedure that is not there"; 01: "(first such line)"
@@ -178,7 +179,7 @@ verdictRules text lent = planRules text ++ rule 1 (OfPlan (TooFewEntries lent) t
 
 -- the pair list's, of procedure p, where so many words are lent: "Rule 11 is for the pair list only."
 unfoldable pub pairsRules : List ℕ → ℕ → ℕ → List Rule
-pairsRules text p lent = rule 1 (TooShort maxPairs lent) ∷ (planRules text ++ rule 11 (OfPlan (AbsentRequest p) text) ∷ [])
+pairsRules text p lent = rule 1 (TooShort maxPairWords lent) ∷ (planRules text ++ rule 11 (OfPlan (AbsentRequest p) text) ∷ [])
 
 -- those of a copy, tidy or straightened, where so many bytes are lent
 unfoldable pub copyRules : List ℕ → ℕ → List Rule

@@ -16,7 +16,7 @@ pub record FollowsCalls (ps : List Block) : Type 0 where
   pub size-unique : (s : ℕ → ℕ) → ((p : ℕ) → s p ≡ sizeWith s (bodyIn ps p)) → (p : ℕ) → p < length ps → s p ≡ sizeOf ps p
   -- no greater depth gives another size
   pub size-deeper : (d p : ℕ) → length ps ≤ d → p < length ps → sizeAt d ps p ≡ sizeOf ps p
-  -- a call has the pairs of its callee, with the locks held at the call
+  -- a call has the pairs of its callee, with what is had at the call
   pub pairs-of-block : (p : ℕ) → p < length ps → (cs : List ℕ) → pairsAt (length ps) ps p cs ≡ pairsWith (pairsAt (length ps) ps) cs (bodyIn ps p)
   -- no greater depth gives other pairs
   pub pairs-deeper : (d p : ℕ) → length ps ≤ d → p < length ps → pairs d ps p ≡ pairs (length ps) ps p

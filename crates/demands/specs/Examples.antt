@@ -1,11 +1,13 @@
 -- The plans of 01's reference shelf as texts, each with the refusal, or with the pairs and the verdict, that it gets: the starred ones A to K (`reference`),
--- and texts at the limits of each rule, with later calls, with idle procedures and with what is passed over (`limits`). That each gives what its row says is the theorem
+-- and texts at the limits of each rule, with later calls, with idle procedures, with what is passed over and with shares (`limits`). That each gives what its row says is the theorem
 -- `examples-facts`, of the starred ones alone `reference-facts`. 01, "Plans on the reference shelf".
 use Prim.Native.Nat.{ℕ, zero, suc}
-use mathlib.Core.List.{List, [], _∷_, _++_}
+use mathlib.Core.List.{List, [], _∷_, _++_, map}
 use mathlib.Core.Option.{none, some}
 use mathlib.Core.Path.{_≡_}
 use Rattle.laws.specs.Bytes.{bytes}
+use Rattle.semantics.specs.Pairs.{pairFrom}
+use Rattle.semantics.specs.HoldsOnly.{asRecord}
 use Rattle.semantics.specs.Cases.{Expected, free, deadlock, CaseFacts}
 use Rattle.text.specs.Forms.{decimal}
 use Rattle.text.specs.Lines.{refusal}
@@ -22,6 +24,10 @@ pub record Example : Type 0 where
 
 abbrev pub example : List ℕ → Outcome → Example
 example t o = record { text = t; outcome = o }
+
+-- 01's words for pairs, written as records (02, change 9): of plans without share
+abbrev records : List (List ℕ) → List (List ℕ)
+records wss = map (λ ws. map asRecord ws) wss
 
 -- a text that no rule refuses, and what its row says of its plan
 pub record AcceptedWith (text : List ℕ) (pairs : List (List ℕ)) (a : Expected) : Type 0 where
@@ -86,11 +92,11 @@ caseA = example (plan (proc (bytes "(hold 0\n(hold 1\n(skip)\n)\n)\n") ++ proc (
 -- 2[0[1]] and 2[1[0]]
 abbrev pub caseB : Example
 caseB = example (plan (proc (bytes "(hold 2\n(hold 0\n(hold 1\n(skip)\n)\n)\n)\n") ++ proc (bytes "(hold 2\n(hold 1\n(hold 0\n(skip)\n)\n)\n)\n")) twoThreads)
-    (accepted ((2 ∷ 128 ∷ 161 ∷ []) ∷ (2 ∷ 129 ∷ 192 ∷ []) ∷ []) free)
+    (accepted (records ((2 ∷ 128 ∷ 161 ∷ []) ∷ (2 ∷ 129 ∷ 192 ∷ []) ∷ [])) free)
 
 -- 0[0], by two threads
 abbrev pub caseC : Example
-caseC = example (plan (proc (bytes "(hold 0\n(hold 0\n(skip)\n)\n)\n")) (bytes "(thread 0)\n(thread 0)\n")) (accepted ((0 ∷ []) ∷ []) free)
+caseC = example (plan (proc (bytes "(hold 0\n(hold 0\n(skip)\n)\n)\n")) (bytes "(thread 0)\n(thread 0)\n")) (accepted (records ((0 ∷ []) ∷ [])) free)
 
 -- 1[0], 2[1] and 0[2]
 abbrev pub caseD : Example
@@ -137,7 +143,7 @@ caseK = example (bytes "(plan\n(proc\n)\n") (refusedBy 4 3)
 
 -- accepted, and free of deadlocks
 abbrev good : List (List ℕ) → Outcome
-good wss = accepted wss free
+good wss = accepted (records wss) free
 
 -- a plan of one procedure with one thread
 abbrev single : List ℕ → List ℕ
@@ -239,7 +245,7 @@ rule9 = example to8 (good []) ∷ example to9 (refusedBy 9 37) ∷ []
 unfoldable pub remarks : List Example
 remarks =
     example (bytes "; the viaduct\n\n(plan\n  (proc\n    (hold 0\n      ; then 1\n      (hold 1\n        (skip)\n      )\n    )\n  )\n   \n" ++ bytes " (proc\n(hold 1\n(hold 0\n(skip)\n)\n)\n)\n"
-    ++ bytes "  (thread 0)\n;(thread 0)\n  (thread 1)\n)\n ;\n\n") (accepted ((0 ∷ 33 ∷ []) ∷ (1 ∷ 64 ∷ []) ∷ []) (deadlock (0 ∷ 1 ∷ []) (0 ∷ 1 ∷ []))) ∷
+    ++ bytes "  (thread 0)\n;(thread 0)\n  (thread 1)\n)\n ;\n\n") (accepted (records ((0 ∷ 33 ∷ []) ∷ (1 ∷ 64 ∷ []) ∷ [])) (deadlock (0 ∷ 1 ∷ []) (0 ∷ 1 ∷ []))) ∷
     example (bytes "\n") (refusedBy 4 2) ∷
     example (bytes ";\n ; x\n") (refusedBy 4 3) ∷
     example (bytes "(plan\n;x\n") (refusedBy 4 3) ∷
@@ -257,10 +263,74 @@ remarks =
     example (single skipLine ++ bytes "  ") (refusedBy 3 7) ∷
     []
 
+-- 02, change 9. A block within n shares
+unfoldable pub sharings : ℕ → List ℕ
+sharings n = copies n (bytes "(share 7\n") ++ skipLine ++ copies n (bytes ")\n")
+
+-- two threads that both run the one procedure
+abbrev twice : List ℕ → List ℕ
+twice b = plan (proc b) (bytes "(thread 0)\n(thread 0)\n")
+
+-- two procedures, a thread for each
+abbrev two : List ℕ → List ℕ → List ℕ
+two a b = plan (proc a ++ proc b) twoThreads
+
+-- each thread's first claim, then the second is refused to both
+abbrev crossed : Expected
+crossed = deadlock (0 ∷ 1 ∷ []) (0 ∷ 1 ∷ [])
+
+-- Other letters, no number, numbers that are none (rule 3), an empty share (rule 4), 16 and 17 shares (rule 5), locks 31 and 32 (rule 6), a call through a share (rules 12 and 13).
+-- Then readers of one lock; "A thread may hold what it shares already, and two that both try are stuck."; one that tries beside a reader; a share of what is held, which is not fresh;
+-- one lock had both ways and another wanted; each wants to hold what the other shares, to share it, to share what the other holds; only one of them holds; one holds what the other
+-- wants to hold, and wants to hold what that one shares; three in a cycle, one of which wants to hold what it shares; the order of the words; a lock held, shared and held again. A pair
+-- is (held, shared, wanted lock times 2 plus 1 for a hold)
+unfoldable pub shares : List Example
+shares =
+    example (single (bytes "(Share 0\n(skip)\n)\n")) (refusedBy 3 3) ∷
+    example (single (bytes "(share\n(skip)\n)\n")) (refusedBy 3 3) ∷
+    example (single (bytes "(share 01\n(skip)\n)\n")) (refusedBy 3 3) ∷
+    example (single (bytes "(share 1)\n(skip)\n)\n")) (refusedBy 3 3) ∷
+    example (single (bytes "(share 0\n)\n")) (refusedBy 4 4) ∷
+    example (bytes "(plan\n(share 0\n") (refusedBy 4 2) ∷
+    example (single (sharings 16)) (accepted ((pairFrom 0 0 14 ∷ []) ∷ []) free) ∷
+    example (single (sharings 17)) (refusedBy 5 19) ∷
+    example (single (bytes "(share 31\n(skip)\n)\n")) (accepted ((pairFrom 0 0 62 ∷ []) ∷ []) free) ∷
+    example (single (bytes "(hold 31\n(share 32\n(skip)\n)\n)\n")) (refusedBy 6 4) ∷
+    example (single (bytes "(share 999\n(hold 32\n(skip)\n)\n)\n")) (refusedBy 6 3) ∷
+    example (single (bytes "(share 0\n(call 0)\n)\n")) (refusedBy 12 2) ∷
+    example (plan (proc (bytes "(share 3\n(call 1)\n)\n") ++ proc (bytes "(hold 3\n(skip)\n)\n")) oneThread)
+    (accepted ((pairFrom 0 0 6 ∷ pairFrom 0 8 7 ∷ []) ∷ (pairFrom 0 0 7 ∷ []) ∷ []) free) ∷
+    example (twice (bytes "(share 0\n(skip)\n)\n")) (accepted ((pairFrom 0 0 0 ∷ []) ∷ []) free) ∷
+    example (single (bytes "(share 0\n(hold 0\n(skip)\n)\n)\n")) (accepted ((pairFrom 0 0 0 ∷ pairFrom 0 1 1 ∷ []) ∷ []) free) ∷
+    example (twice (bytes "(share 0\n(hold 0\n(skip)\n)\n)\n")) (accepted ((pairFrom 0 0 0 ∷ pairFrom 0 1 1 ∷ []) ∷ []) crossed) ∷
+    example (two (bytes "(share 0\n(hold 0\n(skip)\n)\n)\n") (bytes "(share 0\n(skip)\n)\n"))
+    (accepted ((pairFrom 0 0 0 ∷ pairFrom 0 1 1 ∷ []) ∷ (pairFrom 0 0 0 ∷ []) ∷ []) free) ∷
+    example (twice (bytes "(hold 0\n(share 0\n(skip)\n)\n)\n")) (accepted ((pairFrom 0 0 1 ∷ []) ∷ []) free) ∷
+    example (twice (bytes "(share 0\n(hold 0\n(hold 1\n(skip)\n)\n)\n)\n")) (accepted ((pairFrom 0 0 0 ∷ pairFrom 0 1 1 ∷ pairFrom 1 1 3 ∷ []) ∷ []) crossed) ∷
+    example (two (bytes "(share 0\n(hold 1\n(skip)\n)\n)\n") (bytes "(share 1\n(hold 0\n(skip)\n)\n)\n"))
+    (accepted ((pairFrom 0 0 0 ∷ pairFrom 0 1 3 ∷ []) ∷ (pairFrom 0 0 2 ∷ pairFrom 0 2 1 ∷ []) ∷ []) crossed) ∷
+    example (two (bytes "(share 0\n(share 1\n(skip)\n)\n)\n") (bytes "(share 1\n(share 0\n(skip)\n)\n)\n"))
+    (accepted ((pairFrom 0 0 0 ∷ pairFrom 0 1 2 ∷ []) ∷ (pairFrom 0 0 2 ∷ pairFrom 0 2 0 ∷ []) ∷ []) free) ∷
+    example (two (bytes "(hold 0\n(share 1\n(skip)\n)\n)\n") (bytes "(hold 1\n(share 0\n(skip)\n)\n)\n"))
+    (accepted ((pairFrom 0 0 1 ∷ pairFrom 1 0 2 ∷ []) ∷ (pairFrom 0 0 3 ∷ pairFrom 2 0 0 ∷ []) ∷ []) crossed) ∷
+    example (two (bytes "(share 0\n(hold 1\n(skip)\n)\n)\n") (bytes "(hold 1\n(share 0\n(skip)\n)\n)\n"))
+    (accepted ((pairFrom 0 0 0 ∷ pairFrom 0 1 3 ∷ []) ∷ (pairFrom 0 0 3 ∷ pairFrom 2 0 0 ∷ []) ∷ []) free) ∷
+    example (two (bytes "(share 0\n(hold 1\n(skip)\n)\n)\n") (bytes "(hold 1\n(hold 0\n(skip)\n)\n)\n"))
+    (accepted ((pairFrom 0 0 0 ∷ pairFrom 0 1 3 ∷ []) ∷ (pairFrom 0 0 3 ∷ pairFrom 2 0 1 ∷ []) ∷ []) crossed) ∷
+    example (plan
+    (proc (bytes "(share 2\n(share 0\n(hold 0\n(skip)\n)\n)\n)\n") ++ proc (bytes "(share 0\n(hold 1\n(skip)\n)\n)\n") ++ proc (bytes "(hold 1\n(hold 2\n(skip)\n)\n)\n"))
+    (bytes "(thread 0)\n(thread 1)\n(thread 2)\n"))
+    (accepted ((pairFrom 0 0 4 ∷ pairFrom 0 4 0 ∷ pairFrom 0 5 1 ∷ []) ∷ (pairFrom 0 0 0 ∷ pairFrom 0 1 3 ∷ []) ∷ (pairFrom 0 0 3 ∷ pairFrom 2 0 5 ∷ []) ∷ [])
+    (deadlock (0 ∷ 0 ∷ 1 ∷ 2 ∷ []) (0 ∷ 1 ∷ 2 ∷ []))) ∷
+    example (single (bytes "(share 31\n(skip)\n)\n(share 0\n(hold 0\n(skip)\n)\n)\n"))
+    (accepted ((pairFrom 0 0 0 ∷ pairFrom 0 0 62 ∷ pairFrom 0 1 1 ∷ []) ∷ []) free) ∷
+    example (single (bytes "(hold 0\n(share 0\n(hold 0\n(skip)\n)\n)\n)\n")) (accepted ((pairFrom 0 0 1 ∷ []) ∷ []) free) ∷
+    []
+
 -- "Starred ones are for point 4": the plans A to K
 unfoldable pub reference : List Example
 reference = caseA ∷ caseB ∷ caseC ∷ caseD ∷ caseE ∷ caseF ∷ caseG ∷ caseH ∷ caseI ∷ caseJ ∷ caseK ∷ []
 
--- texts at the limits of each rule, with calls of later procedures, with idle procedures, and with what is passed over
+-- texts at the limits of each rule, with calls of later procedures, with idle procedures, with what is passed over, and with shares
 unfoldable pub limits : List Example
-limits = rule3 ++ (rule4 ++ (rule5 ++ (rule678 ++ (laterCalls ++ (idleProcs ++ (rule9 ++ remarks))))))
+limits = rule3 ++ (rule4 ++ (rule5 ++ (rule678 ++ (laterCalls ++ (idleProcs ++ (rule9 ++ (remarks ++ shares)))))))

@@ -1,13 +1,13 @@
 -- Lists that ascend without repeats: any list can be so arranged (`ascending`), and the members settle the result (`ascends-unique`).
 use Prim.Native.Nat.{ℕ, _+_, _<_, _≤_}
-use mathlib.Core.List.{List, [], _∷_, List·Memᴰ, List·Memᴰ·head, List·Memᴰ·tail, List·Memᴰ·not-nil, List·Memᴰ·cases-cons}
+use mathlib.Core.List.{List, [], _∷_, map, List·Memᴰ, List·Memᴰ·head, List·Memᴰ·tail, List·Memᴰ·not-nil, List·Memᴰ·cases-cons}
 use mathlib.Core.Bool.{Bool, true, false, cond}
 use mathlib.Core.Path.{_≡_, refl, ap₂, _∙_}
 use mathlib.Core.Logic.{_⊎_, inl, inr, ⊎-elim}
 use native.Mathlib.Omega.{arith}
 use lib.ListN.{length}
 use lib.Dec.{ltb, eqb}
-use borrow.Author.Tests.{ltb-true, ltb-false, eqb-true, eqb-false}
+use borrow.Author.Tests.{ltb-true, ltb-false, eqb-true, eqb-false, lt-ltb, le-ltb, eq-eqb, ne-eqb}
 use Rattle.laws.specs.Ascending.{insertOnce, ascending, Ascends}
 
 -- what insertOnce does, case by case
@@ -107,3 +107,18 @@ ascends-length (y ∷ ys) (x ∷ xs) a b f =
     (λ (k : List·Memᴰ x ys).
     omega (arith, ascends-length ys (x ∷ xs) a (b .1) (λ v m. beyond y ys v (omega (arith, b .0 x k, least x xs a v m)) (f v m))))
     (List·Memᴰ·cases-cons (f x (List·Memᴰ·head refl)))
+
+-- a map that keeps the order keeps the list
+module _ (f : ℕ → ℕ) (mono : (a b : ℕ) → a < b → f a < f b) where
+  insert-map : (w : ℕ) (xs : List ℕ) → insertOnce (f w) (map f xs) ≡ map f (insertOnce w xs)
+  unfolding insertOnce
+  insert-map = insert-elim (λ w xs ys. insertOnce (f w) (map f xs) ≡ map f ys)
+      (λ w. refl)
+      (λ w x xs h. rw (lt-ltb (f w) (f x) (mono w x h)))
+      (λ w x xs h. rw (h, le-ltb (f x) (f x) (omega arith), eq-eqb (f x) (f x) refl))
+      (λ w x xs h e. rw (le-ltb (f w) (f x) (omega (arith, mono x w h)), ne-eqb (f w) (f x) (λ q. omega (arith, q, mono x w h)), e))
+
+  pub ascending-map : (ws : List ℕ) → ascending (map f ws) ≡ map f (ascending ws)
+  unfolding ascending
+  ascending-map [] = refl
+  ascending-map (w ∷ ws) = rw (ascending-map ws) (insert-map w (ascending ws))

@@ -1,13 +1,13 @@
 -- Sets of numbers as masks: k is in m where digit k of m is 1. Two masks with the same digits are equal (`bit-ext`), and from that follow the laws of
 -- joins and of disjoint sets.
-use Prim.Native.Nat.{ℕ, zero, suc, _+_, _/_, _%_, _^_, _<_, _≤_, min, max}
+use Prim.Native.Nat.{ℕ, zero, suc, _+_, _*_, _/_, _%_, _^_, _<_, _≤_, min, max}
 use mathlib.Core.Path.{_≡_, refl, ap, sym, _∙_}
 use mathlib.Core.Logic.{_≢_, _⊎_, inl, inr, ⊎-elim}
 use native.Mathlib.Omega.{arith}
 use native.Mathlib.Nat.{div-one, eq-zero-or-pos}
 use native.Mathlib.Numerals.{one-add}
-use lib.Pow.{shr-shr}
-use lib.Bits.{bitAnd, bitOr, and-step, and-shr, or-step, or-shr}
+use lib.Pow.{shr-shr, high, split}
+use lib.Bits.{bitAnd, bitOr, and-step, and-shr, or-step, or-shr, block-half, block-odd}
 use Rattle.laws.specs.Mask.{bit}
 
 pub bit-zero : (m : ℕ) → bit m 0 ≡ m % 2
@@ -21,6 +21,24 @@ bit-suc m k = rw (shr-shr m 1 k, one-add)
 pub bit-lt : (m k : ℕ) → bit m k < 2
 unfolding bit
 bit-lt m k = omega arith
+
+-- the digits of h * 2 ^ n + s: those of s below n, and those of h from n on
+pub bit-below : (n h s k : ℕ) → k < n → bit (h * 2 ^ n + s) k ≡ bit s k
+bit-below zero h s k b = absurd (omega arith)
+bit-below (suc n) h s zero b = rw (bit-zero, block-odd) (sym (bit-zero s))
+bit-below (suc n) h s (suc k) b = rw (bit-suc, block-half) (bit-below n h (s / 2) k (omega arith) ∙ sym (bit-suc s k))
+
+pub bit-above : (n h s k : ℕ) → s < 2 ^ n → bit (h * 2 ^ n + s) (n + k) ≡ bit h k
+unfolding bit
+bit-above n h s k b = rw (← shr-shr (h * 2 ^ n + s) n k, high h n b)
+
+-- of a quotient and of a remainder
+pub bit-quotient : (n m k : ℕ) → bit (m / 2 ^ n) k ≡ bit m (n + k)
+unfolding bit
+bit-quotient n m k = rw (shr-shr m n k)
+
+pub bit-remainder : (n m k : ℕ) → k < n → bit (m % 2 ^ n) k ≡ bit m k
+bit-remainder n m k b = sym (bit-below n (m / 2 ^ n) (m % 2 ^ n) k b) ∙ ap (λ x. bit x k) (split m n)
 
 or-low : (a b : ℕ) → bitOr a b % 2 ≡ max (a % 2) (b % 2)
 or-low a b = rw or-step (omega arith)

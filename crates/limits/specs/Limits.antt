@@ -10,7 +10,8 @@ maxBytes = 32768
 abbrev pub maxForms : ℕ
 maxForms = 16384
 
--- 5: "more than 64 procedures, 1,024 statements, 6 threads, or 16 brackets of hold, loop, either, one and two open together in a procedure"
+-- 5: "more than 64 procedures, 1,024 statements, 6 threads, or 16 brackets of hold, loop, either, one and two open together in a procedure"; 02, change 9: a share is "one
+-- statement and one bracket in rule 5"
 abbrev pub maxProcs : ℕ
 maxProcs = 64
 
@@ -30,6 +31,10 @@ lockCount = 32
 abbrev pub maskSize : ℕ
 maskSize = 2 ^ lockCount
 
+-- 02, change 9: each lock can be shared and held, "on a second count for each lock"; a set of what is had is a mask of this many digits
+abbrev pub claimCount : ℕ
+claimCount = 64
+
 -- 9: "Some procedure's size exceeds 1,024"; sizes are counted up to one more than that
 abbrev pub maxSize : ℕ
 maxSize = 1024
@@ -37,9 +42,14 @@ maxSize = 1024
 abbrev pub sizeRoom : ℕ
 sizeRoom = maxSize + 1
 
--- 02, change 5: "Raise the limit to 511 and the pair buffer to 511 words. A hold has size 2 and needs something inside it, so a size of 1,024 has room for 511 holds at most."
+-- 02, change 5: "Raise the limit to 511 .. A hold has size 2 and needs something inside it, so a size of 1,024 has room for 511 holds at most."
+-- Change 9, with shares: "the pair bound of 511 must hold for it too"
 abbrev pub maxPairs : ℕ
 maxPairs = 511
+
+-- change 9: "The pair buffer is 1,533 words", three for each pair
+abbrev pub maxPairWords : ℕ
+maxPairWords = 3 * maxPairs
 
 -- the pairs of all threads
 abbrev pub maxListed : ℕ

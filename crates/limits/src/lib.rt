@@ -1,6 +1,6 @@
 // The limits of a plan, for code: the one place where their values stand. specs/Limits.antt has the same for contracts and says where each is from.
 ghost use mathlib.Core.Path.{_≡_};
-ghost use Rattle.limits.specs.Limits.{maxBytes, maxForms, maxProcs, maxStatements, maxThreads, maxBrackets, lockCount, maxSize, sizeRoom, maxPairs, maxListed, maxEntries};
+ghost use Rattle.limits.specs.Limits.{maxBytes, maxForms, maxProcs, maxStatements, maxThreads, maxBrackets, lockCount, claimCount, maxSize, sizeRoom, maxPairs, maxPairWords, maxListed, maxEntries};
 
 pub const MAX_BYTES: usize = 32768;
 
@@ -16,11 +16,15 @@ pub const MAX_BRACKETS: usize = 16;
 
 pub const LOCK_COUNT: usize = 32;
 
+pub const CLAIM_COUNT: usize = 2 * LOCK_COUNT;
+
 pub const MAX_SIZE: usize = 1024;
 
 pub const SIZE_ROOM: usize = MAX_SIZE + 1;
 
 pub const MAX_PAIRS: usize = 511;
+
+pub const MAX_PAIR_WORDS: usize = 3 * MAX_PAIRS;
 
 pub const MAX_LISTED: usize = MAX_THREADS * MAX_PAIRS;
 
@@ -41,7 +45,9 @@ pub struct Named {
 // The limits that follow from them.
 pub struct Derived {
     pub forms: usize,
+    pub claims: usize,
     pub sizes: usize,
+    pub words: usize,
     pub listed: usize,
     pub entries: usize,
 }
@@ -64,11 +70,13 @@ pub fn named_limits() -> Named
 }
 
 pub fn derived_limits() -> Derived
-    ensures { λ r. ⌜ (r .forms ≡ maxForms) × (r .sizes ≡ sizeRoom) × (r .listed ≡ maxListed) × (r .entries ≡ maxEntries) ⌝ }
+    ensures { λ r. ⌜ (r .forms ≡ maxForms) × (r .claims ≡ claimCount) × (r .sizes ≡ sizeRoom) × (r .words ≡ maxPairWords) × (r .listed ≡ maxListed) × (r .entries ≡ maxEntries) ⌝ }
 {
     Derived {
         forms: MAX_FORMS,
+        claims: CLAIM_COUNT,
         sizes: SIZE_ROOM,
+        words: MAX_PAIR_WORDS,
         listed: MAX_LISTED,
         entries: MAX_ENTRIES,
     }

@@ -11,8 +11,9 @@ use Rattle.laws.proofs.Tests.{first-none}
 use Rattle.laws.specs.Wrote.{Wrote, filled}
 use Rattle.laws.proofs.Wrote.{wrote-filled}
 use borrow.Author.Tests.{lt-ltb, le-ltb, le-leb, lt-leb, leb-false, ltb-false}
-use Rattle.limits.specs.Limits.{maxPairs}
-use Rattle.semantics.specs.Pairs.{pairList}
+use Rattle.limits.specs.Limits.{maxPairs, maxPairWords}
+use Rattle.semantics.specs.Pairs.{wordsOf}
+use Rattle.semantics.proofs.Ground.Claims.{words-length as words-three}
 use Rattle.semantics.proofs.Critical.PairList.{pair-list-critical, pair-list-ascends}
 use Rattle.plan.specs.declared.Reading.{Reading}
 use Rattle.plan.specs.declared.Reading.the-variants.{Accepted}
@@ -25,6 +26,7 @@ use Rattle.buffers.specs.LittleEndian.{listBytes}
 use Rattle.answers.specs.declared.Counted.{Counted}
 use Rattle.answers.specs.declared.Counted.the-variants.{Count, Refused}
 use Rattle.answers.specs.Answers.{countedOf, countedNumber, countedHigh}
+use Rattle.pairs.specs.Words.{WordsOfPairs}
 use Rattle.listing.specs.Listed.{TablePairs, PairsFound, pairsOf, Exact, Listed, ListedBytes}
 use Rattle.answers.proofs.LineBounds.{pairs-bounded}
 use Rattle.answers.proofs.Counts.{counted-refused, counted-kept, counted-carried}
@@ -39,30 +41,29 @@ module _ (ws : List ℕ) (p procs : ℕ) (before : List ℕ) (c : procs ≡ leng
   unfolding countedOf
   table-absent h = rw (le-leb (length (tablePlan ws .procs)) p (omega arith)) (record { answer = refl; list = refl })
 
-  pub table-listed : (n : ℕ) (after : List ℕ) → p < procs → Wrote before after 0 n (pairList (tablePlan ws .procs) p) → TablePairs ws p before (Count n) after
+  pub table-listed : (n : ℕ) (after : List ℕ) → p < procs → WordsOfPairs ws p before n after → TablePairs ws p before (Count n) after
   unfolding countedOf
   table-listed n after h w =
-      let m : n ≡ length (pairList (tablePlan ws .procs) p) = omega (arith, w .place) in
-      rw (lt-leb (length (tablePlan ws .procs)) p (omega arith)) (record { answer = ap Count m; list = wrote-filled before after 0 n _ w refl })
+      rw (lt-leb (length (tablePlan ws .procs)) p (omega arith)) (record { answer = ap Count (w .count); list = wrote-filled before after 0 (3 * n) _ (w .list) refl })
 
 -- ---- in a text
 
-pub text-short : (text : List ℕ) (p lent : ℕ) (before : List ℕ) → lent < maxPairs → PairsFound text p lent before (Refused (refusal 1 0)) before
+pub text-short : (text : List ℕ) (p lent : ℕ) (before : List ℕ) → lent < maxPairWords → PairsFound text p lent before (Refused (refusal 1 0)) before
 unfolding countedOf pairsRefusal orElse
-text-short text p lent before h = rw (lt-ltb lent maxPairs h) (record { answer = refl; list = refl })
+text-short text p lent before h = rw (lt-ltb lent maxPairWords h) (record { answer = refl; list = refl })
 
 -- enough is lent: the plan's rules come next, then 11
-pairs-refusal : (text : List ℕ) (p lent : ℕ) → maxPairs ≤ lent → pairsRefusal text p lent ≡ orElse (planRefusal text) (refusedIf 11 (leb (length (planOf text .procs)) p))
+pairs-refusal : (text : List ℕ) (p lent : ℕ) → maxPairWords ≤ lent → pairsRefusal text p lent ≡ orElse (planRefusal text) (refusedIf 11 (leb (length (planOf text .procs)) p))
 unfolding pairsRefusal orElse
-pairs-refusal text p lent h = rw (le-ltb lent maxPairs h)
+pairs-refusal text p lent h = rw (le-ltb lent maxPairWords h)
 
-pub text-refused : (text : List ℕ) (p lent : ℕ) (table before : List ℕ) (q : Reading) (x : Refusal) → maxPairs ≤ lent → Tabled (planRefusal text) text q table
+pub text-refused : (text : List ℕ) (p lent : ℕ) (table before : List ℕ) (q : Reading) (x : Refusal) → maxPairWords ≤ lent → Tabled (planRefusal text) text q table
     → q ≡ plan.Refused x → PairsFound text p lent before (Refused x) before
 unfolding countedOf orElse
 text-refused text p lent table before q x h t g =
     rw (pairs-refusal text p lent h, refused-is (planRefusal text) (length (formsOf text)) x (sym (t .answer) ∙ g)) (record { answer = refl; list = refl })
 
-pub text-listed : (text : List ℕ) (p lent n : ℕ) (table before after : List ℕ) (q : Reading) (r : Counted) → maxPairs ≤ lent → Tabled (planRefusal text) text q table
+pub text-listed : (text : List ℕ) (p lent n : ℕ) (table before after : List ℕ) (q : Reading) (r : Counted) → maxPairWords ≤ lent → Tabled (planRefusal text) text q table
     → q ≡ Accepted n → TablePairs (take (n - 0) table) p before r after → PairsFound text p lent before r after
 unfolding planOf orElse
 text-listed text p lent n table before after q r h t g w =
@@ -75,9 +76,9 @@ module _ (text : List ℕ) (p lent : ℕ) (e : pairsRefusal text p lent ≡ none
   abbrev absent : Option Refusal
   absent = refusedIf 11 (leb (length (planOf text .procs)) p)
 
-  by-rule : (refusedIf 1 (ltb lent maxPairs) ≡ none) × (orElse (planRefusal text) absent ≡ none)
+  by-rule : (refusedIf 1 (ltb lent maxPairWords) ≡ none) × (orElse (planRefusal text) absent ≡ none)
   unfolding pairsRefusal
-  by-rule = first-none (refusedIf 1 (ltb lent maxPairs)) (orElse (planRefusal text) absent) e
+  by-rule = first-none (refusedIf 1 (ltb lent maxPairWords)) (orElse (planRefusal text) absent) e
 
   accepted : planRefusal text ≡ none
   accepted = first-none (planRefusal text) absent (by-rule .1) .0
@@ -85,8 +86,8 @@ module _ (text : List ℕ) (p lent : ℕ) (e : pairsRefusal text p lent ≡ none
   there : p < length (planOf text .procs)
   there = leb-false (length (planOf text .procs)) p (unflagged 11 _ (first-none (planRefusal text) absent (by-rule .1) .1))
 
-  lent-enough : maxPairs ≤ lent
-  lent-enough = ltb-false lent maxPairs (unflagged 1 (ltb lent maxPairs) (by-rule .0))
+  lent-enough : maxPairWords ≤ lent
+  lent-enough = ltb-false lent maxPairWords (unflagged 1 (ltb lent maxPairWords) (by-rule .0))
 
   pub few-listed : length (pairsOf text p) ≤ maxPairs
   few-listed = accepted-few text accepted p there
@@ -117,24 +118,27 @@ module _ (text : List ℕ) (p : ℕ) (before list₀ : List ℕ) (r : Counted) (
     unrefused : pairsRefusal text p (length before / 8) ≡ none
     unrefused = counted-kept (pairsRefusal text p (length before / 8)) r (length (pairsOf text p)) n (f .answer) g .0
 
-    count : n - 0 ≡ length (pairsOf text p)
-    count = omega (arith, counted-kept (pairsRefusal text p (length before / 8)) r (length (pairsOf text p)) n (f .answer) g .1)
+    count : 3 * n - 0 ≡ length (wordsOf (pairsOf text p))
+    count = omega (arith, counted-kept (pairsRefusal text p (length before / 8)) r (length (pairsOf text p)) n (f .answer) g .1, words-three (pairsOf text p))
 
-    pairs : take (n - 0) list ≡ pairsOf text p
+    pairs : take (3 * n - 0) list ≡ wordsOf (pairsOf text p)
     pairs =
-        let e : list ≡ filled (pairsOf text p) list₀ = rw unrefused at (f .list) in
-        rw e (take-at (pairsOf text p) (drop (length (pairsOf text p)) list₀) (n - 0) (sym count))
+        let e : list ≡ filled (wordsOf (pairsOf text p)) list₀ = rw unrefused at (f .list) in
+        rw e (take-at (wordsOf (pairsOf text p)) (drop (length (wordsOf (pairsOf text p))) list₀) (3 * n - 0) (sym count))
 
     few : length (pairsOf text p) ≤ maxPairs
     few = few-listed text p (length before / 8) unrefused
 
-    pub found-within : maxPairs ≤ length list₀ → length list ≡ length list₀ → n ≤ length list
-    found-within h k = omega (arith, count, few)
+    pub found-fits : 3 * n < 2 ^ 64
+    found-fits = omega (arith, count, few, words-three (pairsOf text p))
 
-    pub bytes-room : length (take (n - 0) list) * 8 ≤ length before
-    bytes-room = rw pairs (omega (arith, few, lent-enough text p (length before / 8) unrefused))
+    pub found-within : maxPairWords ≤ length list₀ → length list ≡ length list₀ → 3 * n ≤ length list
+    found-within h k = omega (arith, count, few, words-three (pairsOf text p))
 
-    pub bytes-listed : (v : ℕ) (after : List ℕ) → Wrote before after 0 (length (take (n - 0) list) * 8) (listBytes 8 (take (n - 0) list)) → v ≡ countedNumber (Count n)
+    pub bytes-room : length (take (3 * n - 0) list) * 8 ≤ length before
+    bytes-room = rw pairs (omega (arith, few, words-three (pairsOf text p), lent-enough text p (length before / 8) unrefused))
+
+    pub bytes-listed : (v : ℕ) (after : List ℕ) → Wrote before after 0 (length (take (3 * n - 0) list) * 8) (listBytes 8 (take (3 * n - 0) list)) → v ≡ countedNumber (Count n)
         → ListedBytes text p before v after
     bytes-listed v after k m = record {
       answer = m ∙ ap countedNumber (sym g ∙ f .answer);

@@ -1,9 +1,9 @@
 -- The lists while they are filled: those of the threads below t are pair lists, for a turn changes only the pairs from its own place on and the count of t. At the
 -- end these are the lists of all threads.
 use Prim.Native.Nat.{ℕ, zero, suc, _+_, _*_, _^_, _≤_, _<_}
-use mathlib.Core.List.{List, [], _∷_, _++_, map, map-append, List·Memᴰ}
+use mathlib.Core.List.{List, [], _∷_, _++_, map, map-append}
 use mathlib.Core.Logic.{⊎-elim, _≢_}
-use mathlib.Core.Path.{_≡_, refl, sym, ap, _∙_, subst}
+use mathlib.Core.Path.{_≡_, refl, sym, ap, _∙_}
 use native.Mathlib.Omega.{arith}
 use lib.ListN.{length, take, drop, getD, set, length-set}
 use lib.Seq.{getD-set-same, getD-set-other, take-suc}
@@ -14,12 +14,14 @@ use Rattle.semantics.specs.Plan.{Block}
 use Rattle.semantics.specs.Pairs.{pairList}
 use Rattle.plan.specs.Settled.{RulesKept, tablePlan}
 use Rattle.plan.proofs.WithinSize.{few-pairs}
-use Rattle.candidates.specs.Candidates.{listsBelow, row, rows}
+use Rattle.columns.specs.Rows.{listsBelow, row, rows}
 use Rattle.procs.specs.declared.Layout.{Layout}
 use Rattle.procs.specs.Laid.{Laid}
 use Rattle.procs.proofs.Layouts.{runs-present}
 use Rattle.lists.specs.Lists.{ListsAsked, ThreadLists}
-use Rattle.lists.proofs.Pairs.{pair-small, listed-there, kept-before}
+use Rattle.columns.specs.Columns.{pairNumbers}
+use Rattle.columns.proofs.Numbers.{numbers-length}
+use Rattle.lists.proofs.Pairs.{listed-there, kept-before}
 
 -- the list of thread u is the pair list of procedure p
 pub record ListedAt (ps : List Block) (p : ℕ) (lists counts : List ℕ) (u : ℕ) : Type 0 where
@@ -120,6 +122,20 @@ module _ (table : List ℕ) (l : Layout) (lists₀ counts₀ lists counts : List
           pairs = omega (arith, s .same-lists, s .asked .pairs);
           threads = omega (arith, s .same-counts, s .asked .room);
           short = λ u b. all u b .short;
-          small = λ u w b m. pair-small (tablePlan table) (within .plan .settled) (getD (l .runs) u 0) w (subst (List·Memᴰ w) (all u b .pairs) m);
         };
       }
+
+-- ---- the lists in two columns, in the shape of the function's needs
+
+module _ (table : List ℕ) (l : Layout) (lists₀ counts₀ ms ks counts : List ℕ) (t : ℕ) (s : Filling table l lists₀ counts₀ (pairNumbers ms ks) counts t) (n : ℕ) (c : n ≡ l .threads) (h : t < n) where
+  pub masks-room : maxPairs * t + maxPairs ≤ length ms
+  masks-room = omega (arith, list-room table l lists₀ counts₀ (pairNumbers ms ks) counts t s n c h, numbers-length ms ks)
+
+  pub codes-room : maxPairs * t + maxPairs ≤ length ks
+  codes-room = omega (arith, list-room table l lists₀ counts₀ (pairNumbers ms ks) counts t s n c h, numbers-length ms ks)
+
+  pub columns-more : (r : ℕ) (ms′ ks′ : List ℕ)
+      → Wrote (pairNumbers ms ks) (pairNumbers ms′ ks′) (maxPairs * t) (maxPairs * t + r) (pairList (tablePlan table .procs) (getD (l .runs) t 0)) → length ms′ ≡ length ms → length ks′ ≡ length ks
+      → Filling table l lists₀ counts₀ (pairNumbers ms′ ks′) (set counts t r) (t + 1)
+  columns-more r ms′ ks′ p e f =
+      filling-more table l lists₀ counts₀ (pairNumbers ms ks) counts t s n c h r (pairNumbers ms′ ks′) p (numbers-length ms′ ks′ ∙ omega arith ∙ sym (numbers-length ms ks))

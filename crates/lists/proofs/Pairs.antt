@@ -1,68 +1,42 @@
--- A pair of a pair list is the set of the locks held, below 2 ^ 32, × 32 plus a lock below 32, however deep calls go. The list of a procedure stands in the part of the lists
--- that was lent for it, and the pairs before the part stay.
-use Prim.Native.Nat.{ℕ, zero, suc, _+_, _-_, _≤_, _<_}
-use mathlib.Core.List.{List, _++_, append-assoc, List·Memᴰ, List·Memᴰ·not-nil, List·Memᴰ·append-cases}
-use mathlib.Core.Logic.{⊎-elim}
-use mathlib.Core.Path.{_≡_, refl, sym, ap, _∙_}
+-- The list of a procedure stands in the part of the columns that was lent for it, and the pairs before the part stay.
+use Prim.Native.Nat.{ℕ, _+_, _-_, _≤_}
+use mathlib.Core.List.{List, [], _++_, append-assoc, append-nil}
+use mathlib.Core.Path.{_≡_, sym, ap, subst, _∙_}
 use native.Mathlib.Omega.{arith}
-use lib.ListN.{length, take, drop, take-append-drop, length-drop}
-use lib.Seq.{take-at, drop-at, take-append-le, drop-append-le, length-take-le}
-use Rattle.limits.specs.Limits.{lockCount, maxPairs}
+use lib.ListN.{length, take, drop, take-append-drop, length-drop, drop-of-length-le}
+use lib.Seq.{take-at, drop-at, take-append-le, drop-append-le, length-take-le, take-all}
+use Rattle.limits.specs.Limits.{maxPairs}
 use Rattle.laws.specs.Wrote.{Wrote}
-use Rattle.laws.proofs.Tests.{only}
 use Rattle.laws.proofs.Wrote.{part-wrote}
-use Rattle.laws.proofs.Ascending.{mem-ascending}
-use Rattle.semantics.specs.Plan.{Block, done, skip, call, hold, loop, either, end, LockPlan, bodyIn, Written}
-use Rattle.semantics.specs.Run.{unlocked, up}
-use Rattle.semantics.specs.Pairs.{pairOf, held, fresh, pairAt, pairsWith, pairsAt, pairs, pairList}
-use Rattle.semantics.proofs.Thread.Remainders.{length-up}
-use Rattle.semantics.proofs.Ground.LockSets.{held-lt}
-use Rattle.plan.specs.Settled.{Settled}
-use Rattle.candidates.specs.Candidates.{pairSize}
-
--- ---- the size of a pair
-
--- no number of the list is too large for a pair
-abbrev Small : List ℕ → Type 0
-Small ws = (w : ℕ) → List·Memᴰ w ws → w < pairSize
-
-small-append : (vs ws : List ℕ) → Small vs → Small ws → Small (vs ++ ws)
-small-append vs ws a b w m = ⊎-elim (a w) (b w) (List·Memᴰ·append-cases vs m)
-
-module _ (C : ℕ → Type 0) (f : ℕ → List ℕ → List ℕ) (called : (p : ℕ) (cs : List ℕ) → length cs ≡ lockCount → Small (f p cs)) where
-  block-small : (b : Block) → Written C b → (cs : List ℕ) → length cs ≡ lockCount → Small (pairsWith f cs b)
-  unfolding Written pairsWith
-  block-small done v cs e = λ w m. absurd (List·Memᴰ·not-nil m)
-  block-small (skip r) v cs e = block-small r v cs e
-  block-small (call p r) v cs e = small-append (f p cs) (pairsWith f cs r) (called p cs e) (block-small r (v .1) cs e)
-  block-small (hold l b r) v cs e =
-      small-append (pairAt cs l) (pairsWith f (up l cs) b ++ pairsWith f cs r)
-      (λ w m. omega (arith, only w (pairOf (held cs) l) (fresh cs l) m .1, v .0, held-lt lockCount cs (omega arith)))
-      (small-append (pairsWith f (up l cs) b) (pairsWith f cs r) (block-small b (v .1) (up l cs) (length-up l cs ∙ e)) (block-small r (v .2) cs e))
-  block-small (loop b r) v cs e = small-append (pairsWith f cs b) (pairsWith f cs r) (block-small b (v .0) cs e) (block-small r (v .1) cs e)
-  block-small (either a b r) v cs e =
-      small-append (pairsWith f cs a) (pairsWith f cs b ++ pairsWith f cs r) (block-small a (v .0) cs e)
-      (small-append (pairsWith f cs b) (pairsWith f cs r) (block-small b (v .1) cs e) (block-small r (v .2) cs e))
-  block-small (end l r) v cs e = absurd v
-
-module _ (plan : LockPlan) (s : Settled plan) where
-  abbrev ps : List Block
-  ps = plan .procs
-
-  called-small : (d p : ℕ) (cs : List ℕ) → length cs ≡ lockCount → Small (pairsAt d ps p cs)
-  unfolding pairsAt
-  called-small zero p cs e = λ w m. absurd (List·Memᴰ·not-nil m)
-  called-small (suc d) p cs e = block-small (λ q. q < length ps) (pairsAt d ps) (called-small d) (bodyIn ps p) (s .callees-present p) cs e
-
-  pub pair-small : (p w : ℕ) → List·Memᴰ w (pairList ps p) → w < pairSize
-  unfolding pairList
-  pair-small p w m = called-small (length ps) p unlocked refl w (mem-ascending (pairs (length ps) ps p) w m)
+use Rattle.columns.specs.Columns.{pairNumbers}
+use Rattle.columns.proofs.Numbers.{numbers-length, numbers-take, numbers-drop, numbers-append}
 
 -- ---- the part that was lent
 
-pub listed-from : (ws lists : List ℕ) (at r : ℕ) (part : List ℕ) → at + maxPairs ≤ length lists → Wrote (take (length lists - at) (drop at lists)) part 0 r ws
-    → Wrote lists (take at lists ++ (part ++ drop (length lists - at) (drop at lists))) at (at + r) ws
-listed-from ws lists at r part room v = part-wrote lists at r part ws (omega arith) v
+-- a part that goes to the end is all that is left, and nothing stands behind it
+rest-all : (l : List ℕ) (at : ℕ) → at ≤ length l → take (length l - at) (drop at l) ≡ drop at l
+rest-all l at h = take-all (length l - at) (drop at l) (rw length-drop (omega arith))
+
+rest-none : (l : List ℕ) (at : ℕ) → at ≤ length l → drop (length l - at) (drop at l) ≡ []
+rest-none l at h = let e : length (drop at l) ≤ length l - at = rw length-drop (omega arith) in drop-of-length-le (drop at l) e
+
+put-back : (l part : List ℕ) (at : ℕ) → at ≤ length l → take at l ++ (part ++ drop (length l - at) (drop at l)) ≡ take at l ++ part
+put-back l part at h = ap (λ x. take at l ++ x) (ap (λ x. part ++ x) (rest-none l at h) ∙ append-nil part)
+
+pub listed-from : (ws ms ks : List ℕ) (at r : ℕ) (pm pk : List ℕ) → at + maxPairs ≤ length ms → at + maxPairs ≤ length ks
+    → Wrote (pairNumbers (take (length ms - at) (drop at ms)) (take (length ks - at) (drop at ks))) (pairNumbers pm pk) 0 r ws
+    → Wrote (pairNumbers ms ks) (pairNumbers (take at ms ++ (pm ++ drop (length ms - at) (drop at ms))) (take at ks ++ (pk ++ drop (length ks - at) (drop at ks)))) at (at + r) ws
+listed-from ws ms ks at r pm pk room room′ v =
+    let all = pairNumbers ms ks in
+    let h : at ≤ length all = omega (arith, numbers-length ms ks) in
+    let lent : pairNumbers (take (length ms - at) (drop at ms)) (take (length ks - at) (drop at ks)) ≡ take (length all - at) (drop at all) =
+    rw (rest-all ms at (omega arith), rest-all ks at (omega arith)) (sym (numbers-drop at ms ks)) ∙ sym (rest-all all at h) in
+    let front : length (take at ms) ≡ length (take at ks) = length-take-le at ms (omega arith) ∙ sym (length-take-le at ks (omega arith)) in
+    let back : take at all ++ (pairNumbers pm pk ++ drop (length all - at) (drop at all))
+    ≡ pairNumbers (take at ms ++ (pm ++ drop (length ms - at) (drop at ms))) (take at ks ++ (pk ++ drop (length ks - at) (drop at ks))) =
+    put-back all (pairNumbers pm pk) at h ∙ ap (λ x. x ++ pairNumbers pm pk) (numbers-take at ms ks) ∙ sym (numbers-append (take at ms) (take at ks) pm pk front)
+    ∙ sym (rw (put-back ms pm at (omega arith), put-back ks pk at (omega arith))) in
+    subst (λ x. Wrote all x at (at + r) ws) back (part-wrote all at r (pairNumbers pm pk) ws h (subst (λ x. Wrote x (pairNumbers pm pk) 0 r ws) lent v))
 
 -- ---- what stands in the lists then
 

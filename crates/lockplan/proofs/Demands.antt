@@ -4,17 +4,20 @@
 use Prim.Native.Nat.{ℕ, _/_, _%_, _<_, _≤_}
 use native.Mathlib.Omega.{arith}
 use mathlib.Core.Path.{_≡_, refl, sym, ap, _∙_}
-use mathlib.Core.List.{List, []}
+use mathlib.Core.List.{List, [], _∷_}
 use mathlib.Core.Logic.{_↔_, ⊎-elim}
 use mathlib.Core.Option.{Option, none, some, Option·none-ne-some, Option·some-injective}
 use lib.ListN.{length}
-use Rattle.limits.specs.Limits.{maxPairs}
+use Rattle.limits.specs.Limits.{maxPairWords}
+use Rattle.laws.specs.Ascending.{Ascends}
 use Rattle.laws.specs.Mask.{inMask}
 use Rattle.laws.proofs.Tests.{T-dec, T-true, T-false}
 use Rattle.text.specs.declared.Refusal.{Refusal}
 use Rattle.text.specs.Lines.{refusal}
 use Rattle.semantics.specs.Plan.{LockPlan}
 use Rattle.semantics.specs.Sizes.{threadSizes}
+use Rattle.semantics.specs.Pairs.{wordsOf}
+use Rattle.semantics.proofs.Ground.Claims.{pair-order}
 use Rattle.semantics.proofs.Critical.PairList.{pair-list-ascends}
 use Rattle.semantics.proofs.Conflicts.Characterisation.{Ranked, plan-characterisation}
 use Rattle.plan.specs.Rules.{planOf, planRefusal, verdictRefusal, pairsRefusal, copyRefusal, crossingsRefusal}
@@ -36,7 +39,7 @@ use Rattle.crossing.specs.Crossed.{couplesIn, CrossedBytes}
 use Rattle.answers.specs.Judgement.{Judgement}
 use Rattle.verdict.specs.Judged.{JudgedBytes}
 use Rattle.lockplan.specs.VerdictKind.{conflictIn, verdictKind, computedKind}
-use Rattle.lockplan.specs.Demands.{RefusesExactly, VerdictRefuses, PairsRefuse, CopyRefuses, SpaceRefuses, CrossingsRefuse, Demand1, ListsExactly, Demand2, JudgesExactly, Demand3}
+use Rattle.lockplan.specs.Demands.{RefusesExactly, VerdictRefuses, PairsRefuse, CopyRefuses, SpaceRefuses, CrossingsRefuse, Demand1, AscendInTurn, ListsExactly, Demand2, JudgesExactly, Demand3}
 use Rattle.answers.proofs.LineBounds.{plan-bounded, pairs-bounded, copy-bounded, crossings-bounded}
 use Rattle.answers.proofs.Counts.{counted-is}
 use Rattle.answers.proofs.ReadBack.{verdict-read, counted-read}
@@ -147,8 +150,8 @@ demand-1 text before after = record {
   judge = λ v d. verdict-refuses text (length before) v (d .schedule) before after (d .judged) (λ e. d .buffer ∙ rw e);
   lockplan-verdict = λ n d. rw (verdict-carried text before after n d)
       (verdict-refuses text (length before / 2) (d .verdict) (d .schedule) before after (d .judged) (λ e. d .buffer ∙ rw e));
-  pair-list = λ p r d. pairs-refuse text p (length before) (length (pairsOf text p)) r (pairsOf text p) before after (d .answer) (d .buffer);
-  lockplan-pairs = λ p n d. pairs-refuse text p (length before / 8) (length (pairsOf text p)) (readCounted n) (listBytes 8 (pairsOf text p)) before after
+  pair-list = λ p r d. pairs-refuse text p (length before) (length (pairsOf text p)) r (wordsOf (pairsOf text p)) before after (d .answer) (d .buffer);
+  lockplan-pairs = λ p n d. pairs-refuse text p (length before / 8) (length (pairsOf text p)) (readCounted n) (listBytes 8 (wordsOf (pairsOf text p))) before after
       (listing-carried text before after n p d) (d .buffer);
   tidy = λ r d. copy-refuses (tidyOf text) text before after r d;
   lockplan-tidy = λ n d. number-refuses (tidyOf text) text before after n d;
@@ -163,8 +166,14 @@ demand-1 text before after = record {
 
 -- ---- demand 2
 
+-- the order of the numbers is that of the words
+ascend-in-turn : (ws : List ℕ) → Ascends ws → AscendInTurn ws
+unfolding Ascends AscendInTurn
+ascend-in-turn [] a = tt
+ascend-in-turn (v ∷ ws) a = (λ w m. pair-order v w .0 (a .0 w m), ascend-in-turn ws (a .1))
+
 -- the pairs listed of an accepted text
-module _ (text : List ℕ) (p lent : ℕ) (x : AcceptedText text) (there : p < length (x .plan .procs)) (enough : maxPairs ≤ lent) where
+module _ (text : List ℕ) (p lent : ℕ) (x : AcceptedText text) (there : p < length (x .plan .procs)) (enough : maxPairWords ≤ lent) where
   unrefused : pairsRefusal text p lent ≡ none
   unrefused = pairs-accepted-exactly text p lent .1 (enough, x, there)
 
@@ -173,7 +182,7 @@ module _ (text : List ℕ) (p lent : ℕ) (x : AcceptedText text) (there : p < l
   lists-exactly r e = record {
     number = e ∙ rw unrefused;
     exact = published-exactly text x p there;
-    ascending = pair-list-ascends (planOf text .procs) p;
+    ascending = ascend-in-turn (pairsOf text p) (pair-list-ascends (planOf text .procs) p);
   }
 
 pub demand-2 : (text before after : List ℕ) → Demand2 text before after

@@ -1,5 +1,5 @@
--- The three demands, what is asked of tidy copies, of straightened ones, of the space that a schedule needs, of the limit of pairs, and of the couples at which two threads
--- cross, of every answer that the promises of the calls let them give.
+-- The three demands, what is asked of tidy copies, of straightened ones, of the space that a schedule needs, of the limit of pairs, of the couples at which two threads
+-- cross, and of texts without share, of every answer that the promises of the calls let them give.
 pub mod Demands
 pub mod SamePromises
 pub mod WrittenCopies
@@ -8,3 +8,4 @@ pub mod StraightCopies
 pub mod SpaceSuffices
 pub mod PairLimit
 pub mod ThreadCrossings
+pub mod KeptAnswers

@@ -10,7 +10,7 @@ use mathlib.Core.Path.{_≡_, refl, sym, ap, subst, _∙_}
 use lib.Dec.{eqb}
 use lib.ListN.{length}
 use borrow.Author.Tests.{lt-ltb, eq-eqb}
-use Rattle.limits.specs.Limits.{maxPairs}
+use Rattle.limits.specs.Limits.{maxPairWords}
 use Rattle.laws.proofs.Ascending.{ascends-length}
 use Rattle.text.specs.declared.Refusal.{Refusal}
 use Rattle.text.specs.Lines.{refusal}
@@ -130,11 +130,11 @@ module _ (text : List ℕ) where
 -- ---- the pair list
 
 module _ (text : List ℕ) (p lent : ℕ) (r : Counted) (e : r ≡ countedOf (pairsRefusal text p lent) (length (pairsOf text p))) where
-  shorter : lent < maxPairs → r ≡ Refused (refusal 1 0)
+  shorter : lent < maxPairWords → r ≡ Refused (refusal 1 0)
   unfolding pairsRefusal countedOf orElse
-  shorter h = e ∙ rw (lt-ltb lent maxPairs h)
+  shorter h = e ∙ rw (lt-ltb lent maxPairWords h)
 
-  not-by-one : maxPairs ≤ lent → (x : Refusal) → FirstBroken (pairsRules text p lent) (x .rule) (x .line) → x .rule ≡ 1 → ⊥
+  not-by-one : maxPairWords ≤ lent → (x : Refusal) → FirstBroken (pairsRules text p lent) (x .rule) (x .line) → x .rule ≡ 1 → ⊥
   unfolding pairsRules FirstBroken
   not-by-one h x (inl b) k = omega (arith, b .1 .0)
   not-by-one h x (inr b) k = no-number _ 1 (later-numbers text p) x (b .1) k

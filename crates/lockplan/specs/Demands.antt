@@ -2,20 +2,20 @@
 -- theorem, `demand-1`, `demand-2` and `demand-3`, about whatever the promises of the calls let them answer; of a call for C it is about the answer that its number carries.
 use Prim.Native.Nat.{ℕ, _/_, _%_, _<_, _≤_}
 use mathlib.Core.Bool.{Bool}
-use mathlib.Core.List.{List, List·Memᴰ}
-use mathlib.Core.Logic.{_≢_, _↔_}
+use mathlib.Core.List.{List, [], _∷_, List·Memᴰ}
+use mathlib.Core.Logic.{_≢_, _⊎_, _↔_}
 use mathlib.Core.Option.{some}
 use mathlib.Core.Path.{_≡_}
 use lib.ListN.{length}
-use Rattle.limits.specs.Limits.{maxBytes, maxPairs}
+use Rattle.limits.specs.Limits.{maxBytes, maxPairWords}
 use Rattle.laws.specs.Mask.{inMask}
-use Rattle.laws.specs.Ascending.{Ascends}
 use Rattle.text.specs.declared.Refusal.{Refusal}
 use Rattle.text.specs.Lines.{refusal}
 use Rattle.semantics.specs.Plan.{Block, LockPlan}
 use Rattle.semantics.specs.Sizes.{threadSizes}
 use Rattle.semantics.specs.Run.{ThreadState, run, start}
 use Rattle.semantics.specs.Stuck.{Stuck, DeadlockFree, Schedule}
+use Rattle.semantics.specs.Pairs.{heldWord, sharedWord, wantedWord, wordsOf}
 use Rattle.semantics.specs.Language.{PublishedCritical}
 use Rattle.plan.specs.Rules.{planOf, verdictRefusal}
 use Rattle.buffers.specs.LittleEndian.{listBytes}
@@ -53,7 +53,7 @@ VerdictRefuses text lent v before after =
 -- of the pair list of procedure p, where so many words are lent
 abbrev pub PairsRefuse : List ℕ → ℕ → ℕ → Counted → List ℕ → List ℕ → Type 0
 PairsRefuse text p lent r before after =
-    RefusesUnwritten (pairsRules text p lent) ((maxPairs ≤ lent) × (x : AcceptedText text) × (p < length (x .plan .procs))) (λ x. r ≡ counted.Refused x) before after
+    RefusesUnwritten (pairsRules text p lent) ((maxPairWords ≤ lent) × (x : AcceptedText text) × (p < length (x .plan .procs))) (λ x. r ≡ counted.Refused x) before after
 
 -- of a copy, tidy or straightened, where so many bytes are lent
 abbrev pub CopyRefuses : List ℕ → ℕ → Counted → List ℕ → List ℕ → Type 0
@@ -84,18 +84,28 @@ pub record Demand1 (text before after : List ℕ) : Type 0 where
   pub crossings : (t u : ℕ) (r : Counted) → Crossed text t u before r after → CrossingsRefuse text t u r before after
   pub lockplan-crossings : (t u n : ℕ) → CrossedBytes text t u before n after → CrossingsRefuse text t u (readCounted n) before after
 
+-- 02, change 9: "three 64-bit words: held set, shared set, wanted lock times 2 plus 1 for a hold. Order is by these words in turn."
+abbrev pub BeforeInTurn : ℕ → ℕ → Type 0
+BeforeInTurn v w =
+    (heldWord v < heldWord w) ⊎ ((heldWord v ≡ heldWord w) × ((sharedWord v < sharedWord w) ⊎ ((sharedWord v ≡ sharedWord w) × (wantedWord v < wantedWord w))))
+
+-- each pair is before all that follow it
+unfoldable pub AscendInTurn : List ℕ → Type 0
+AscendInTurn [] = Unit {0}
+AscendInTurn (v ∷ ws) = ((w : ℕ) → List·Memᴰ w ws → BeforeInTurn v w) × AscendInTurn ws
+
 -- so many pairs are listed, ascending without repeats, and a pair is listed exactly when it is a critical pair of procedure p by source 000's Definition 4.1
 pub record ListsExactly (ps : List Block) (p : ℕ) (r : Counted) (pairs : List ℕ) : Type 0 where
   pub number : r ≡ Count (length pairs)
   pub exact : (w : ℕ) → List·Memᴰ w pairs ↔ PublishedCritical ps p w
-  pub ascending : Ascends pairs
+  pub ascending : AscendInTurn pairs
 
--- Demand 2: for each procedure of an accepted text the listed pairs are exactly its critical pairs, none missing and none added; they fill the buffer's start.
+-- Demand 2: for each procedure of an accepted text the listed pairs are exactly its critical pairs, none missing and none added; they fill the buffer's start, three words each.
 pub record Demand2 (text before after : List ℕ) : Type 0 where
-  pub pair-list : (p : ℕ) (r : Counted) → Listed text p before r after → (x : AcceptedText text) → p < length (x .plan .procs) → maxPairs ≤ length before
-      → (pairs : List ℕ) × ListsExactly (x .plan .procs) p r pairs × (after ≡ filled pairs before)
-  pub lockplan-pairs : (p n : ℕ) → ListedBytes text p before n after → (x : AcceptedText text) → p < length (x .plan .procs) → maxPairs ≤ length before / 8
-      → (pairs : List ℕ) × ListsExactly (x .plan .procs) p (readCounted n) pairs × (after ≡ filled (listBytes 8 pairs) before)
+  pub pair-list : (p : ℕ) (r : Counted) → Listed text p before r after → (x : AcceptedText text) → p < length (x .plan .procs) → maxPairWords ≤ length before
+      → (pairs : List ℕ) × ListsExactly (x .plan .procs) p r pairs × (after ≡ filled (wordsOf pairs) before)
+  pub lockplan-pairs : (p n : ℕ) → ListedBytes text p before n after → (x : AcceptedText text) → p < length (x .plan .procs) → maxPairWords ≤ length before / 8
+      → (pairs : List ℕ) × ListsExactly (x .plan .procs) p (readCounted n) pairs × (after ≡ filled (listBytes 8 (wordsOf pairs)) before)
 
 -- some run of the plan's gateway reaches a stuck set
 pub record StuckReached (plan : LockPlan) : Type 0 where

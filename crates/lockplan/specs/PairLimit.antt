@@ -1,12 +1,12 @@
 -- What 02, change 5, asks of the limit of pairs: "A hold has size 2 and needs something inside it, so a size of 1,024 has room for 511 holds at most. Show that rule 10 therefore
--- never occurs, and take it out, its number unused". Said of the text, of the critical pairs of source 000, and of what the calls may answer. A theorem about whatever the
--- promises let the calls answer, `pair-limit`.
+-- never occurs, and take it out, its number unused". Change 9, of plans with shares: "the pair bound of 511 must hold for it too". Said of the text, of the critical pairs of
+-- source 000, and of what the calls may answer. A theorem about whatever the promises let the calls answer, `pair-limit`.
 use Prim.Native.Nat.{ℕ, _+_, _*_, _/_, _<_, _≤_}
 use mathlib.Core.List.{List, List·Memᴰ}
 use mathlib.Core.Option.{some}
 use mathlib.Core.Path.{_≡_}
 use lib.ListN.{length}
-use Rattle.limits.specs.Limits.{maxPairs}
+use Rattle.limits.specs.Limits.{maxPairs, maxPairWords}
 use Rattle.laws.specs.Ascending.{Ascends}
 use Rattle.text.specs.declared.Refusal.{Refusal}
 use Rattle.text.specs.Lines.{refusal}
@@ -36,10 +36,10 @@ pub record FewPairs (ps : List Block) (p : ℕ) : Type 0 where
   pub by-size : (pairs : List ℕ) → DifferentPairs ps p pairs → 2 * length pairs + 1 ≤ sizeOf ps p
   pub most : (pairs : List ℕ) → DifferentPairs ps p pairs → length pairs ≤ maxPairs
 
--- the pair list, where so many words are lent: "Raise the limit to 511 and the pair buffer to 511 words"
+-- the pair list, where so many words are lent: "Raise the limit to 511"; change 9: "The pair buffer is 1,533 words"
 pub record ListedWithin (lent : ℕ) (r : Counted) : Type 0 where
-  pub shorter : lent < maxPairs → r ≡ Refused (refusal 1 0)
-  pub suffices : maxPairs ≤ lent → (x : Refusal) → r ≡ Refused x → x .rule ≡ 1 → ⊥
+  pub shorter : lent < maxPairWords → r ≡ Refused (refusal 1 0)
+  pub suffices : maxPairWords ≤ lent → (x : Refusal) → r ≡ Refused x → x .rule ≡ 1 → ⊥
   pub most : (n : ℕ) → r ≡ Count n → n ≤ maxPairs
 
 -- "its number unused": whatever refusal the answer is, it is not by rule 10
@@ -67,7 +67,7 @@ pub record RuleTenUnused (text : List ℕ) : Type 0 where
 pub record PairLimit (text : List ℕ) : Type 0 where
   -- "Show that rule 10 therefore never occurs": no procedure of a text that keeps the rules before it, 2 to 8, 12, 13 and 9, has more than 511 critical pairs
   pub few : (x : AcceptedText text) (p : ℕ) → p < length (x .plan .procs) → FewPairs (x .plan .procs) p
-  -- "the pair buffer to 511 words": of the pair list, whichever procedure is asked for
+  -- "The pair buffer is 1,533 words": of the pair list, whichever procedure is asked for
   pub pair-list : (p : ℕ) (before : List ℕ) (r : Counted) (after : List ℕ) → Listed text p before r after → ListedWithin (length before) r
   pub lockplan-pairs : (p : ℕ) (before : List ℕ) (n : ℕ) (after : List ℕ) → ListedBytes text p before n after → ListedWithin (length before / 8) (readCounted n)
   -- "take it out, its number unused"

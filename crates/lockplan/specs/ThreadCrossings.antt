@@ -1,5 +1,5 @@
--- What 02, change 7, asks of the couples at which two threads cross: said of the text, of its plan, of the critical pairs of source 000, and of all runs of the gateway with these
--- two threads. A theorem about whatever the promises let the calls answer, `crossings-exact`.
+-- What 02, changes 7 and 9, ask of the couples at which two threads cross: said of the text, of its plan, of the critical pairs of source 000, and of all runs of the gateway with
+-- these two threads. A theorem about whatever the promises let the calls answer, `crossings-exact`.
 use Prim.Native.Nat.{ℕ, _<_}
 use mathlib.Core.List.{List, List·Memᴰ}
 use mathlib.Core.Logic.{_≢_, _↔_}
@@ -17,7 +17,7 @@ use Rattle.couples.specs.Couples.{Couple, CoupleWhere, InOrder, NeverStuckAlone
 use Rattle.couples.specs.Fitting.{fittingWords, fittingBytes}
 use Rattle.crossing.specs.Crossed.{Crossed, CrossedBytes}
 
--- a "couple of pairs, one from each, with no held lock in common and each wanting a lock that the other holds"
+-- a "couple of pairs, one from each"; change 9: "Threads cross when their locks may stand together, and each one's wish may not stand beside what another has."
 abbrev pub PublishedCouple : LockPlan → ℕ → ℕ → Couple → Type 0
 PublishedCouple plan = CoupleWhere (PublishedCritical (plan .procs)) plan
 
@@ -34,8 +34,8 @@ pub record CrossesExactly (plan : LockPlan) (t u : ℕ) (r : Counted) (cs : List
   -- so it is zero for any two threads of a plan that is free of deadlocks
   pub free : DeadlockFree (plan .procs) (plan .threads) → r ≡ Count 0
 
--- of the calls, where the text is accepted and the threads are there and two: "the lent buffer, of any length, takes the first ones that fit whole (two words each) and keeps its
--- remainder"
+-- of the calls, where the text is accepted and the threads are there and two: "the lent buffer, of any length, takes the first ones that fit whole .. and keeps its
+-- remainder"; change 9: "a crossing couple six" words
 pub record Crossings (text before after : List ℕ) : Type 0 where
   pub crossings : (t u : ℕ) (r : Counted) → Crossed text t u before r after → (x : AcceptedText text) → t < length (x .plan .threads) → u < length (x .plan .threads) → t ≢ u
       → (cs : List Couple) × CrossesExactly (x .plan) t u r cs × (after ≡ filled (fittingWords (length before) cs) before)

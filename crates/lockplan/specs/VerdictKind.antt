@@ -11,7 +11,8 @@ use Rattle.semantics.specs.Conflict.{conflicting}
 use Rattle.answers.specs.declared.Verdict.{Verdict}
 use Rattle.answers.specs.declared.Verdict.the-variants.{Free, Deadlock, Refused}
 
--- source 000, Theorem 5.5, stage (iii): "verify that Xᵢ ∩ ⋃ Xⱼ = ∅ and ℓᵢ ∈ ⋃ Xⱼ" (j ≠ i), tested over the lists of the critical pairs of the plan's threads
+-- source 000, Theorem 5.5, stage (iii): "verify that Xᵢ ∩ ⋃ Xⱼ = ∅ and ℓᵢ ∈ ⋃ Xⱼ" (j ≠ i), by change 9's rule of what may stand together, tested over the lists
+-- of the critical pairs of the plan's threads
 unfoldable pub conflictIn : LockPlan → Bool
 conflictIn plan = conflicting (map (pairList (plan .procs)) (plan .threads))
 

@@ -10,7 +10,7 @@ ghost use Rattle.verdict.specs.Judged.{Judged, JudgedBytes};
 pub use answers::Counted;
 pub use answers::Verdict;
 use limits::MAX_ENTRIES;
-use limits::MAX_PAIRS;
+use limits::MAX_PAIR_WORDS;
 
 // The verdict on a plan text: whether its gateway can come to two or more threads stuck on each other, with a schedule at the start of `out` where it can.
 pub fn judge(text: &[u8], out: &mut [u16]) -> Verdict
@@ -26,15 +26,15 @@ pub fn space(text: &[u8]) -> Counted
     space::needed_entries(text)
 }
 
-// The critical pairs of a procedure, as 64-bit words, ascending, at the start of `out`.
+// The critical pairs of a procedure, ascending, at the start of `out`: three 64-bit words each, and the count is of pairs.
 pub fn pair_list(text: &[u8], proc: usize, out: &mut [u64]) -> Counted
     ensures { λ r. ⌜ Listed (now (text .entry)) proc (now (out .entry)) r (now (out .exit)) ⌝ }
 {
     listing::list_pairs(text, proc, out)
 }
 
-// The couples of critical pairs, one of each of two threads, that hold no lock in common and each want a lock that the other holds: counted, and the first ones that fit at the
-// start of `out`, two 64-bit words each.
+// The couples of critical pairs, one of each of two threads, whose locks may stand together and that each want what may not stand beside what the other has: counted, and
+// the first ones that fit at the start of `out`, six 64-bit words each.
 pub fn crossings(text: &[u8], first: usize, second: usize, out: &mut [u64]) -> Counted
     ensures { λ r. ⌜ Crossed (now (text .entry)) first second (now (out .entry)) r (now (out .exit)) ⌝ }
 {
@@ -79,12 +79,12 @@ pub extern "C" fn lockplan_space(text: &[u8]) -> u64
     space::space_number(text)
 }
 
-// The pair list for C: pairs as eight bytes each, lowest first.
+// The pair list for C: each word as eight bytes, lowest first.
 #[no_mangle]
 pub extern "C" fn lockplan_pairs(text: &[u8], proc: u64, out: &mut [u8]) -> u64
     ensures { λ r. ⌜ ListedBytes (now (text .entry)) proc (now (out .entry)) r (now (out .exit)) ⌝ }
 {
-    let mut list = [0u64; MAX_PAIRS];
+    let mut list = [0u64; MAX_PAIR_WORDS];
     listing::list_bytes(text, proc as usize, out, &mut list)
 }
 

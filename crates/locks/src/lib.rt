@@ -1,8 +1,11 @@
-// The bit of each lock, lock sets as masks, and the numbers that a mask, a thread or a choice is packed into: the one place where they are put together and taken apart.
+// The bit of each lock and of each claim, sets of claims as masks and what stands against one, the words of a pair in a buffer, and an entry of a schedule taken apart.
 ghost use mathlib.Core.Path.{_≡_};
 ghost use Prim.Native.Nat.{_+_, _*_, _/_, _%_, _<_, _^_};
-ghost use Rattle.limits.specs.Limits.{lockCount, maskSize};
+ghost use Rattle.limits.specs.Limits.{lockCount, maskSize, claimCount};
 ghost use Rattle.laws.specs.Mask.{inMask};
+ghost use Rattle.semantics.specs.Claims.{byShare, byHold, claimWord, wordClaim};
+ghost use Rattle.semantics.specs.Paths.{freshIn};
+ghost use Rattle.semantics.specs.Conflict.{bars};
 use limits::LOCK_COUNT;
 
 // The wiring table: entry k is the bit of lock k in a mask. docs/WIRING.md shows it.
@@ -56,43 +59,83 @@ pub fn lock_bit(lock: u64) -> u64
     widen(LOCK_BITS[lock as usize])
 }
 
-// Whether a lock is in a mask.
-pub fn has_lock(mask: u64, lock: u64) -> bool
-    requires { ⌜ lock < lockCount ⌝ }
-    ensures { λ r. ⌜ r ≡ inMask mask lock ⌝ }
+// ---- claims: a lock by share has its own number, and by hold 32 more
+
+// The bit of a claim in a mask: that of its lock, for a hold 32 digits higher. There is no jump.
+pub fn claim_bit(claim: u64) -> u64
+    requires { ⌜ claim < claimCount ⌝ }
+    ensures { λ r. ⌜ r ≡ 2 ^ claim ⌝ }
 {
-    mask & lock_bit(lock) != 0
+    lock_bit(claim % 32) << (claim / 32 * 32)
 }
 
-// ---- a pair: the wanted lock in its 5 lowest digits, the mask of the held locks above them
-
-pub fn pair_of(mask: u64, lock: u64) -> u64
-    requires { ⌜ mask < maskSize ⌝ }
-    ensures { λ r. ⌜ (lock < lockCount → r ≡ mask * 32 + lock) ⌝ }
+// Whether a claim is in a mask.
+pub fn has_claim(mask: u64, claim: u64) -> bool
+    requires { ⌜ claim < claimCount ⌝ }
+    ensures { λ r. ⌜ r ≡ inMask mask claim ⌝ }
 {
-    (mask << 5) | lock
+    mask & claim_bit(claim) != 0
 }
 
-pub fn held_in(pair: u64) -> u64
-    ensures { λ r. ⌜ r ≡ pair / 32 ⌝ }
+// Whether a claim is fresh to who has those of a mask (02, change 9): a hold that is had keeps the share of its lock from being fresh too.
+pub fn fresh_in(mask: u64, claim: u64) -> bool
+    requires { ⌜ claim < claimCount ⌝ }
+    ensures { λ r. ⌜ r ≡ freshIn mask claim ⌝ }
 {
-    pair >> 5
+    !has_claim(mask | (mask >> 32), claim)
 }
 
-pub fn wanted_in(pair: u64) -> u64
-    ensures { λ r. ⌜ r ≡ pair % 32 ⌝ }
+// The claims that may not stand beside those of a mask: a hold of each of its locks, and a share of each that is held.
+pub fn barred(mask: u64) -> u64
+    ensures { λ r. ⌜ r ≡ bars mask ⌝ }
 {
-    pair & 31
+    let held = mask >> 32;
+    ((mask | held) << 32) | held
 }
 
-// ---- an entry or a candidate: a thread in its 3 lowest digits, a choice or a pair above them
-
-pub fn entry_of(thread: u64, rest: u64) -> u64
-    requires { ⌜ (thread < 8) × (rest < 2 ^ 61) ⌝ }
-    ensures { λ r. ⌜ r ≡ thread + 8 * rest ⌝ }
+// The claims of a lock's number in a text, which may be too large for a lock.
+pub fn by_share(lock: u16) -> u64
+    ensures { λ r. ⌜ (r ≡ byShare lock) × (r < 2 ^ 18) ⌝ }
 {
-    (rest << 3) | thread
+    let l = lock as u64;
+    l / 32 * 64 + l % 32
 }
+
+pub fn by_hold(lock: u16) -> u64
+    ensures { λ r. ⌜ r ≡ byHold lock ⌝ }
+{
+    by_share(lock) + 32
+}
+
+// ---- a pair in a buffer: "held set, shared set, wanted lock times 2 plus 1 for a hold"
+
+pub fn held_set(mask: u64) -> u64
+    ensures { λ r. ⌜ r ≡ mask / maskSize ⌝ }
+{
+    mask >> 32
+}
+
+pub fn shared_set(mask: u64) -> u64
+    ensures { λ r. ⌜ r ≡ mask % maskSize ⌝ }
+{
+    mask & 0xffffffff
+}
+
+pub fn claim_word(claim: u64) -> u64
+    requires { ⌜ claim < claimCount ⌝ }
+    ensures { λ r. ⌜ r ≡ claimWord claim ⌝ }
+{
+    claim % 32 * 2 + claim / 32
+}
+
+pub fn word_claim(word: u64) -> u64
+    requires { ⌜ word < claimCount ⌝ }
+    ensures { λ r. ⌜ r ≡ wordClaim word ⌝ }
+{
+    word / 2 + word % 2 * 32
+}
+
+// ---- an entry of a schedule: a thread in its 3 lowest digits, a choice above them
 
 pub fn thread_in(entry: u64) -> u64
     ensures { λ r. ⌜ r ≡ entry % 8 ⌝ }
@@ -104,25 +147,4 @@ pub fn rest_in(entry: u64) -> u64
     ensures { λ r. ⌜ r ≡ entry / 8 ⌝ }
 {
     entry >> 3
-}
-
-// ---- a step of a path: its choice in the 2 lowest digits, the mask of the locks held after it above them
-
-pub fn step_of(choice: u64, mask: u64) -> u64
-    requires { ⌜ (choice < 4) × (mask < maskSize) ⌝ }
-    ensures { λ r. ⌜ r ≡ choice + 4 * mask ⌝ }
-{
-    (mask << 2) | choice
-}
-
-pub fn choice_in(step: u64) -> u64
-    ensures { λ r. ⌜ r ≡ step % 4 ⌝ }
-{
-    step & 3
-}
-
-pub fn mask_in(step: u64) -> u64
-    ensures { λ r. ⌜ r ≡ step / 4 ⌝ }
-{
-    step >> 2
 }

@@ -11,12 +11,33 @@ use lib.Seq.{drop-drop}
 use lib.Dec.{eqb·suc-zero}
 use borrow.Author.Tests.{ne-eqb}
 use Rattle.text.specs.declared.Form.{Form}
-use Rattle.text.specs.declared.Form.the-variants.{Plan, Proc, Close, Skip, Call, Hold, Loop, Either, One, Two}
+use Rattle.text.specs.declared.Form.the-variants.{Plan, Proc, Close, Skip, Call, Hold, Loop, Either, One, Two, Share}
 use Rattle.text.specs.Forms.{kindIn, beginsOther}
 use Rattle.semantics.specs.Plan.{Block, done, skip, call, hold, loop, either, end, LockPlan, bodyIn}
-use Rattle.plan.specs.Grammar.{blockForms, procForms, threadForms, forms}
+use Rattle.semantics.specs.Claims.{lockOf}
+use Rattle.plan.specs.Grammar.{claimForm, blockForms, procForms, threadForms, forms}
 use Rattle.plan.specs.Rules.{procFormFrom}
+use Rattle.plan.proofs.ClaimForms.{by-claim}
 use Rattle.parts.specs.Parts.{formsBefore, formsToClosing}
+
+-- the form of a claim begins no other thing, and opens a bracket
+
+claim-before : (a : ℕ) (xs ys : List Form) → take (formsBefore xs) xs ≡ ys → take (formsBefore (claimForm a ∷ xs)) (claimForm a ∷ xs) ≡ claimForm a ∷ ys
+unfolding formsBefore kindIn
+claim-before a xs ys e =
+    by-claim (λ f. take (formsBefore (f ∷ xs)) (f ∷ xs) ≡ f ∷ ys) a (ap (λ x. Hold (lockOf a) ∷ x) e) (ap (λ x. Share (lockOf a) ∷ x) e)
+
+claim-counted : (p a n : ℕ) (xs : List Form) → procFormFrom n p (claimForm a ∷ xs) ≡ procFormFrom (suc n) p xs
+unfolding procFormFrom kindIn
+claim-counted p a n xs = by-claim (λ f. procFormFrom n p (f ∷ xs) ≡ procFormFrom (suc n) p xs) a refl refl
+
+claim-closing : (a depth : ℕ) (xs : List Form) → formsBefore xs ≡ formsToClosing (depth + 1) xs → formsBefore (claimForm a ∷ xs) ≡ formsToClosing depth (claimForm a ∷ xs)
+unfolding formsBefore formsToClosing kindIn
+claim-closing a depth xs e = by-claim (λ f. formsBefore (f ∷ xs) ≡ formsToClosing depth (f ∷ xs)) a (ap suc e) (ap suc e)
+
+claim-some : (a : ℕ) (xs : List Form) → 1 ≤ formsBefore (claimForm a ∷ xs)
+unfolding formsBefore kindIn
+claim-some a xs = by-claim (λ f. 1 ≤ formsBefore (f ∷ xs)) a (omega arith) (omega arith)
 
 -- up to the first form that begins another thing
 before-block : (b : Block) (fs : List Form) → take (formsBefore (blockForms b fs)) (blockForms b fs) ≡ blockForms b (take (formsBefore fs) fs)
@@ -24,7 +45,7 @@ unfolding blockForms formsBefore kindIn
 before-block done fs = refl
 before-block (skip r) fs = ap (λ l. Skip ∷ l) (before-block r fs)
 before-block (call n r) fs = ap (λ l. Call n ∷ l) (before-block r fs)
-before-block (hold l b r) fs = ap (λ x. Hold l ∷ x) (before-block b (Close ∷ blockForms r fs) ∙ ap (λ x. blockForms b (Close ∷ x)) (before-block r fs))
+before-block (hold a b r) fs = claim-before a (blockForms b (Close ∷ blockForms r fs)) _ (before-block b (Close ∷ blockForms r fs) ∙ ap (λ x. blockForms b (Close ∷ x)) (before-block r fs))
 before-block (loop b r) fs = ap (λ x. Loop ∷ x) (before-block b (Close ∷ blockForms r fs) ∙ ap (λ x. blockForms b (Close ∷ x)) (before-block r fs))
 before-block (either a b r) fs =
     ap (λ x. Either ∷ One ∷ x) (before-block a (Close ∷ Two ∷ blockForms b (Close ∷ Close ∷ blockForms r fs))
@@ -60,9 +81,9 @@ unfolding blockForms procFormFrom kindIn
 passes-block p done fs = passes-none p fs
 passes-block p (skip r) fs = passes-more p Skip (blockForms r fs) fs (λ n. refl) (passes-block p r fs)
 passes-block p (call q r) fs = passes-more p (Call q) (blockForms r fs) fs (λ n. refl) (passes-block p r fs)
-passes-block p (hold l b r) fs =
+passes-block p (hold a b r) fs =
     let gs = blockForms r fs in
-    passes-more p (Hold l) (blockForms b (Close ∷ gs)) fs (λ n. refl)
+    passes-more p (claimForm a) (blockForms b (Close ∷ gs)) fs (λ n. claim-counted p a n (blockForms b (Close ∷ gs)))
     (passes-then p (blockForms b (Close ∷ gs)) (Close ∷ gs) fs (passes-block p b (Close ∷ gs)) (passes-more p Close gs fs (λ n. refl) (passes-block p r fs)))
 passes-block p (loop b r) fs =
     let gs = blockForms r fs in
@@ -142,7 +163,7 @@ unfolding blockForms formsBefore kindIn formsToClosing
 closing-block done depth fs h = h
 closing-block (skip r) depth fs h = ap suc (closing-block r depth fs h)
 closing-block (call n r) depth fs h = ap suc (closing-block r depth fs h)
-closing-block (hold l b r) depth fs h = ap suc (closing-block b (depth + 1) (Close ∷ blockForms r fs) (closes depth (blockForms r fs) (closing-block r depth fs h)))
+closing-block (hold a b r) depth fs h = claim-closing a depth (blockForms b (Close ∷ blockForms r fs)) (closing-block b (depth + 1) (Close ∷ blockForms r fs) (closes depth (blockForms r fs) (closing-block r depth fs h)))
 closing-block (loop b r) depth fs h = ap suc (closing-block b (depth + 1) (Close ∷ blockForms r fs) (closes depth (blockForms r fs) (closing-block r depth fs h)))
 closing-block (either a b r) depth fs h =
     let gs = blockForms r fs in
@@ -167,7 +188,7 @@ unfolding blockForms formsBefore kindIn
 before-some done fs = omega arith
 before-some (skip r) fs = omega arith
 before-some (call n r) fs = omega arith
-before-some (hold l b r) fs = omega arith
+before-some (hold a b r) fs = claim-some a (blockForms b (Close ∷ blockForms r (Close ∷ fs)))
 before-some (loop b r) fs = omega arith
 before-some (either a b r) fs = omega arith
 before-some (end l r) fs = before-some r fs

@@ -46,8 +46,8 @@ linesSpan text a b = span (skipLines a text) (skipLines b text - skipLines a tex
 unfoldable pub formsSpan : List ℕ → ℕ → ℕ → Span
 formsSpan text a b = linesSpan text (lineOf text a - 1) (lineOf text b)
 
--- how many of the forms within a procedure stand up to its closing form, that too: up to the `)` that meets no open bracket of a hold, a loop, an either, a one or
--- a two, of which `depth` are open before
+-- how many of the forms within a procedure stand up to its closing form, that too: up to the `)` that meets no open bracket of a hold, a share, a loop, an either, a one
+-- or a two, of which `depth` are open before
 unfoldable pub formsToClosing : ℕ → List Form → ℕ
 formsToClosing depth [] = 0
 formsToClosing depth (f ∷ fs) = cond (isClose f && eqb depth 0) 1 (suc (formsToClosing (depthAfter f depth) fs))

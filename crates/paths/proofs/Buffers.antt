@@ -1,5 +1,5 @@
 -- The buffer of steps: what stands in front of the place where a step is put stays, and so does what a walk goes back to.
-use Prim.Native.Nat.{ℕ, _+_, _<_, _≤_}
+use Prim.Native.Nat.{ℕ, _+_, _%_, _<_, _≤_, min}
 use native.Mathlib.Numerals.{add-one}
 use native.Mathlib.Omega.{arith}
 use native.Mathlib.Nat.{le-refl}
@@ -7,6 +7,9 @@ use mathlib.Core.List.{List}
 use mathlib.Core.Path.{_≡_, refl, sym, ap, _∙_}
 use lib.ListN.{length, take, set, length-set}
 use lib.Seq.{take-take, take-set-le, take-suc-set}
+use Rattle.semantics.specs.Paths.{stepOf}
+use Rattle.columns.specs.Columns.{steps}
+use Rattle.columns.proofs.Steps.{steps-length, steps-set}
 use Rattle.paths.specs.Walks.{FrontKept, PutAt}
 
 pub kept-same : (s : List ℕ) (n : ℕ) → n ≤ length s → FrontKept s n s n
@@ -29,13 +32,25 @@ kept-back a b = record { grows = b .grows; room = b .room; size = b .size ∙ a 
 
 -- ---- a step that is put
 
-module _ (s : List ℕ) (n e : ℕ) where
-  pub put-stored : (v : ℕ) → v ≡ e → n < length s → PutAt s n e (n + 1) (set s n v)
-  put-stored v same h = rw same (record {
-    buffer = record { grows = omega arith; room = rw (length-set s n e) (omega arith); size = length-set s n e; same = take-set-le n s n e (le-refl n) };
-    one = le-refl (n + 1);
-    put = λ k. rw add-one (take-suc-set s n e h);
-  })
+put-stored : (s : List ℕ) (n e : ℕ) → n < length s → PutAt s n e (n + 1) (set s n e)
+put-stored s n e h = record {
+  buffer = record { grows = omega arith; room = rw (length-set s n e) (omega arith); size = length-set s n e; same = take-set-le n s n e (le-refl n) };
+  one = le-refl (n + 1);
+  put = λ k. rw add-one (take-suc-set s n e h);
+}
 
-  pub put-full : length s ≤ n → n ≤ length s → PutAt s n e n s
-  put-full h k = record { buffer = kept-same s n k; one = omega arith; put = λ l. absurd (omega arith) }
+module _ (cs ms : List ℕ) (n c m : ℕ) where
+  pub put-both : c < 4 → n < length cs → n < length ms → PutAt (steps cs ms) n (stepOf c m) (n + 1) (steps (set cs n c) (set ms n m))
+  put-both k h l =
+      let e : c % 4 ≡ c = omega arith in
+      let long : n < length (steps cs ms) = omega (arith, steps-length cs ms) in
+      rw (← steps-set cs ms n c m) (rw e (put-stored (steps cs ms) n (stepOf c m) long))
+
+  put-full : min (length cs) (length ms) ≤ n → n ≤ length (steps cs ms) → PutAt (steps cs ms) n (stepOf c m) n (steps cs ms)
+  put-full h k = record { buffer = kept-same (steps cs ms) n k; one = omega arith; put = λ l. absurd (omega (arith, steps-length cs ms)) }
+
+  pub put-full-choices : length cs ≤ n → n ≤ length (steps cs ms) → PutAt (steps cs ms) n (stepOf c m) n (steps cs ms)
+  put-full-choices h = put-full (omega arith)
+
+  pub put-full-masks : length ms ≤ n → n ≤ length (steps cs ms) → PutAt (steps cs ms) n (stepOf c m) n (steps cs ms)
+  put-full-masks h = put-full (omega arith)

@@ -1,36 +1,29 @@
--- The mask of one lock, and what it tests.
-use Prim.Native.Nat.{ℕ, zero, suc, _+_, _*_, _^_, _<_}
-use native.Mathlib.Nat.{zero-mul, suc-mul}
+-- The mask of one claim, and what gives the pair.
+use Prim.Native.Nat.{ℕ, _^_, _<_, _≤_}
 use native.Mathlib.Omega.{arith}
-use mathlib.Core.Bool.{false}
-use mathlib.Core.Path.{_≡_, refl, sym, ap, _∙_}
-use lib.Bits.{bitAnd, bitOr, or-lt}
+use mathlib.Core.Bool.{Bool, true, false, _&&_}
+use mathlib.Core.Path.{_≡_, sym, ap, _∙_}
+use lib.Bits.{bitOr}
 use lib.Dec.{eqb}
-use lib.Pow.{pow-pos}
-use borrow.Author.Tests.{ne-eqb, eq-eqb}
-use Rattle.limits.specs.Limits.{lockCount, maskSize}
-use Rattle.laws.specs.Mask.{bit}
-use Rattle.laws.proofs.Masks.{and-power}
-use Rattle.locks.proofs.Powers.{bit-small}
-use Rattle.semantics.specs.Paths.{gives, holding}
+use Rattle.limits.specs.Limits.{claimCount}
+use Rattle.semantics.specs.Claims.{claimWord}
+use Rattle.semantics.specs.Pairs.{pairOf}
+use Rattle.semantics.specs.Paths.{gives, holding, freshIn}
+use Rattle.columns.specs.Columns.{pairNumber}
+use Rattle.columns.proofs.Numbers.{number-as}
 
-pub mask-of-lock : (l b : ℕ) → l < lockCount → b ≡ 2 ^ l → (b < maskSize) × (l < lockCount → b ≡ 2 ^ l)
-mask-of-lock l b h e = (bit-small l b h e, λ k. e)
+pub bit-joined : (m a b : ℕ) → (a < claimCount → b ≡ 2 ^ a) → a < claimCount → bitOr m b ≡ holding m a
+bit-joined m a b is h = ap (bitOr m) (is h)
 
-module _ (m l b w : ℕ) (is : l < lockCount → b ≡ 2 ^ l) where
-  pub bit-joined : m < maskSize → b < maskSize → (bitOr m b < maskSize) × (l < lockCount → bitOr m b ≡ holding m l)
-  bit-joined h k = (or-lt lockCount m b h k, λ a. ap (bitOr m) (is a))
+-- no claim has the number
+pub gives-none : (a : ℕ) {A : Type 0} → 64 ≤ a → a < claimCount → A
+gives-none a k h = absurd (omega arith)
 
-  -- the lock is held
-  pub gives-not : (bitAnd m b ≡ 0 → ⊥) → l < lockCount → false ≡ gives w m l
-  gives-not n h =
-      let z : (bit m l ≡ 0 → ⊥) = λ e. n (ap (bitAnd m) (is h) ∙ and-power m l ∙ ap (λ x. x * 2 ^ l) e ∙ zero-mul (2 ^ l)) in
-      rw (ne-eqb (bit m l) 0 z)
+module _ (m a w : ℕ) where
+  -- the claim is not fresh
+  pub gives-not : (f : Bool) → f ≡ freshIn m a → f ≡ false → a < claimCount → false ≡ gives w m a
+  gives-not f e z h = sym (ap (λ b. b && eqb (pairOf m a) w) (sym e ∙ z))
 
-  -- it is not
-  pub gives-tested : (v : ℕ) → bitAnd m b ≡ 0 → (l < lockCount → v ≡ m * 32 + l) → l < lockCount → eqb v w ≡ gives w m l
-  gives-tested v e f h = rw (f h, eq-eqb (bit m l) 0 (none (bit m l) (sym (and-power m l) ∙ ap (bitAnd m) (sym (is h)) ∙ e)))
-    where
-      none : (x : ℕ) → x * 2 ^ l ≡ 0 → x ≡ 0
-      none zero z = refl
-      none (suc x) z = absurd (omega (arith, suc-mul x (2 ^ l), pow-pos l))
+  -- it is
+  pub gives-tested : (f r : Bool) (k : ℕ) → f ≡ freshIn m a → f ≡ true → k ≡ claimWord a → r ≡ eqb (pairNumber m k) w → a < claimCount → r ≡ gives w m a
+  gives-tested f r k e z d t h = t ∙ ap (λ v. eqb v w) (number-as m a k h d) ∙ sym (ap (λ b. b && eqb (pairOf m a) w) (sym e ∙ z))

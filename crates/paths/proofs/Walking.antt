@@ -9,21 +9,21 @@ use mathlib.Core.Path.{_≡_, refl, sym, ap, _∙_}
 use denote.Enum.Declared.{tagOf}
 use lib.ListN.{length, take, getD}
 use types.Run.{OneOf}
-use Rattle.limits.specs.Limits.{lockCount}
+use Rattle.limits.specs.Limits.{claimCount}
 use Rattle.text.specs.declared.Form.{Form}
-use Rattle.text.specs.declared.Form.the-variants.{Close, Skip, Call, Hold, Loop, Either, One, Two}
+use Rattle.text.specs.declared.Form.the-variants.{Close, Skip, Call, Loop, Either, One, Two}
 use Rattle.text.proofs.Form.{the-type}
 use Rattle.semantics.specs.Plan.{Block, skip, call, hold, loop, either, bodyIn}
 use Rattle.semantics.specs.Sizes.{sizeWith, sizeAt}
 use Rattle.semantics.specs.Paths.{stepOf, holding, put, Walked, found, passed, andThen, gives, walkWith, walkAt}
-use Rattle.plan.specs.Grammar.{blockForms}
+use Rattle.plan.specs.Grammar.{blockForms, claimForm}
 use Rattle.plan.specs.Table.{formAt}
 use Rattle.paths.specs.declared.Stop.{Stop}
 use Rattle.paths.specs.declared.Way.{Way}
-use Rattle.paths.specs.Walks.{procsIn, formsFrom, InPlan, Inside, sizeIn, walkIn, FrontKept, PutAt, WalkReady, stopped, outcomeOf, BlockWalked, Walks, Left, StatementWalked, StatementWalks}
+use Rattle.paths.specs.Walks.{claimIn, procsIn, aimOf, formsFrom, InPlan, Inside, sizeIn, walkIn, FrontKept, PutAt, WalkReady, stopped, outcomeOf, BlockWalked, Walks, Left, StatementWalked, StatementWalks}
 use Rattle.paths.proofs.Buffers.{kept-same, kept-then, kept-back}
 use Rattle.paths.proofs.Measure.{measure}
-use Rattle.paths.proofs.Blocks.{other-form, none-begins, statement-begins, table-more, table-none, table-behind}
+use Rattle.paths.proofs.Blocks.{claim-form, other-form, none-begins, statement-begins, table-more, table-none, table-behind}
 use Rattle.paths.proofs.Blocks.{close-only, skip-only, call-only, hold-only, loop-only, either-only}
 
 module _ (ps : List Block) (d : ℕ) where
@@ -111,11 +111,11 @@ module _ {ws : List ℕ} {way : Way} {at n i count : ℕ} {s s₁ : List ℕ} (a
     })
 
     -- a statement more
-    module _ (tags : OneOf (0 ∷ 1 ∷ 2 ∷ 4 ∷ 5 ∷ 6 ∷ 7 ∷ 8 ∷ 9 ∷ 10 ∷ []) (tagOf the-type f)) {r : Stop} {s₂ : List ℕ} (p : StatementWalks ws way f (i + 1) s₁ count r s₂) where
+    module _ (tags : OneOf (0 ∷ 1 ∷ 2 ∷ 4 ∷ 5 ∷ 6 ∷ 7 ∷ 8 ∷ 9 ∷ 10 ∷ 11 ∷ []) (tagOf the-type f)) {r : Stop} {s₂ : List ℕ} (p : StatementWalks ws way f (i + 1) s₁ count r s₂) where
       statement-passed : {b : Block} {later : List Form} (l : Left ws way (take n s) n b later i count s₁) → n + sizeIn ws way b ≤ length s
           → StatementWalked ws way (take count s₁) count (l .rest) later r s₂
       statement-passed {b} {later} l k =
-          p .walked (l .rest) later (other-form (0 ∷ 1 ∷ 2 ∷ 4 ∷ 5 ∷ 6 ∷ 7 ∷ 8 ∷ 9 ∷ 10 ∷ []) f Close tags tt) (form-left l) (l .inside)
+          p .walked (l .rest) later (other-form (0 ∷ 1 ∷ 2 ∷ 4 ∷ 5 ∷ 6 ∷ 7 ∷ 8 ∷ 9 ∷ 10 ∷ 11 ∷ []) f Close tags tt) (form-left l) (l .inside)
           (omega (arith, l .short, a .buffer .size))
 
       pub along-reached : r .reached ≡ true → Walks ws way at s n (take n s) n r s₂
@@ -158,6 +158,11 @@ left-passed l = record { reached = λ z. not-both z refl; left = λ z. l; short 
 pub passes-as : {ws : List ℕ} {way : Way} {at n : ℕ} {s s₁ : List ℕ} {r : Stop} (f g : Form) → f ≡ g → StatementWalks ws way g at s n r s₁ → StatementWalks ws way f at s n r s₁
 passes-as f g e p = rw e p
 
+-- a hold or a share has the form of its claim
+pub claim-passes-as : {ws : List ℕ} {way : Way} {at n : ℕ} {s s₁ : List ℕ} {r : Stop} (f : Form) (a : ℕ) → OneOf (6 ∷ 11 ∷ []) (tagOf the-type f) → a ≡ claimIn f
+    → StatementWalks ws way (claimForm a) at s n r s₁ → StatementWalks ws way f at s n r s₁
+claim-passes-as f a h e p = passes-as f (claimForm a) (claim-form f h ∙ ap claimForm (sym e)) p
+
 pub other-passes : {ws : List ℕ} {way : Way} {at n : ℕ} {s : List ℕ} (r : Stop) (f : Form) → r ≡ stopped false at n → n ≤ length s
     → OneOf (0 ∷ 1 ∷ 2 ∷ 3 ∷ 9 ∷ 10 ∷ []) (tagOf the-type f) → StatementWalks ws way f at s n r s
 other-passes {ws} {way} {at} {n} {s} r f e h tags = rw e (record {
@@ -199,7 +204,7 @@ module _ {ws : List ℕ} {way : Way} {at n k : ℕ} {s s₁ : List ℕ} (r : Sto
         rest = x;
         forms = g;
         inside = v;
-        same = ap (λ o. andThen o (λ q. walkIn ws way q x)) (no-depth (procsIn ws) (way .depth) (way .pair) p (way .mask) (put (take n s) 0 (way .mask)) z)
+        same = ap (λ o. andThen o (λ q. walkIn ws way q x)) (no-depth (procsIn ws) (way .depth) (aimOf way) p (way .mask) (put (take n s) 0 (way .mask)) z)
             ∙ ap (λ q. walkIn ws way q x) (sym (u .put (omega arith)));
         short = omega (arith, u .one);
       })
@@ -207,9 +212,9 @@ module _ {ws : List ℕ} {way : Way} {at n k : ℕ} {s s₁ : List ℕ} (r : Sto
 -- a call: the walk of the procedure
 module _ {ws starts : List ℕ} {way : Way} {p q n : ℕ} {s s₁ : List ℕ} {i : Stop} (ready : WalkReady ws starts way s n) (z : way .depth ≡ 0 → ⊥)
     (begin : p < length starts → q ≡ getD starts p 0)
-    (w : Walks ws (record { depth = way .depth - 1; mask = way .mask; pair = way .pair }) q s n (put (take n s) 0 (way .mask)) (n + 1) i s₁) where
+    (w : Walks ws (record { depth = way .depth - 1; mask = way .mask; aim = way .aim; code = way .code }) q s n (put (take n s) 0 (way .mask)) (n + 1) i s₁) where
   called : p < length (procsIn ws) → n + 1 + sizeAt (way .depth) (procsIn ws) p ≤ length s → (later : List Form) × BlockWalked ws
-      (record { depth = way .depth - 1; mask = way .mask; pair = way .pair }) (put (take n s) 0 (way .mask)) (n + 1) (bodyIn (procsIn ws) p) later i s₁
+      (record { depth = way .depth - 1; mask = way .mask; aim = way .aim; code = way .code }) (put (take n s) 0 (way .mask)) (n + 1) (bodyIn (procsIn ws) p) later i s₁
   called c h =
       let there = ready .begins .stands p c in
       let y = size-deeper (procsIn ws) (way .depth) p z in
@@ -231,7 +236,7 @@ module _ {ws starts : List ℕ} {way : Way} {p q n : ℕ} {s s₁ : List ℕ} {i
       go later x c v g h =
           let y = size-deeper (procsIn ws) (way .depth) p z in
           let o = called c (omega arith) .1 in
-          let deeper = one-deeper (procsIn ws) (way .depth) (way .pair) p (way .mask) (put (take n s) 0 (way .mask)) z in
+          let deeper = one-deeper (procsIn ws) (way .depth) (aimOf way) p (way .mask) (put (take n s) 0 (way .mask)) z in
           record {
             reached = λ f. ap (λ o. andThen o (λ q. walkIn ws way q x)) (deeper ∙ was-found o f);
             left = λ f. record {
@@ -246,18 +251,18 @@ module _ {ws starts : List ℕ} {way : Way} {p q n : ℕ} {s s₁ : List ℕ} {i
 
 -- a hold: it gives the pair, or its block is walked
 module _ (ws : List ℕ) (way : Way) (path : List ℕ) (l : ℕ) (x y : Block) where
-  hold-here : gives (way .pair) (way .mask) l ≡ true → walkIn ws way path (hold l x y) ≡ found path
+  hold-here : gives (aimOf way) (way .mask) l ≡ true → walkIn ws way path (hold l x y) ≡ found path
   unfolding walkWith
   hold-here e = rw e
 
-  hold-then : gives (way .pair) (way .mask) l ≡ false → walkIn ws way path (hold l x y)
-      ≡ andThen (walkIn ws (record { depth = way .depth; mask = holding (way .mask) l; pair = way .pair }) (put path 0 (holding (way .mask) l)) x)
+  hold-then : gives (aimOf way) (way .mask) l ≡ false → walkIn ws way path (hold l x y)
+      ≡ andThen (walkIn ws (record { depth = way .depth; mask = holding (way .mask) l; aim = way .aim; code = way .code }) (put path 0 (holding (way .mask) l)) x)
       (λ q. walkIn ws way (put q 0 (way .mask)) y)
   unfolding walkWith
   hold-then e = rw e
 
-pub hold-passes-here : {ws : List ℕ} {way : Way} {at n l : ℕ} {s : List ℕ} {t : Bool} → n ≤ length s → (l < lockCount → t ≡ gives (way .pair) (way .mask) l) → t ≡ true
-    → StatementWalks ws way (Hold l) at s n (stopped true at n) s
+pub hold-passes-here : {ws : List ℕ} {way : Way} {at n l : ℕ} {s : List ℕ} {t : Bool} → n ≤ length s → (l < claimCount → t ≡ gives (aimOf way) (way .mask) l) → t ≡ true
+    → StatementWalks ws way (claimForm l) at s n (stopped true at n) s
 unfolding sizeWith
 hold-passes-here {ws} {way} {at} {n} {l} {s} room g f = record {
   buffer = kept-same s n room;
@@ -265,7 +270,7 @@ hold-passes-here {ws} {way} {at} {n} {l} {s} room g f = record {
   walked = λ b later c e v. hold-only (InPlan ws) later (formsFrom ws at) l (Passing ws way s n later (stopped true at n) s) (go later) b v e;
 }
   where
-    go : (later : List Form) (x y : Block) → l < lockCount → Inside ws x → Inside ws y → formsFrom ws at ≡ blockForms x (Close ∷ blockForms y (Close ∷ later))
+    go : (later : List Form) (x y : Block) → l < claimCount → Inside ws x → Inside ws y → formsFrom ws at ≡ blockForms x (Close ∷ blockForms y (Close ∷ later))
         → Passing ws way s n later (stopped true at n) s (hold l x y)
     go later x y c v v′ e h = record {
       reached = λ z. hold-here ws way (take n s) l x y (sym (g c) ∙ f);
@@ -273,17 +278,17 @@ hold-passes-here {ws} {way} {at} {n} {l} {s} room g f = record {
       short = omega arith;
     }
 
-module _ (way : Way) {ws : List ℕ} {at n l m : ℕ} {s s₁ : List ℕ} {t : Bool} {i : Stop} (g : l < lockCount → t ≡ gives (way .pair) (way .mask) l) (f : t ≡ false)
-    (with : l < lockCount → m ≡ holding (way .mask) l)
-    (w : Walks ws (record { depth = way .depth; mask = m; pair = way .pair }) at s n (put (take n s) 0 m) (n + 1) i s₁) where
-  held-then : (x y : Block) (o : Walked) → l < lockCount → walkIn ws (record { depth = way .depth; mask = m; pair = way .pair }) (put (take n s) 0 m) x ≡ o
+module _ (way : Way) {ws : List ℕ} {at n l m : ℕ} {s s₁ : List ℕ} {t : Bool} {i : Stop} (g : l < claimCount → t ≡ gives (aimOf way) (way .mask) l) (f : t ≡ false)
+    (with : l < claimCount → m ≡ holding (way .mask) l)
+    (w : Walks ws (record { depth = way .depth; mask = m; aim = way .aim; code = way .code }) at s n (put (take n s) 0 m) (n + 1) i s₁) where
+  held-then : (x y : Block) (o : Walked) → l < claimCount → walkIn ws (record { depth = way .depth; mask = m; aim = way .aim; code = way .code }) (put (take n s) 0 m) x ≡ o
       → walkIn ws way (take n s) (hold l x y) ≡ andThen o (λ q. walkIn ws way (put q 0 (way .mask)) y)
   held-then x y o c e =
       hold-then ws way (take n s) l x y (sym (g c) ∙ f)
       ∙ ap (λ o. andThen o (λ q. walkIn ws way (put q 0 (way .mask)) y))
-      (ap (λ z. walkIn ws (record { depth = way .depth; mask = z; pair = way .pair }) (put (take n s) 0 z) x) (sym (with c)) ∙ e)
+      (ap (λ z. walkIn ws (record { depth = way .depth; mask = z; aim = way .aim; code = way .code }) (put (take n s) 0 z) x) (sym (with c)) ∙ e)
 
-  pub hold-passes-found : i .reached ≡ true → StatementWalks ws way (Hold l) at s n i s₁
+  pub hold-passes-found : i .reached ≡ true → StatementWalks ws way (claimForm l) at s n i s₁
   unfolding sizeWith
   hold-passes-found a = record {
     buffer = w .buffer;
@@ -291,14 +296,14 @@ module _ (way : Way) {ws : List ℕ} {at n l m : ℕ} {s s₁ : List ℕ} {t : B
     walked = λ b later c e v. hold-only (InPlan ws) later (formsFrom ws at) l (Passing ws way s n later i s₁) (go later) b v e;
   }
     where
-      go : (later : List Form) (x y : Block) → l < lockCount → Inside ws x → Inside ws y → formsFrom ws at ≡ blockForms x (Close ∷ blockForms y (Close ∷ later))
+      go : (later : List Form) (x y : Block) → l < claimCount → Inside ws x → Inside ws y → formsFrom ws at ≡ blockForms x (Close ∷ blockForms y (Close ∷ later))
           → Passing ws way s n later i s₁ (hold l x y)
       go later x y c v v′ e h =
           let o = w .walked x (blockForms y (Close ∷ later)) e v (omega arith) in
           record { reached = λ b. held-then x y (found (take (i .count) s₁)) c (was-found o a); left = λ b. not-both a b; short = omega (arith, o .short) }
 
   pub hold-passes : {j : ℕ} {s₂ : List ℕ} (r : Stop) → i .reached ≡ false → PutAt s₁ (i .count) (stepOf 0 (way .mask)) j s₂ → r ≡ stopped false (i .next) j
-      → StatementWalks ws way (Hold l) at s n r s₂
+      → StatementWalks ws way (claimForm l) at s n r s₂
   unfolding sizeWith
   hold-passes {j} {s₂} r a u d = rw d (record {
     buffer = kept-then (w .buffer) (u .buffer);
@@ -306,7 +311,7 @@ module _ (way : Way) {ws : List ℕ} {at n l m : ℕ} {s s₁ : List ℕ} {t : B
     walked = λ b later c e v. hold-only (InPlan ws) later (formsFrom ws at) l (Passing ws way s n later (stopped false (i .next) j) s₂) (go later) b v e;
   })
     where
-      go : (later : List Form) (x y : Block) → l < lockCount → Inside ws x → Inside ws y → formsFrom ws at ≡ blockForms x (Close ∷ blockForms y (Close ∷ later))
+      go : (later : List Form) (x y : Block) → l < claimCount → Inside ws x → Inside ws y → formsFrom ws at ≡ blockForms x (Close ∷ blockForms y (Close ∷ later))
           → Passing ws way s n later (stopped false (i .next) j) s₂ (hold l x y)
       go later x y c v v′ e h =
           let o = w .walked x (blockForms y (Close ∷ later)) e v (omega arith) in

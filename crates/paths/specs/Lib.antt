@@ -1,3 +1,3 @@
--- What the walk of a procedure writes down, the path that it finds, and the lock that a block wants first.
+-- What the walk of a procedure writes down, the path that it finds, and the claim that a block makes first.
 pub mod Walks
 pub mod Wanted

@@ -4,19 +4,36 @@ use mathlib.Core.Bool.{Bool, true, false}
 use mathlib.Core.List.{List, [], _∷_, _++_, List·Memᴰ}
 use mathlib.Core.Path.{_≡_}
 use lib.ListN.{length, take, drop}
-use Rattle.limits.specs.Limits.{maskSize, maxSize}
+use Rattle.limits.specs.Limits.{maxSize}
 use Rattle.text.specs.declared.Form.{Form}
-use Rattle.text.specs.declared.Form.the-variants.{Close}
+use Rattle.text.specs.declared.Form.the-variants.{Plan, Proc, Thread, Close, Skip, Call, Hold, Loop, Either, One, Two, Share}
+use Rattle.semantics.specs.Claims.{byShare, byHold}
 use Rattle.semantics.specs.Plan.{Block, Written, Ranks}
 use Rattle.semantics.specs.Sizes.{sizeWith, sizeAt, sizeOf}
 use Rattle.semantics.specs.Pairs.{pairs}
 use Rattle.semantics.specs.Paths.{Walked, found, passed, walkWith, walkAt, PathFound}
+use Rattle.columns.specs.Columns.{pairNumber}
 use Rattle.plan.specs.Grammar.{blockForms}
 use Rattle.plan.specs.Table.{tableForms}
 use Rattle.plan.specs.Settled.{tablePlan, PlanTable}
 use Rattle.plan.specs.Starts.{Starts}
 use Rattle.paths.specs.declared.Stop.{Stop}
 use Rattle.paths.specs.declared.Way.{Way}
+
+-- the claim of a hold or a share
+abbrev pub claimIn : Form → ℕ
+claimIn Plan = 0
+claimIn Proc = 0
+claimIn (Thread p) = 0
+claimIn Close = 0
+claimIn Skip = 0
+claimIn (Call p) = 0
+claimIn (Hold l) = byHold l
+claimIn Loop = 0
+claimIn Either = 0
+claimIn One = 0
+claimIn Two = 0
+claimIn (Share l) = byShare l
 
 -- the procedures of a plan's table
 abbrev pub procsIn : List ℕ → List Block
@@ -38,9 +55,13 @@ Inside ws b = Written (InPlan ws) b
 abbrev pub sizeIn : List ℕ → Way → Block → ℕ
 sizeIn ws way b = sizeWith (sizeAt (way .depth) (procsIn ws)) b
 
--- the walk of a block behind a path, as a way says: for its pair, with the locks of its mask
+-- the pair that a way looks for
+abbrev pub aimOf : Way → ℕ
+aimOf way = pairNumber (way .aim) (way .code)
+
+-- the walk of a block behind a path, as a way says: for its pair, with the claims of its mask
 abbrev pub walkIn : List ℕ → Way → List ℕ → Block → Walked
-walkIn ws way path b = walkWith (walkAt (way .depth) (procsIn ws) (way .pair)) (way .pair) (way .mask) path b
+walkIn ws way path b = walkWith (walkAt (way .depth) (procsIn ws) (aimOf way)) (aimOf way) (way .mask) path b
 
 -- A buffer that goes on from its first n entries to its first k: those n stay.
 pub record FrontKept (before : List ℕ) (n : ℕ) (after : List ℕ) (k : ℕ) : Type 0 where
@@ -55,11 +76,10 @@ pub record PutAt (before : List ℕ) (n e : ℕ) (k : ℕ) (after : List ℕ) : 
   pub one : k ≤ n + 1
   pub put : n < length before → take k after ≡ take n before ++ (e ∷ [])
 
--- what a walk asks: a plan's table with the places of its procedures, a mask of locks, and a place in the buffer
+-- what a walk asks: a plan's table with the places of its procedures, and a place in the buffer
 pub record WalkReady (ws starts : List ℕ) (way : Way) (steps : List ℕ) (n : ℕ) : Type 0 where
   pub plan : PlanTable ws
   pub begins : Starts ws starts
-  pub locks : way .mask < maskSize
   pub room : n ≤ length steps
 
 -- where a walk stopped

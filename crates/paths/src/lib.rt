@@ -3,16 +3,17 @@ ghost use mathlib.Core.Path.{_≡_};
 ghost use mathlib.Core.Bool.{false};
 ghost use Prim.Native.Nat.{_+_, _^_, _<_, _≤_};
 ghost use lib.ListN.{length, getD, take};
-ghost use Rattle.limits.specs.Limits.{lockCount, maskSize, maxSize};
-ghost use Rattle.text.specs.declared.Form.the-variants.{Call, Hold, Loop, Either};
+ghost use Rattle.limits.specs.Limits.{claimCount, maxSize};
+ghost use Rattle.text.specs.declared.Form.the-variants.{Call, Loop, Either};
+ghost use Rattle.plan.specs.Grammar.{claimForm};
+ghost use Rattle.columns.specs.Columns.{pairNumber, steps};
 ghost use Rattle.semantics.specs.Paths.{stepOf, gives, holding, put as putStep};
-ghost use Rattle.paths.specs.Walks.{stopped, PutAt, WalkReady, Walks, StatementWalks, PathAsked, PathWritten};
+ghost use Rattle.paths.specs.Walks.{claimIn, stopped, PutAt, WalkReady, Walks, StatementWalks, PathAsked, PathWritten};
 ghost use Rattle.paths.specs.Wanted.{FirstWantedAt};
-use limits::LOCK_COUNT;
+use limits::CLAIM_COUNT;
 use text::Form;
 
-// A form's number is a 16-bit one.
-const LOCKS: u16 = LOCK_COUNT as u16;
+const CLAIMS: u64 = CLAIM_COUNT as u64;
 
 // Where a walk stopped: at the hold that was looked for or not, the next place of the table, and how many steps are written.
 pub struct Stop {
@@ -21,52 +22,72 @@ pub struct Stop {
     pub count: usize,
 }
 
-// How a walk goes: how deep calls may go, the locks that are held, and the pair that is looked for.
+// Where a walk goes on: the place of the table, and how many steps are written.
+struct Spot {
+    next: usize,
+    count: usize,
+}
+
+// How a walk goes: how deep calls may go, what is had, and the mask and the code of the pair that is looked for.
 pub struct Way {
     pub depth: usize,
     pub mask: u64,
-    pub pair: u64,
+    pub aim: u64,
+    pub code: u32,
 }
 
-// The mask of one lock: none for a number that no lock has.
-fn mask_of(l: u16) -> u64
-    ensures { λ r. ⌜ (r < maskSize) × (l < lockCount → r ≡ 2 ^ l) ⌝ }
+// What a path leads to: the procedure, and the mask and the code of one of its pairs.
+pub struct Goal {
+    pub procedure: usize,
+    pub aim: u64,
+    pub code: u32,
+}
+
+// The mask of one claim: none for a number that no claim has.
+fn mask_of(claim: u64) -> u64
+    ensures { λ r. ⌜ (claim < claimCount → r ≡ 2 ^ claim) ⌝ }
 {
-    if l < LOCKS {
-        return locks::lock_bit(l as u64);
+    if claim < CLAIMS {
+        return locks::claim_bit(claim);
     }
     0
 }
 
-// The locks of a mask, and l.
-fn with_lock(mask: u64, l: u16) -> u64
-    requires { ⌜ mask < maskSize ⌝ }
-    ensures { λ r. ⌜ (r < maskSize) × (l < lockCount → r ≡ holding mask l) ⌝ }
+// The claims of a mask, and one more.
+fn with_claim(mask: u64, claim: u64) -> u64
+    ensures { λ r. ⌜ (claim < claimCount → r ≡ holding mask claim) ⌝ }
 {
-    mask | mask_of(l)
+    mask | mask_of(claim)
 }
 
-// Whether a hold of l that is begun with the locks of a mask gives the pair.
-fn gives_pair(mask: u64, l: u16, pair: u64) -> bool
-    requires { ⌜ mask < maskSize ⌝ }
-    ensures { λ r. ⌜ (l < lockCount → r ≡ gives pair mask l) ⌝ }
+// Whether a claim that is made with those of a mask gives the pair that is looked for.
+fn gives_pair(mask: u64, claim: u64, aim: u64, code: u32) -> bool
+    ensures { λ r. ⌜ (claim < claimCount → r ≡ gives (pairNumber aim code) mask claim) ⌝ }
 {
-    if mask & mask_of(l) != 0 {
+    if CLAIMS <= claim {
         return false;
     }
-    locks::pair_of(mask, l as u64) == pair
+    let fresh = locks::fresh_in(mask, claim);
+    if fresh {
+        return columns::is_same(mask, columns::code_of(claim), aim, code);
+    }
+    false
 }
 
-// One step more, with the mask after it, where the buffer has room.
-fn put(steps: &mut [u64], n: usize, choice: u64, mask: u64) -> usize
-    requires { ⌜ (n ≤ length (now steps)) × (choice < 4) × (mask < maskSize) ⌝ }
-    ensures { λ r. ⌜ PutAt (now (steps .entry)) n (stepOf choice mask) r (now (steps .exit)) ⌝ }
+// One step more, with the mask after it, where both columns have room.
+fn put(choices: &mut [u8], masks: &mut [u64], n: usize, choice: u8, mask: u64) -> usize
+    requires { ⌜ (n ≤ length (steps (now choices) (now masks))) × (choice < 4) ⌝ }
+    ensures { λ r. ⌜ PutAt (steps (now (choices .entry)) (now (masks .entry))) n (stepOf choice mask) r (steps (now (choices .exit)) (now (masks .exit))) ⌝ }
 {
-    if n < steps.len() {
-        steps[n] = locks::step_of(choice, mask);
-        return n + 1;
+    if choices.len() <= n {
+        return n;
     }
-    n
+    if masks.len() <= n {
+        return n;
+    }
+    choices[n] = choice;
+    masks[n] = mask;
+    n + 1
 }
 
 // The place behind a place, within the table.
@@ -101,20 +122,29 @@ fn passed(next: usize, count: usize) -> Stop
     }
 }
 
-// The walk of the block at a place, along its statements, up to the hold that gives the pair, or to the block's end.
-fn walk(table: &[u64], starts: &[u64], way: Way, at: usize, steps: &mut [u64], n: usize) -> Stop
-    requires { ⌜ WalkReady (now table) (now starts) way (now steps) n ⌝ }
-    ensures { λ r. ⌜ Walks (now (table .entry)) way at (now (steps .entry)) n (take n (now (steps .entry))) n r (now (steps .exit)) ⌝ }
+// The walk of the block at a spot, along its statements, up to the hold or share that gives the pair, or to the block's end.
+fn walk(
+    table: &[u64],
+    starts: &[u64],
+    way: Way,
+    from: Spot,
+    choices: &mut [u8],
+    masks: &mut [u64],
+) -> Stop
+    requires { ⌜ WalkReady (now table) (now starts) way (steps (now choices) (now masks)) (from .count) ⌝ }
+    ensures { λ r. ⌜ Walks (now (table .entry)) way (from .next) (steps (now (choices .entry)) (now (masks .entry))) (from .count)
+        (take (from .count) (steps (now (choices .entry)) (now (masks .entry)))) (from .count) r (steps (now (choices .exit)) (now (masks .exit))) ⌝ }
 {
-    let mut i = at;
-    let mut count = n;
+    let mut i = from.next;
+    let mut count = from.count;
     while i < table.len() {
         let form = plan::form_at(table[i]);
         i += 1;
         if let Form::Close = form {
             return passed(i, count);
         }
-        let stop = walk_statement(table, starts, way, i, form, steps, count);
+        let here = Spot { next: i, count };
+        let stop = walk_statement(table, starts, way, here, form, choices, masks);
         if stop.reached {
             return stop;
         }
@@ -124,44 +154,62 @@ fn walk(table: &[u64], starts: &[u64], way: Way, at: usize, steps: &mut [u64], n
     passed(i, count)
 }
 
-// A step with this choice, and the walk of the block at a place behind it.
+// A step with this choice, and the walk of the block at a spot behind it.
 fn enter(
     table: &[u64],
     starts: &[u64],
     way: Way,
-    at: usize,
-    choice: u64,
-    steps: &mut [u64],
-    n: usize,
+    from: Spot,
+    choice: u8,
+    choices: &mut [u8],
+    masks: &mut [u64],
 ) -> Stop
-    requires { ⌜ WalkReady (now table) (now starts) way (now steps) n × (choice < 4) ⌝ }
-    ensures { λ r. ⌜ Walks (now (table .entry)) way at (now (steps .entry)) n
-        (putStep (take n (now (steps .entry))) choice (way .mask)) (n + 1) r (now (steps .exit)) ⌝ }
+    requires { ⌜ WalkReady (now table) (now starts) way (steps (now choices) (now masks)) (from .count) × (choice < 4) ⌝ }
+    ensures { λ r. ⌜ Walks (now (table .entry)) way (from .next) (steps (now (choices .entry)) (now (masks .entry))) (from .count)
+        (putStep (take (from .count) (steps (now (choices .entry)) (now (masks .entry)))) choice (way .mask)) (from .count + 1) r (steps (now (choices .exit)) (now (masks .exit))) ⌝ }
 {
-    let k = put(steps, n, choice, way.mask);
-    walk(table, starts, way, at, steps, k)
+    let count = put(choices, masks, from.count, choice, way.mask);
+    let inside = Spot {
+        next: from.next,
+        count,
+    };
+    walk(table, starts, way, inside, choices, masks)
 }
 
-// One statement: that of a form, with its other forms from a place on.
+// The claim of a hold or a share.
+fn claim_of(form: Form) -> u64
+    ensures { λ r. ⌜ r ≡ claimIn form ⌝ }
+{
+    match form {
+        Form::Hold(l) => locks::by_hold(l),
+        Form::Share(l) => locks::by_share(l),
+        _ => 0,
+    }
+}
+
+// One statement: that of a form, with its other forms from a spot on.
 fn walk_statement(
     table: &[u64],
     starts: &[u64],
     way: Way,
-    at: usize,
+    from: Spot,
     form: Form,
-    steps: &mut [u64],
-    n: usize,
+    choices: &mut [u8],
+    masks: &mut [u64],
 ) -> Stop
-    requires { ⌜ WalkReady (now table) (now starts) way (now steps) n ⌝ }
-    ensures { λ r. ⌜ StatementWalks (now (table .entry)) way form at (now (steps .entry)) n r (now (steps .exit)) ⌝ }
+    requires { ⌜ WalkReady (now table) (now starts) way (steps (now choices) (now masks)) (from .count) ⌝ }
+    ensures { λ r. ⌜ StatementWalks (now (table .entry)) way form (from .next) (steps (now (choices .entry)) (now (masks .entry))) (from .count) r
+        (steps (now (choices .exit)) (now (masks .exit))) ⌝ }
 {
     match form {
-        Form::Skip => passed(at, put(steps, n, 0, way.mask)),
-        Form::Call(p) => walk_call(table, starts, way, at, p, steps, n),
-        Form::Hold(l) => walk_hold(table, starts, way, at, l, steps, n),
-        Form::Loop => walk_loop(table, starts, way, at, steps, n),
-        Form::Either => walk_either(table, starts, way, at, steps, n),
-        _ => passed(at, n),
+        Form::Skip => passed(from.next, put(choices, masks, from.count, 0, way.mask)),
+        Form::Call(p) => walk_call(table, starts, way, from, p, choices, masks),
+        Form::Hold(_) | Form::Share(_) => {
+            walk_hold(table, starts, way, from, claim_of(form), choices, masks)
+        }
+        Form::Loop => walk_loop(table, starts, way, from, choices, masks),
+        Form::Either => walk_either(table, starts, way, from, choices, masks),
+        _ => passed(from.next, from.count),
     }
 }
 
@@ -170,60 +218,68 @@ fn walk_call(
     table: &[u64],
     starts: &[u64],
     way: Way,
-    at: usize,
+    from: Spot,
     p: u16,
-    steps: &mut [u64],
-    n: usize,
+    choices: &mut [u8],
+    masks: &mut [u64],
 ) -> Stop
-    requires { ⌜ WalkReady (now table) (now starts) way (now steps) n ⌝ }
-    ensures { λ r. ⌜ StatementWalks (now (table .entry)) way (Call p) at (now (steps .entry)) n r (now (steps .exit)) ⌝ }
+    requires { ⌜ WalkReady (now table) (now starts) way (steps (now choices) (now masks)) (from .count) ⌝ }
+    ensures { λ r. ⌜ StatementWalks (now (table .entry)) way (Call p) (from .next) (steps (now (choices .entry)) (now (masks .entry))) (from .count) r
+        (steps (now (choices .exit)) (now (masks .exit))) ⌝ }
 {
     if way.depth == 0 {
-        return passed(at, put(steps, n, 0, way.mask));
+        return passed(from.next, put(choices, masks, from.count, 0, way.mask));
     }
     let deeper = Way {
         depth: way.depth - 1,
         mask: way.mask,
-        pair: way.pair,
+        aim: way.aim,
+        code: way.code,
     };
-    let inside = enter(table, starts, deeper, start_of(starts, p), 0, steps, n);
+    let begin = Spot {
+        next: start_of(starts, p),
+        count: from.count,
+    };
+    let inside = enter(table, starts, deeper, begin, 0, choices, masks);
     Stop {
         reached: inside.reached,
-        next: at,
+        next: from.next,
         count: inside.count,
     }
 }
 
-// A hold of l, unless it gives the pair.
+// A hold or a share, with its claim, unless it gives the pair.
 fn walk_hold(
     table: &[u64],
     starts: &[u64],
     way: Way,
-    at: usize,
-    l: u16,
-    steps: &mut [u64],
-    n: usize,
+    from: Spot,
+    claim: u64,
+    choices: &mut [u8],
+    masks: &mut [u64],
 ) -> Stop
-    requires { ⌜ WalkReady (now table) (now starts) way (now steps) n ⌝ }
-    ensures { λ r. ⌜ StatementWalks (now (table .entry)) way (Hold l) at (now (steps .entry)) n r (now (steps .exit)) ⌝ }
+    requires { ⌜ WalkReady (now table) (now starts) way (steps (now choices) (now masks)) (from .count) ⌝ }
+    ensures { λ r. ⌜ StatementWalks (now (table .entry)) way (claimForm claim) (from .next) (steps (now (choices .entry)) (now (masks .entry))) (from .count) r
+        (steps (now (choices .exit)) (now (masks .exit))) ⌝ }
 {
-    if gives_pair(way.mask, l, way.pair) {
+    if gives_pair(way.mask, claim, way.aim, way.code) {
         return Stop {
             reached: true,
-            next: at,
-            count: n,
+            next: from.next,
+            count: from.count,
         };
     }
     let held = Way {
         depth: way.depth,
-        mask: with_lock(way.mask, l),
-        pair: way.pair,
+        mask: with_claim(way.mask, claim),
+        aim: way.aim,
+        code: way.code,
     };
-    let inside = enter(table, starts, held, at, 0, steps, n);
+    let inside = enter(table, starts, held, from, 0, choices, masks);
     if inside.reached {
         return inside;
     }
-    let j = put(steps, inside.count, 0, way.mask);
+    let j = put(choices, masks, inside.count, 0, way.mask);
     passed(inside.next, j)
 }
 
@@ -232,18 +288,19 @@ fn walk_loop(
     table: &[u64],
     starts: &[u64],
     way: Way,
-    at: usize,
-    steps: &mut [u64],
-    n: usize,
+    from: Spot,
+    choices: &mut [u8],
+    masks: &mut [u64],
 ) -> Stop
-    requires { ⌜ WalkReady (now table) (now starts) way (now steps) n ⌝ }
-    ensures { λ r. ⌜ StatementWalks (now (table .entry)) way Loop at (now (steps .entry)) n r (now (steps .exit)) ⌝ }
+    requires { ⌜ WalkReady (now table) (now starts) way (steps (now choices) (now masks)) (from .count) ⌝ }
+    ensures { λ r. ⌜ StatementWalks (now (table .entry)) way Loop (from .next) (steps (now (choices .entry)) (now (masks .entry))) (from .count) r
+        (steps (now (choices .exit)) (now (masks .exit))) ⌝ }
 {
-    let inside = enter(table, starts, way, at, 1, steps, n);
+    let inside = enter(table, starts, way, from, 1, choices, masks);
     if inside.reached {
         return inside;
     }
-    let j = put(steps, n, 2, way.mask);
+    let j = put(choices, masks, from.count, 2, way.mask);
     passed(inside.next, j)
 }
 
@@ -252,18 +309,27 @@ fn walk_either(
     table: &[u64],
     starts: &[u64],
     way: Way,
-    at: usize,
-    steps: &mut [u64],
-    n: usize,
+    from: Spot,
+    choices: &mut [u8],
+    masks: &mut [u64],
 ) -> Stop
-    requires { ⌜ WalkReady (now table) (now starts) way (now steps) n ⌝ }
-    ensures { λ r. ⌜ StatementWalks (now (table .entry)) way Either at (now (steps .entry)) n r (now (steps .exit)) ⌝ }
+    requires { ⌜ WalkReady (now table) (now starts) way (steps (now choices) (now masks)) (from .count) ⌝ }
+    ensures { λ r. ⌜ StatementWalks (now (table .entry)) way Either (from .next) (steps (now (choices .entry)) (now (masks .entry))) (from .count) r
+        (steps (now (choices .exit)) (now (masks .exit))) ⌝ }
 {
-    let one = enter(table, starts, way, after(table, at), 1, steps, n);
+    let first = Spot {
+        next: after(table, from.next),
+        count: from.count,
+    };
+    let one = enter(table, starts, way, first, 1, choices, masks);
     if one.reached {
         return one;
     }
-    let two = enter(table, starts, way, after(table, one.next), 2, steps, n);
+    let second = Spot {
+        next: after(table, one.next),
+        count: from.count,
+    };
+    let two = enter(table, starts, way, second, 2, choices, masks);
     Stop {
         reached: two.reached,
         next: after(table, two.next),
@@ -271,30 +337,36 @@ fn walk_either(
     }
 }
 
-// The path to the hold of procedure p that gives the pair, into the start of `steps`: each step is its choice plus 4 times the mask after it. What stands
-// behind the path is left open.
+// The path to the hold or share of the goal's procedure that gives its pair, into the start of the columns: each step is its choice and the mask after it. What stands behind the
+// path is left open.
 pub fn path_to(
     table: &[u64],
     starts: &[u64],
     procs: usize,
-    p: usize,
-    pair: u64,
-    steps: &mut [u64],
+    goal: Goal,
+    choices: &mut [u8],
+    masks: &mut [u64],
 ) -> usize
-    requires { ⌜ PathAsked (now table) (now starts) procs p pair × (maxSize ≤ length (now steps)) ⌝ }
-    ensures { λ r. ⌜ PathWritten (now (table .entry)) p pair r (now (steps .exit)) ⌝ }
+    requires { ⌜ PathAsked (now table) (now starts) procs (goal .procedure) (pairNumber (goal .aim) (goal .code)) × (maxSize ≤ length (steps (now choices) (now masks))) ⌝ }
+    ensures { λ r. ⌜ PathWritten (now (table .entry)) (goal .procedure) (pairNumber (goal .aim) (goal .code)) r (steps (now (choices .exit)) (now (masks .exit))) ⌝ }
 {
+    let p = goal.procedure;
     let start = starts[p] as usize;
     let way = Way {
         depth: procs - 1,
         mask: 0,
-        pair,
+        aim: goal.aim,
+        code: goal.code,
     };
-    let stop = walk(table, starts, way, start, steps, 0);
+    let from = Spot {
+        next: start,
+        count: 0,
+    };
+    let stop = walk(table, starts, way, from, choices, masks);
     stop.count
 }
 
-// The lock that the block at a place begins with a hold of, as a mask: none where it begins with something else.
+// The claim that the block at a place begins with, as a mask: none where it begins with neither a hold nor a share.
 pub fn first_hold(table: &[u64], start: usize) -> u64
     ensures { λ r. ⌜ FirstWantedAt (now (table .entry)) start r ⌝ }
 {
@@ -302,8 +374,9 @@ pub fn first_hold(table: &[u64], start: usize) -> u64
         return 0;
     }
     let form = plan::form_at(table[start]);
-    let Form::Hold(l) = form else {
-        return 0;
-    };
-    mask_of(l)
+    match form {
+        Form::Hold(l) => mask_of(locks::by_hold(l)),
+        Form::Share(l) => mask_of(locks::by_share(l)),
+        _ => 0,
+    }
 }

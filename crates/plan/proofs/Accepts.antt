@@ -15,7 +15,7 @@ use Rattle.plan.specs.Structure.{misplaced, misplacedForm}
 use Rattle.plan.proofs.Trees.{later-blocks}
 use Rattle.plan.proofs.States.{Bracket, statement, one, two, State, first-proc, next-proc, next-thread, in-block}
 use Rattle.plan.proofs.States.{modeOf, stackOf, misplacedFrom, after-step}
-use Rattle.plan.proofs.States.{Step, begins-plan, first, next, first-thread, more-threads, ends-plan, skips, calls, holds, loops, chooses}
+use Rattle.plan.proofs.States.{Step, begins-plan, first, next, first-thread, more-threads, ends-plan, skips, calls, takes, loops, chooses}
 use Rattle.plan.proofs.States.{begins-one, begins-two, ends-proc, ends-statement, ends-one, ends-two, ends-choice}
 
 -- no form is misplaced and the text does not end too early, whatever the number of the first form
@@ -32,8 +32,8 @@ accepts-block done true w ks fs h = h
 accepts-block done false w ks fs h = absurd w
 accepts-block (skip r) empty w ks fs h = accepts-step skips _ (accepts-block r true w ks fs h)
 accepts-block (call n r) empty w ks fs h = accepts-step calls _ (accepts-block r true w ks fs h)
-accepts-block (hold l b r) empty w ks fs h =
-    accepts-step holds _ (accepts-block b false (w .0) (statement ∷ ks) _ (accepts-step ends-statement _ (accepts-block r true (w .1) ks fs h)))
+accepts-block (hold a b r) empty w ks fs h =
+    accepts-step (takes a) _ (accepts-block b false (w .0) (statement ∷ ks) _ (accepts-step ends-statement _ (accepts-block r true (w .1) ks fs h)))
 accepts-block (loop b r) empty w ks fs h =
     accepts-step loops _ (accepts-block b false (w .0) (statement ∷ ks) _ (accepts-step ends-statement _ (accepts-block r true (w .1) ks fs h)))
 accepts-block (either a b r) empty w ks fs h =

@@ -10,16 +10,19 @@ use native.Mathlib.Omega.{arith}
 use native.Mathlib.Nat.{add-zero}
 use lib.ListN.{length, getD}
 use borrow.Author.Tests.{le-ltb, lt-leb}
-use Rattle.limits.specs.Limits.{maxProcs, maxStatements, maxThreads, maxBrackets}
+use Rattle.limits.specs.Limits.{maxProcs, maxStatements, maxThreads, maxBrackets, lockCount}
 use Rattle.laws.specs.Choice.{pick}
 use Rattle.text.specs.declared.Form.{Form}
-use Rattle.text.specs.declared.Form.the-variants.{Plan, Proc, Thread, Close, Skip, Call, Hold, Loop, Either, One, Two}
+use Rattle.text.specs.declared.Form.the-variants.{Plan, Proc, Thread, Close, Skip, Call, Hold, Loop, Either, One, Two, Share}
 use Rattle.semantics.specs.Plan.{Block, done, skip, call, hold, loop, either, end, LockPlan, bodyIn, Written}
+use Rattle.semantics.specs.Claims.{lockOf}
+use Rattle.semantics.proofs.Ground.Claims.{lock-lt}
 use Rattle.text.specs.Forms.{numberIn, kindIn}
 use Rattle.plan.specs.declared.Counts.{Counts}
-use Rattle.plan.specs.Grammar.{blockForms, procForms, threadForms, forms, Grammatical, planIn}
+use Rattle.plan.specs.Grammar.{claimForm, blockForms, procForms, threadForms, forms, Grammatical, planIn}
 use Rattle.plan.specs.Limits.{asCounts, counted, overLimit, pastLimitFrom, pastLimitForm, testedBy, leastBad, breaks, breaking, breakingForm, noCounts}
 use Rattle.plan.specs.Rules.{referencesRefusal, grammarRefusal}
+use Rattle.plan.proofs.ClaimForms.{by-claim}
 use Rattle.plan.proofs.Trees.{plan-of-forms}
 use Rattle.plan.proofs.Accepts.{forms-accepted}
 use Rattle.plan.proofs.Denotes.{accepted-denotes}
@@ -43,7 +46,17 @@ module _ (m n t : ℕ) (few-procs : n ≤ maxProcs) (few-threads : t ≤ maxThre
   Passes b = (s o : ℕ) (fs : List Form) → s + statements b ≤ maxStatements → o + nesting b ≤ maxBrackets → Kept m (asCounts n (s + statements b) t o) fs
       → Kept m (asCounts n s t o) (blockForms b fs)
 
-  -- behind the form of a loop or a hold
+  -- the form of a claim, where it is within the limits and its lock below 32
+  claim-kept : (s o a : ℕ) (fs : List Form) → s + 1 ≤ maxStatements → o + 1 ≤ maxBrackets → lockOf a < lockCount → Kept m (asCounts n (s + 1) t (o + 1)) fs
+      → Kept m (asCounts n s t o) (claimForm a ∷ fs)
+  unfolding Kept counted breaks testedBy leastBad numberIn pick kindIn
+  claim-kept s o a fs x y b k =
+      let small : lockOf a ≤ 31 = omega arith in
+      by-claim (λ f. Kept m (asCounts n s t o) (f ∷ fs)) a
+      (keeps (Hold (lockOf a)) (s + 1) (o + 1) x y (le-ltb 31 (lockOf a) small) refl refl, k)
+      (keeps (Share (lockOf a)) (s + 1) (o + 1) x y (le-ltb 31 (lockOf a) small) refl refl, k)
+
+  -- behind the form of a loop, a hold or a share
   bracket-kept : (b r : Block) → Passes b → Passes r → (s o : ℕ) (fs : List Form) → s + statements (loop b r) ≤ maxStatements → o + nesting (loop b r) ≤ maxBrackets
       → Kept m (asCounts n (s + statements (loop b r)) t o) fs → Kept m (asCounts n (s + 1) t (o + 1)) (blockForms b (Close ∷ blockForms r fs))
   unfolding Kept statements nesting counted breaks testedBy leastBad numberIn pick kindIn
@@ -66,11 +79,9 @@ module _ (m n t : ℕ) (few-procs : n ≤ maxProcs) (few-threads : t ≤ maxThre
     keeps (Call p) (s + 1) o (omega arith) (omega arith) refl (lt-leb m p (w .0)) refl,
     block-kept r (w .1) (s + 1) o fs (omega arith) d (recount m n t (s + (1 + statements r)) (s + 1 + statements r) o o fs (omega arith) refl k),
   )
-  block-kept (hold l b r) w s o fs h d k =
-      let small : l ≤ 31 = omega (arith, w .0) in (
-        keeps (Hold l) (s + 1) (o + 1) (omega arith) (omega arith) (le-ltb 31 l small) refl refl,
-        bracket-kept b r (block-kept b (w .1)) (block-kept r (w .2)) s o fs h d k,
-      )
+  block-kept (hold a b r) w s o fs h d k =
+      claim-kept s o a (blockForms b (Close ∷ blockForms r fs)) (omega arith) (omega arith) (lock-lt a (w .0))
+      (bracket-kept b r (block-kept b (w .1)) (block-kept r (w .2)) s o fs h d k)
   block-kept (loop b r) w s o fs h d k = (
     keeps Loop (s + 1) (o + 1) (omega arith) (omega arith) refl refl refl,
     bracket-kept b r (block-kept b (w .0)) (block-kept r (w .1)) s o fs h d k,

@@ -3,7 +3,7 @@ use Prim.Native.Nat.{ℕ, _+_, _*_, _%_, _<_}
 use mathlib.Core.Path.{_≡_, refl}
 use native.Mathlib.Omega.{arith}
 use Rattle.text.specs.declared.Form.{Form}
-use Rattle.text.specs.declared.Form.the-variants.{Plan, Proc, Thread, Close, Skip, Call, Hold, Loop, Either, One, Two}
+use Rattle.text.specs.declared.Form.the-variants.{Plan, Proc, Thread, Close, Skip, Call, Hold, Loop, Either, One, Two, Share}
 use Rattle.text.specs.Forms.{numberIn}
 use Rattle.plan.specs.Table.{codeOf, numberAt, formAt}
 
@@ -27,3 +27,4 @@ form-of-code Loop h = refl
 form-of-code Either h = refl
 form-of-code One h = refl
 form-of-code Two h = refl
+form-of-code (Share l) h = rw (kind-at 11 l (omega arith), number-at 11 l (omega arith) h)

@@ -10,13 +10,17 @@ use Rattle.text.specs.Forms.{kindIn, isProc}
 use Rattle.semantics.specs.Plan.{Block, done, skip, call, hold, loop, either, end, LockPlan}
 use Rattle.plan.specs.Grammar.{blockForms, procForms, threadForms, forms}
 use Rattle.plan.specs.Limits.{countIf}
+use Rattle.plan.proofs.ClaimForms.{by-claim}
 
 count-block : (b : Block) (fs : List Form) → countIf isProc (blockForms b fs) ≡ countIf isProc fs
 unfolding countIf kindIn blockForms
 count-block done fs = refl
 count-block (skip r) fs = omega (arith, count-block r fs)
 count-block (call n r) fs = omega (arith, count-block r fs)
-count-block (hold l b r) fs = omega (arith, count-block b (Close ∷ blockForms r fs), count-block r fs)
+count-block (hold a b r) fs =
+    let gs = blockForms b (Close ∷ blockForms r fs) in
+    let e : countIf isProc gs ≡ countIf isProc fs = omega (arith, count-block b (Close ∷ blockForms r fs), count-block r fs) in
+    by-claim (λ f. countIf isProc (f ∷ gs) ≡ countIf isProc fs) a (omega arith) (omega arith)
 count-block (loop b r) fs = omega (arith, count-block b (Close ∷ blockForms r fs), count-block r fs)
 count-block (either a b r) fs =
     let gs = blockForms r fs in

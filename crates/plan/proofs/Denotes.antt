@@ -5,20 +5,22 @@ use mathlib.Core.Bool.{Bool, true, false}
 use mathlib.Core.List.{List, [], _∷_}
 use mathlib.Core.Logic.{⊎-elim, _↔_}
 use mathlib.Core.Option.{none, some, Option·some-ne-none}
-use mathlib.Core.Path.{_≡_, refl, ap, sym, _∙_}
+use mathlib.Core.Path.{_≡_, refl, ap, sym, subst, _∙_}
 use native.Mathlib.Omega.{arith}
 use lib.ListN.{length}
 use Rattle.text.specs.declared.Form.{Form}
-use Rattle.text.specs.declared.Form.the-variants.{Plan, Proc, Thread, Close, Skip, Call, Hold, Loop, Either, One, Two}
+use Rattle.text.specs.declared.Form.the-variants.{Plan, Proc, Thread, Close, Skip, Call, Hold, Loop, Either, One, Two, Share}
 use Rattle.semantics.specs.Plan.{Block, done, skip, call, hold, loop, either, LockPlan, bodyIn, WellFormed}
-use Rattle.plan.specs.Grammar.{blockForms, procForms, threadForms, forms, Grammatical, planIn}
+use Rattle.plan.specs.Grammar.{claimForm, blockForms, procForms, threadForms, forms, Grammatical, planIn}
 use Rattle.plan.specs.Structure.{misplaced, misplacedForm}
 use Rattle.plan.specs.Places.{IsPlan}
+use Rattle.semantics.specs.Claims.{byShare, byHold}
+use Rattle.plan.proofs.ClaimForms.{hold-form, share-form}
 use Rattle.plan.proofs.Trees.{plan-of-forms}
 use Rattle.plan.proofs.States.{Bracket, statement, one, two}
 use Rattle.plan.proofs.States.{State, initial, first-proc, next-proc, next-thread, finished, in-block, needs-one, needs-two, ends-either}
 use Rattle.plan.proofs.States.{modeOf, stackOf, misplacedFrom, after-step, step-or-refused}
-use Rattle.plan.proofs.States.{Step, begins-plan, first, next, first-thread, more-threads, ends-plan, skips, calls, holds, loops, chooses}
+use Rattle.plan.proofs.States.{Step, begins-plan, first, next, first-thread, more-threads, ends-plan, skips, calls, holds, shares, loops, chooses}
 use Rattle.plan.proofs.States.{begins-one, begins-two, ends-proc, ends-statement, ends-one, ends-two, ends-choice}
 use Rattle.plan.proofs.Accepts.{forms-accepted}
 
@@ -81,17 +83,23 @@ module _ (K : List Form → Type 0) (fs : List Form) where
     unfolding blockForms WellFormed
     call-front n w = record { block = call n (w .block); well = w .well; later = w .later; split = ap (λ l. Call n ∷ l) (w .split); goes-on = w .goes-on }
 
-    hold-front : (l : ℕ) → BlockThen false (BlockThen true K) fs → BlockThen empty K (Hold l ∷ fs)
+    claim-front : (a : ℕ) → BlockThen false (BlockThen true K) fs → BlockThen empty K (claimForm a ∷ fs)
     unfolding blockForms WellFormed
-    hold-front l w =
+    claim-front a w =
         let r = w .goes-on in
         record {
-          block = hold l (w .block) (r .block);
+          block = hold a (w .block) (r .block);
           well = (w .well, r .well);
           later = r .later;
-          split = ap (λ x. Hold l ∷ x) (w .split ∙ ap (λ x. blockForms (w .block) (Close ∷ x)) (r .split));
+          split = ap (λ x. claimForm a ∷ x) (w .split ∙ ap (λ x. blockForms (w .block) (Close ∷ x)) (r .split));
           goes-on = r .goes-on;
         }
+
+    hold-front : (l : ℕ) → BlockThen false (BlockThen true K) fs → BlockThen empty K (Hold l ∷ fs)
+    hold-front l w = subst (λ f. BlockThen empty K (f ∷ fs)) (hold-form l) (claim-front (byHold l) w)
+
+    share-front : (l : ℕ) → BlockThen false (BlockThen true K) fs → BlockThen empty K (Share l ∷ fs)
+    share-front l w = subst (λ f. BlockThen empty K (f ∷ fs)) (share-form l) (claim-front (byShare l) w)
 
     loop-front : BlockThen false (BlockThen true K) fs → BlockThen empty K (Loop ∷ fs)
     unfolding blockForms WellFormed
@@ -156,6 +164,7 @@ rest-step ends-plan fs r = ([], ap (λ x. Close ∷ x) r)
 rest-step (skips {e} {ks}) fs r = skip-front (AfterBlock ks) fs e r
 rest-step (calls {e} {ks} {n}) fs r = call-front (AfterBlock ks) fs e n r
 rest-step (holds {e} {ks} {l}) fs r = hold-front (AfterBlock ks) fs e l r
+rest-step (shares {e} {ks} {l}) fs r = share-front (AfterBlock ks) fs e l r
 rest-step (loops {e} {ks}) fs r = loop-front (AfterBlock ks) fs e r
 rest-step (chooses {e} {ks}) fs r = either-front (AfterBlock ks) fs e r
 rest-step (begins-one {ks}) fs r = follows (BlockThen false (AfterBlock (one ∷ ks))) fs One r

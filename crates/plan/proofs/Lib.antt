@@ -1,4 +1,5 @@
 -- The tree of a plan and its forms.
+pub mod ClaimForms
 pub mod Trees
 -- The machine of rule 4.
 pub mod States
@@ -18,6 +19,8 @@ pub mod WithinSize
 pub mod Codes
 pub mod Filling
 pub mod AcceptedTable
+-- Texts without share keep their answers.
+pub mod WithoutShares
 -- Rule 14, of two threads.
 pub mod TwoThreads
 -- The laws that the proofs of the functions cite.

@@ -55,9 +55,13 @@ module _ (f : Form) where
   unfolding advanceOf
   advance-plain mode top r h e = e ∙ sym (match-arm (advanceOf mode top) (among 5 6 mode (Stay 6)) (4 ∷ 5 ∷ []) f h refl)
 
-  pub advance-bracket : (mode top : ℕ) (r : Advance) → OneOf (6 ∷ 7 ∷ []) (tagOf the-type f) → r ≡ among 5 6 mode (Push 0) → r ≡ advanceOf mode top f
+  pub advance-bracket : (mode top : ℕ) (r : Advance) → OneOf (6 ∷ 7 ∷ 11 ∷ []) (tagOf the-type f) → r ≡ among 5 6 mode (Push 0) → r ≡ advanceOf mode top f
   unfolding advanceOf
-  advance-bracket mode top r h e = e ∙ sym (match-arm (advanceOf mode top) (among 5 6 mode (Push 0)) (6 ∷ 7 ∷ []) f h refl)
+  advance-bracket mode top r h e = e ∙ sym (match-arm (advanceOf mode top) (among 5 6 mode (Push 0)) (6 ∷ 7 ∷ 11 ∷ []) f h refl)
+
+  pub rule-lock : (r : ℕ) → OneOf (6 ∷ 11 ∷ []) (tagOf the-type f) → r ≡ 6 → r ≡ testedBy f
+  unfolding testedBy kindIn
+  rule-lock r h e = e ∙ sym (match-arm testedBy 6 (6 ∷ 11 ∷ []) f h refl)
 
   pub rule-rest : (r : ℕ) → OneOf (0 ∷ 1 ∷ 3 ∷ 4 ∷ 7 ∷ 8 ∷ 9 ∷ 10 ∷ []) (tagOf the-type f) → r ≡ 0 → r ≡ testedBy f
   unfolding testedBy kindIn
@@ -71,7 +75,7 @@ module _ (f : Form) where
   unfolding kindIn
   depth-close d r e h = rw (e, h)
 
-  pub depth-rest : (d r : ℕ) (q : Bool) → OneOf (0 ∷ 1 ∷ 2 ∷ 4 ∷ 5 ∷ 6 ∷ 7 ∷ 8 ∷ 9 ∷ 10 ∷ []) (tagOf the-type f) → q ≡ isBracket f → r ≡ addIf q d → r ≡ depthAfter f d
+  pub depth-rest : (d r : ℕ) (q : Bool) → OneOf (0 ∷ 1 ∷ 2 ∷ 4 ∷ 5 ∷ 6 ∷ 7 ∷ 8 ∷ 9 ∷ 10 ∷ 11 ∷ []) (tagOf the-type f) → q ≡ isBracket f → r ≡ addIf q d → r ≡ depthAfter f d
   depth-rest d r q h e k = rw (sym (kind-rest (Close ∷ []) f false h refl refl), k, e)
 
 pub counts-more : (c : Counts) (f : Form) (p s t d : ℕ) (isP isS isT : Bool) → isP ≡ isProc f → isS ≡ isStatement f → isT ≡ isThread f

@@ -9,16 +9,19 @@ use native.Mathlib.Omega.{arith}
 use native.Mathlib.Nat.{add-zero}
 use lib.ListN.{length, getD}
 use borrow.Author.Tests.{ltb-false, leb-false}
-use Rattle.limits.specs.Limits.{maxProcs, maxStatements, maxThreads, maxBrackets}
+use Rattle.limits.specs.Limits.{maxProcs, maxStatements, maxThreads, maxBrackets, lockCount}
 use Rattle.text.specs.declared.Form.{Form}
 use Rattle.text.specs.declared.Form.the-variants.{Close, Two}
 use Rattle.semantics.specs.Plan.{Block, done, skip, call, hold, loop, either, end, LockPlan, bodyIn, WellFormed, Written}
-use Rattle.plan.specs.Grammar.{blockForms, procForms, threadForms, forms, Grammatical, planIn}
+use Rattle.plan.specs.Grammar.{claimForm, blockForms, procForms, threadForms, forms, Grammatical, planIn}
 use Rattle.laws.specs.Choice.{pick}
 use Rattle.text.specs.Forms.{numberIn, kindIn, isProc}
 use Rattle.plan.specs.Limits.{asCounts, counted, testedBy, leastBad, breaks, countIf, noCounts}
 use Rattle.plan.specs.Settled.{statements, allStatements, nesting, Settled}
 use Rattle.plan.specs.Rules.{grammarRefusal}
+use Rattle.semantics.specs.Claims.{lockOf}
+use Rattle.semantics.proofs.Ground.Claims.{lt-claim}
+use Rattle.plan.proofs.ClaimForms.{by-claim}
 use Rattle.plan.proofs.Trees.{later-blocks}
 use Rattle.plan.proofs.Denotes.{accepted-denotes}
 use Rattle.plan.proofs.Counting.{count-forms}
@@ -46,7 +49,19 @@ module _ (m n t : ℕ) where
       let later = recount (s + 1 + statements r) (s + (1 + statements r)) o o fs (omega arith) refl (x .later) in
       record { written = x .written; nested = x .nested; later = later }
 
-  -- behind the form of a loop or a hold
+  -- the form of a claim: within the limits, with a lock below 32
+  abbrev Takes : ℕ → ℕ → ℕ → List Form → Type 0
+  Takes s o a fs = (o + 1 ≤ maxBrackets) × (lockOf a < lockCount) × Kept m (asCounts n (s + 1) t (o + 1)) fs
+
+  kept-claim : (s o a : ℕ) (fs : List Form) → Kept m (asCounts n s t o) (claimForm a ∷ fs) → Takes s o a fs
+  unfolding Kept counted breaks testedBy leastBad numberIn pick kindIn
+  kept-claim s o a fs =
+      let deeper = within-limits (asCounts n (s + 1) t (o + 1)) in
+      by-claim (λ f. Kept m (asCounts n s t o) (f ∷ fs) → Takes s o a fs) a
+      (λ k. (deeper (k .0 .limits) .depth, omega (arith, ltb-false 31 (lockOf a) (k .0 .lock)), k .1))
+      (λ k. (deeper (k .0 .limits) .depth, omega (arith, ltb-false 31 (lockOf a) (k .0 .lock)), k .1))
+
+  -- behind the form of a loop, a hold or a share
   kept-bracket : (b r : Block) → Reads b → Reads r → (s o : ℕ) (fs : List Form) → o + 1 ≤ maxBrackets
       → Kept m (asCounts n (s + 1) t (o + 1)) (blockForms b (Close ∷ blockForms r fs)) → KeptBlock s o (loop b r) fs
   unfolding Kept Written statements nesting counted kindIn
@@ -85,10 +100,10 @@ module _ (m n t : ℕ) where
   kept-block (call p r) empty w s o fs h k =
       let x = kept-simple r (kept-block r true w) s o fs h (k .1) in
       record { written = (leb-false m p (k .0 .callee), x .written); nested = x .nested; later = x .later }
-  kept-block (hold l b r) empty w s o fs h k =
-      let deeper = within-limits (asCounts n (s + 1) t (o + 1)) (k .0 .limits) .depth in
-      let x = kept-bracket b r (kept-block b false (w .0)) (kept-block r true (w .1)) s o fs deeper (k .1) in
-      record { written = (omega (arith, ltb-false 31 l (k .0 .lock)), x .written .0, x .written .1); nested = x .nested; later = x .later }
+  kept-block (hold a b r) empty w s o fs h k =
+      let y = kept-claim s o a (blockForms b (Close ∷ blockForms r fs)) k in
+      let x = kept-bracket b r (kept-block b false (w .0)) (kept-block r true (w .1)) s o fs (y .0) (y .2) in
+      record { written = (lt-claim a (y .1), x .written .0, x .written .1); nested = x .nested; later = x .later }
   kept-block (loop b r) empty w s o fs h k =
       let deeper = within-limits (asCounts n (s + 1) t (o + 1)) (k .0 .limits) .depth in
       kept-bracket b r (kept-block b false (w .0)) (kept-block r true (w .1)) s o fs deeper (k .1)

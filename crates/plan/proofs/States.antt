@@ -7,12 +7,14 @@ use mathlib.Core.Option.{Option, some}
 use mathlib.Core.Path.{_≡_, refl}
 use Rattle.laws.specs.Choice.{pick}
 use Rattle.text.specs.declared.Form.{Form}
-use Rattle.text.specs.declared.Form.the-variants.{Plan, Proc, Thread, Close, Skip, Call, Hold, Loop, Either, One, Two}
+use Rattle.text.specs.declared.Form.the-variants.{Plan, Proc, Thread, Close, Skip, Call, Hold, Loop, Either, One, Two, Share}
 use Rattle.plan.specs.declared.Advance.{Advance}
 use Rattle.plan.specs.declared.Advance.the-variants.{Misplaced}
 use Rattle.plan.specs.Structure.{atStart, firstProc, nextProc, nextThread, complete, firstStatement}
 use Rattle.plan.specs.Structure.{nextStatement, needsOne, needsTwo, endsEither, only, among}
 use Rattle.plan.specs.Structure.{ofStatement, ofOne, ofTwo, innermost, closeBlock, onClose, advanceOf, goOn, misplaced}
+use Rattle.plan.specs.Grammar.{claimForm}
+use Rattle.plan.proofs.ClaimForms.{by-claim}
 
 pub data Bracket : Type 0 where
   statement one two : Bracket
@@ -67,6 +69,7 @@ pub data Step : State → Form → State → Type 0 where
   skips : {e : Bool} {ks : List Bracket} → Step (in-block e ks) Skip (in-block true ks)
   calls : {e : Bool} {ks : List Bracket} {n : ℕ} → Step (in-block e ks) (Call n) (in-block true ks)
   holds : {e : Bool} {ks : List Bracket} {l : ℕ} → Step (in-block e ks) (Hold l) (in-block false (statement ∷ ks))
+  shares : {e : Bool} {ks : List Bracket} {l : ℕ} → Step (in-block e ks) (Share l) (in-block false (statement ∷ ks))
   loops : {e : Bool} {ks : List Bracket} → Step (in-block e ks) Loop (in-block false (statement ∷ ks))
   chooses : {e : Bool} {ks : List Bracket} → Step (in-block e ks) Either (needs-one ks)
   begins-one : {ks : List Bracket} → Step (needs-one ks) One (in-block false (one ∷ ks))
@@ -76,6 +79,10 @@ pub data Step : State → Form → State → Type 0 where
   ends-one : {ks : List Bracket} → Step (in-block true (one ∷ ks)) Close (needs-two ks)
   ends-two : {ks : List Bracket} → Step (in-block true (two ∷ ks)) Close (ends-either ks)
   ends-choice : {ks : List Bracket} → Step (ends-either ks) Close (in-block true ks)
+
+-- the form of a claim
+pub takes : {e : Bool} {ks : List Bracket} (a : ℕ) → Step (in-block e ks) (claimForm a) (in-block false (statement ∷ ks))
+takes {e} {ks} a = by-claim (λ f. Step (in-block e ks) f (in-block false (statement ∷ ks))) a holds shares
 
 pub after-step : {s t : State} {f : Form} → Step s f t → (number : ℕ) (fs : List Form) → misplacedFrom s number (f ∷ fs) ≡ misplacedFrom t (suc number) fs
 unfolding misplaced modeOf stackOf brackets advanceOf only among onClose closeBlock pick
@@ -91,6 +98,8 @@ after-step (calls {e = true}) number fs = refl
 after-step (calls {e = false}) number fs = refl
 after-step (holds {e = true}) number fs = refl
 after-step (holds {e = false}) number fs = refl
+after-step (shares {e = true}) number fs = refl
+after-step (shares {e = false}) number fs = refl
 after-step (loops {e = true}) number fs = refl
 after-step (loops {e = false}) number fs = refl
 after-step (chooses {e = true}) number fs = refl
@@ -109,18 +118,19 @@ data Outcome (s : State) (f : Form) : Advance → Type 0 where
   steps : {t : State} {a : Advance} → Step s f t → Outcome s f a
 
 by-form : (P : Form → Type 0) → P Plan → P Proc → ((n : ℕ) → P (Thread n)) → P Close → P Skip → ((n : ℕ) → P (Call n)) → ((l : ℕ) → P (Hold l))
-    → P Loop → P Either → P One → P Two → (f : Form) → P f
-by-form P a b c d e f g h i j k Plan = a
-by-form P a b c d e f g h i j k Proc = b
-by-form P a b c d e f g h i j k (Thread n) = c n
-by-form P a b c d e f g h i j k Close = d
-by-form P a b c d e f g h i j k Skip = e
-by-form P a b c d e f g h i j k (Call n) = f n
-by-form P a b c d e f g h i j k (Hold l) = g l
-by-form P a b c d e f g h i j k Loop = h
-by-form P a b c d e f g h i j k Either = i
-by-form P a b c d e f g h i j k One = j
-by-form P a b c d e f g h i j k Two = k
+    → P Loop → P Either → P One → P Two → ((l : ℕ) → P (Share l)) → (f : Form) → P f
+by-form P a b c d e f g h i j k m Plan = a
+by-form P a b c d e f g h i j k m Proc = b
+by-form P a b c d e f g h i j k m (Thread n) = c n
+by-form P a b c d e f g h i j k m Close = d
+by-form P a b c d e f g h i j k m Skip = e
+by-form P a b c d e f g h i j k m (Call n) = f n
+by-form P a b c d e f g h i j k m (Hold l) = g l
+by-form P a b c d e f g h i j k m Loop = h
+by-form P a b c d e f g h i j k m Either = i
+by-form P a b c d e f g h i j k m One = j
+by-form P a b c d e f g h i j k m Two = k
+by-form P a b c d e f g h i j k m (Share l) = m l
 
 abbrev Place : State → Form → Type 0
 Place s f = Outcome s f (advanceOf (modeOf s) (innermost (stackOf s)) f)
@@ -132,29 +142,29 @@ closing (statement ∷ ks) = steps ends-statement
 closing (one ∷ ks) = steps ends-one
 closing (two ∷ ks) = steps ends-two
 
--- The states by the forms: first the plan's, a procedure's, a thread's and a closing form; then skip, call, hold, loop, either, one, two.
+-- The states by the forms: first the plan's, a procedure's, a thread's and a closing form; then skip, call, hold, loop, either, one, two, share.
 place : (s : State) (f : Form) → Place s f
 unfolding modeOf stackOf brackets advanceOf only among onClose closeBlock pick
 place initial = by-form (Place initial) (steps begins-plan) refused (λ n. refused) refused
-    refused (λ n. refused) (λ l. refused) refused refused refused refused
+    refused (λ n. refused) (λ l. refused) refused refused refused refused (λ l. refused)
 place first-proc = by-form (Place first-proc) refused (steps first) (λ n. refused) refused
-    refused (λ n. refused) (λ l. refused) refused refused refused refused
+    refused (λ n. refused) (λ l. refused) refused refused refused refused (λ l. refused)
 place next-proc = by-form (Place next-proc) refused (steps next) (λ n. steps first-thread) refused
-    refused (λ n. refused) (λ l. refused) refused refused refused refused
+    refused (λ n. refused) (λ l. refused) refused refused refused refused (λ l. refused)
 place next-thread = by-form (Place next-thread) refused refused (λ n. steps more-threads) (steps ends-plan)
-    refused (λ n. refused) (λ l. refused) refused refused refused refused
+    refused (λ n. refused) (λ l. refused) refused refused refused refused (λ l. refused)
 place finished = by-form (Place finished) refused refused (λ n. refused) refused
-    refused (λ n. refused) (λ l. refused) refused refused refused refused
+    refused (λ n. refused) (λ l. refused) refused refused refused refused (λ l. refused)
 place (in-block false ks) = by-form (Place (in-block false ks)) refused refused (λ n. refused) refused
-    (steps skips) (λ n. steps calls) (λ l. steps holds) (steps loops) (steps chooses) refused refused
+    (steps skips) (λ n. steps calls) (λ l. steps holds) (steps loops) (steps chooses) refused refused (λ l. steps shares)
 place (in-block true ks) = by-form (Place (in-block true ks)) refused refused (λ n. refused) (closing ks)
-    (steps skips) (λ n. steps calls) (λ l. steps holds) (steps loops) (steps chooses) refused refused
+    (steps skips) (λ n. steps calls) (λ l. steps holds) (steps loops) (steps chooses) refused refused (λ l. steps shares)
 place (needs-one ks) = by-form (Place (needs-one ks)) refused refused (λ n. refused) refused
-    refused (λ n. refused) (λ l. refused) refused refused (steps begins-one) refused
+    refused (λ n. refused) (λ l. refused) refused refused (steps begins-one) refused (λ l. refused)
 place (needs-two ks) = by-form (Place (needs-two ks)) refused refused (λ n. refused) refused
-    refused (λ n. refused) (λ l. refused) refused refused refused (steps begins-two)
+    refused (λ n. refused) (λ l. refused) refused refused refused (steps begins-two) (λ l. refused)
 place (ends-either ks) = by-form (Place (ends-either ks)) refused refused (λ n. refused) (steps ends-choice)
-    refused (λ n. refused) (λ l. refused) refused refused refused refused
+    refused (λ n. refused) (λ l. refused) refused refused refused refused (λ l. refused)
 
 pub step-or-refused : (s : State) (f : Form) → ((t : State) × Step s f t) ⊎ ((number : ℕ) (fs : List Form) → misplacedFrom s number (f ∷ fs) ≡ some number)
 unfolding misplaced

@@ -6,10 +6,11 @@ use mathlib.Core.Path.{_≡_, refl, ap, _∙_}
 use native.Mathlib.Omega.{arith}
 use lib.ListN.{length}
 use Rattle.text.specs.declared.Form.{Form}
-use Rattle.text.specs.declared.Form.the-variants.{Proc, Thread, Close, Skip, Call, Hold, Loop, Either, Two}
+use Rattle.text.specs.declared.Form.the-variants.{Proc, Thread, Close, Skip, Call, Loop, Either, Two}
 use Rattle.semantics.specs.Plan.{Block, done, skip, call, hold, loop, either, end, _⨾_, LockPlan, bodyIn, WellFormed}
 use Rattle.semantics.proofs.Thread.Remainders.{⨾-done}
-use Rattle.plan.specs.Grammar.{blockForms, procForms, threadForms, forms, Grammatical, Behind, inFront, behind, planIn}
+use Rattle.plan.specs.Grammar.{blockForms, procForms, threadForms, forms, Grammatical, claimForm, Behind, inFront, behind, planIn}
+use Rattle.plan.proofs.ClaimForms.{claim-front}
 
 -- what stands behind a place, part by part
 abbrev rest : List Block → List Block → List ℕ → Behind
@@ -31,8 +32,8 @@ module _ (ps : List Block) (ts : List ℕ) where
   behind-block empty done w fs t bs e = e
   behind-block empty (skip r) w fs t bs e = ap (inFront Skip) (behind-block true r w fs t bs e)
   behind-block empty (call n r) w fs t bs e = ap (inFront (Call n)) (behind-block true r w fs t bs e)
-  behind-block empty (hold l b r) w fs t bs e =
-      ap (inFront (Hold l)) (opened b (behind-block false b (w .0)) (blockForms r fs) _ (behind-block true r (w .1) fs t bs e))
+  behind-block empty (hold a b r) w fs t bs e =
+      ap (inFront (claimForm a)) (opened b (behind-block false b (w .0)) (blockForms r fs) _ (behind-block true r (w .1) fs t bs e)) ∙ claim-front a _
   behind-block empty (loop b r) w fs t bs e =
       ap (inFront Loop) (opened b (behind-block false b (w .0)) (blockForms r fs) _ (behind-block true r (w .1) fs t bs e))
   behind-block empty (either a b r) w fs t bs e =

@@ -1,22 +1,27 @@
--- The grammar: how a plan's tree is written down as forms, one a line, and the tree that forms denote. 01, "The plan text".
+-- The grammar: how a plan's tree is written down as forms, one a line, and the tree that forms denote. 01, "The plan text"; 02, change 9, "Add `(share N`, block, `)`".
 use Prim.Native.Nat.{ℕ, _<_}
-use mathlib.Core.Bool.{false}
+use mathlib.Core.Bool.{false, cond}
 use mathlib.Core.List.{List, [], _∷_}
 use lib.ListN.{length}
 use Rattle.text.specs.declared.Form.{Form}
-use Rattle.text.specs.declared.Form.the-variants.{Plan, Proc, Thread, Close, Skip, Call, Hold, Loop, Either, One, Two}
+use Rattle.text.specs.declared.Form.the-variants.{Plan, Proc, Thread, Close, Skip, Call, Hold, Loop, Either, One, Two, Share}
 use Rattle.semantics.specs.Plan.{Block, done, skip, call, hold, loop, either, end, LockPlan, bodyIn, WellFormed}
+use Rattle.semantics.specs.Claims.{byShare, byHold, lockOf, isHold}
 
--- "A statement is `(skip)`; `(call N)`; `(hold N`, block, `)`; `(loop`, block, `)`; or `(either`, `(one`, block, `)`, `(two`, block, `)`, `)`." The forms of b,
--- and then fs
+-- the form that takes a claim: `(hold N` or `(share N`, by the way in which it has its lock
+unfoldable pub claimForm : ℕ → Form
+claimForm a = cond (isHold a) (Hold (lockOf a)) (Share (lockOf a))
+
+-- "A statement is `(skip)`; `(call N)`; `(hold N`, block, `)`; `(loop`, block, `)`; or `(either`, `(one`, block, `)`, `(two`, block, `)`, `)`."; and
+-- `(share N`, block, `)`. The forms of b, and then fs
 unfoldable pub blockForms : Block → List Form → List Form
 blockForms done fs = fs
 blockForms (skip r) fs = Skip ∷ blockForms r fs
 blockForms (call n r) fs = Call n ∷ blockForms r fs
-blockForms (hold l b r) fs = Hold l ∷ blockForms b (Close ∷ blockForms r fs)
+blockForms (hold a b r) fs = claimForm a ∷ blockForms b (Close ∷ blockForms r fs)
 blockForms (loop b r) fs = Loop ∷ blockForms b (Close ∷ blockForms r fs)
 blockForms (either a b r) fs = Either ∷ One ∷ blockForms a (Close ∷ Two ∷ blockForms b (Close ∷ Close ∷ blockForms r fs))
-blockForms (end l r) fs = blockForms r fs
+blockForms (end a r) fs = blockForms r fs
 
 -- "A procedure is `(proc`, a block, `)`."
 unfoldable pub procForms : List Block → List Form → List Form
@@ -79,11 +84,12 @@ inFront (Thread n) x = record { blocks = x .blocks; procs = x .procs; threads = 
 inFront Close x = withOpen (done ∷ x .blocks) x
 inFront Skip x = withOpen (atTop skip (x .blocks)) x
 inFront (Call n) x = withOpen (atTop (call n) (x .blocks)) x
-inFront (Hold l) x = withOpen (atTwo (hold l) (x .blocks)) x
+inFront (Hold l) x = withOpen (atTwo (hold (byHold l)) (x .blocks)) x
 inFront Loop x = withOpen (atTwo loop (x .blocks)) x
 inFront Either x = withOpen (atFour either (x .blocks)) x
 inFront One x = x
 inFront Two x = x
+inFront (Share l) x = withOpen (atTwo (hold (byShare l)) (x .blocks)) x
 
 unfoldable pub behind : List Form → Behind
 behind [] = record { blocks = []; procs = []; threads = [] }

@@ -8,3 +8,4 @@ pub mod Rules
 pub mod Table
 pub mod Settled
 pub mod Starts
+pub mod Shareless

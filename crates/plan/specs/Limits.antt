@@ -7,12 +7,13 @@ use lib.Dec.{eqb, ltb, leb}
 use Rattle.limits.specs.Limits.{maxProcs, maxStatements, maxThreads, maxBrackets, lockCount}
 use Rattle.laws.specs.Choice.{pick}
 use Rattle.text.specs.declared.Form.{Form}
-use Rattle.text.specs.Forms.{numberIn, isProc, isThread, isClose, isCall, isHold, isStatement, isBracket}
+use Rattle.text.specs.Forms.{numberIn, isProc, isThread, isClose, isCall, takesLock, isStatement, isBracket}
 use Rattle.plan.specs.declared.Counts.{Counts}
 
 -- ---- 5
 
--- the counts of procedures, statements and threads, and of "brackets of hold, loop, either, one and two open together in a procedure"
+-- the counts of procedures, statements and threads, and of "brackets of hold, loop, either, one and two open together in a procedure"; 02, change 9: a share is "one statement
+-- and one bracket in rule 5"
 abbrev pub asCounts : ℕ → ℕ → ℕ → ℕ → Counts
 asCounts p s t o = record { procs = p; statements = s; threads = t; depth = o }
 
@@ -53,12 +54,12 @@ pastLimitForm fs = pastLimitFrom noCounts 1 fs
 
 -- ---- 6 to 8
 
--- the rule that tests a form's number: 6 a hold's lock, 7 a call's procedure, 8 a thread's; 0 where none does
+-- the rule that tests a form's number: 6 a hold's or a share's lock, 7 a call's procedure, 8 a thread's; 0 where none does
 unfoldable pub testedBy : Form → ℕ
-testedBy f = cond (isThread f) 8 (cond (isCall f) 7 (cond (isHold f) 6 0))
+testedBy f = cond (isThread f) 8 (cond (isCall f) 7 (cond (takesLock f) 6 0))
 
--- the least number that breaks the rule, where there are n procedures. 6: "A hold names a lock above 31". 7, by 02, change 2: "a call of a procedure that is not there".
--- 8: "A thread names a procedure that is not there"
+-- the least number that breaks the rule, where there are n procedures. 6: "A hold names a lock above 31"; 02, change 9, of a share: "rule 6 for its lock". 7, by 02, change 2:
+-- "a call of a procedure that is not there". 8: "A thread names a procedure that is not there"
 unfoldable pub leastBad : ℕ → ℕ → ℕ
 leastBad rule n = pick (eqb rule 6) lockCount n
 

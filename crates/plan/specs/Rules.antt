@@ -8,7 +8,7 @@ use mathlib.Core.Option.{Option, none, some, orElse}
 use mathlib.Core.Path.{_≡_}
 use lib.Dec.{ltb, leb, eqb}
 use lib.ListN.{length, take}
-use Rattle.limits.specs.Limits.{maxBytes, maxSize, maxPairs}
+use Rattle.limits.specs.Limits.{maxBytes, maxSize, maxPairWords}
 use Rattle.text.specs.declared.Form.{Form}
 use Rattle.text.specs.declared.Refusal.{Refusal}
 use Rattle.text.specs.Forms.{isProc}
@@ -42,7 +42,7 @@ tooLong text = refusedIf 2 (ltb maxBytes (length text))
 unfoldable pub linesRefusal : List ℕ → Option Refusal
 linesRefusal text = orElse (tooLong text) (refusedAt 3 (unreadableLine text))
 
--- rules 6 to 8, of the forms of a text: what holds, calls and threads name
+-- rules 6 to 8, of the forms of a text: what holds and shares, calls and threads name
 unfoldable pub referencesRefusal : List Form → Option Refusal
 referencesRefusal fs = orElse (refusedAt 6 (breakingForm 6 fs)) (orElse (refusedAt 7 (breakingForm 7 fs)) (refusedAt 8 (breakingForm 8 fs)))
 
@@ -118,10 +118,10 @@ tooFewEntries plan lent = refusedIf 1 (ltb lent (threadSizes plan))
 unfoldable pub verdictRefusal : List ℕ → ℕ → Option Refusal
 verdictRefusal text lent = orElse (planRefusal text) (tooFewEntries (planOf text) lent)
 
--- the pair list's: 1, shorter than 511 words (02, change 5: "Raise .. the pair buffer to 511 words"), then the plan's, then 11, "The pairs of a procedure that is not there are
+-- the pair list's: 1, shorter than 1,533 words (02, change 9: "The pair buffer is 1,533 words"), then the plan's, then 11, "The pairs of a procedure that is not there are
 -- requested (line 0)."
 unfoldable pub pairsRefusal : List ℕ → ℕ → ℕ → Option Refusal
-pairsRefusal text p lent = orElse (refusedIf 1 (ltb lent maxPairs)) (orElse (planRefusal text) (refusedIf 11 (leb (length (planOf text .procs)) p)))
+pairsRefusal text p lent = orElse (refusedIf 1 (ltb lent maxPairWords)) (orElse (planRefusal text) (refusedIf 11 (leb (length (planOf text .procs)) p)))
 
 -- a copy's: 02, change 1, of the tidy one, "The output must hold 32,768 bytes, otherwise rule 1 applies.", then the plan's; change 8, of the straightened one: "into an output as
 -- for the tidy one"

@@ -25,7 +25,7 @@ unfoldable pub allStatements : List Block → ℕ
 allStatements [] = 0
 allStatements (b ∷ bs) = statements b + allStatements bs
 
--- how many "brackets of hold, loop, either, one and two" are open together somewhere in a block
+-- how many "brackets of hold, loop, either, one and two", and of share, are open together somewhere in a block
 unfoldable pub nesting : Block → ℕ
 nesting done = 0
 nesting (skip r) = nesting r
@@ -35,7 +35,7 @@ nesting (loop b r) = max (1 + nesting b) (nesting r)
 nesting (either a b r) = max (2 + nesting a) (max (2 + nesting b) (nesting r))
 nesting (end l r) = nesting r
 
--- What rules 4 to 8 settle of a plan: among others that callees are there and locks below 32 (`callees-present`).
+-- What rules 4 to 8 settle of a plan: among others that callees are there and locks below 32, so claims below 64 (`callees-present`).
 pub record Settled (plan : LockPlan) : Type 0 where
   pub callees-present : (p : ℕ) → Written (λ q. q < length (plan .procs)) (bodyIn (plan .procs) p)
   pub filled : (p : ℕ) → p < length (plan .procs) → WellFormed false (bodyIn (plan .procs) p)

@@ -10,7 +10,7 @@ use lib.Dec.{eqb}
 use lib.ListN.{getD}
 use Rattle.laws.specs.Choice.{pick}
 use Rattle.text.specs.declared.Form.{Form}
-use Rattle.text.specs.declared.Form.the-variants.{Plan, Proc, Thread, Close, Skip, Call, Hold, Loop, Either, One, Two}
+use Rattle.text.specs.declared.Form.the-variants.{Plan, Proc, Thread, Close, Skip, Call, Hold, Loop, Either, One, Two, Share}
 use Rattle.plan.specs.declared.Advance.{Advance}
 use Rattle.plan.specs.declared.Advance.the-variants.{Stay, Push, Pop, Misplaced}
 
@@ -45,7 +45,7 @@ needsTwo = 8
 abbrev pub endsEither : ℕ  -- the either's end
 endsEither = 9
 
--- the brackets: a hold or a loop, `(one`, `(two`, or none within the procedure
+-- the brackets: a hold, a share or a loop, `(one`, `(two`, or none within the procedure
 abbrev pub ofStatement : ℕ
 ofStatement = 0
 
@@ -108,6 +108,7 @@ advanceOf mode top Loop = inBlock mode (Push ofStatement)
 advanceOf mode top Either = inBlock mode (Stay needsOne)
 advanceOf mode top One = only needsOne mode (Push ofOne)
 advanceOf mode top Two = only needsTwo mode (Push ofTwo)
+advanceOf mode top (Share l) = inBlock mode (Push ofStatement)
 
 -- the machine after a step, or the number of a form without a place
 abbrev pub goOn : Advance → List ℕ → ℕ → (ℕ → List ℕ → Option ℕ) → Option ℕ

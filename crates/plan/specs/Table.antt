@@ -6,7 +6,7 @@ use lib.Dec.{eqb}
 use lib.ListN.{length, set}
 use Rattle.limits.specs.Limits.{maxBytes}
 use Rattle.text.specs.declared.Form.{Form}
-use Rattle.text.specs.declared.Form.the-variants.{Plan, Proc, Thread, Close, Skip, Call, Hold, Loop, Either, One, Two}
+use Rattle.text.specs.declared.Form.the-variants.{Plan, Proc, Thread, Close, Skip, Call, Hold, Loop, Either, One, Two, Share}
 use Rattle.text.specs.Forms.{kindNumber, numberIn}
 use Rattle.text.specs.declared.Line.{Line}
 use Rattle.text.specs.declared.Line.the-variants.{Read, Refused}
@@ -32,7 +32,8 @@ formAt w =
     (cond (eqb (w % 16) 8) Either
     (cond (eqb (w % 16) 9) One
     (cond (eqb (w % 16) 10) Two
-    Close)))))))))
+    (cond (eqb (w % 16) 11) (Share (numberAt w))
+    Close))))))))))
 
 -- the forms that a table holds
 abbrev pub tableForms : List ℕ → List Form

@@ -65,6 +65,7 @@ fn code_of(form: Form) -> u64
         Form::Either => 8,
         Form::One => 9,
         Form::Two => 10,
+        Form::Share(n) => 11 + 16 * (n as u64),
     }
 }
 
@@ -85,6 +86,7 @@ pub fn form_at(code: u64) -> Form
         8 => Form::Either,
         9 => Form::One,
         10 => Form::Two,
+        11 => Form::Share(n),
         _ => Form::Close,
     }
 }
@@ -143,7 +145,7 @@ fn advance_of(mode: u8, top: u8, form: Form) -> Advance
         Form::Thread(_) => in_modes(mode, 2, 3, Advance::Stay(3)),
         Form::Close => on_close(mode, top),
         Form::Skip | Form::Call(_) => in_modes(mode, 5, 6, Advance::Stay(6)),
-        Form::Hold(_) | Form::Loop => in_modes(mode, 5, 6, Advance::Push(0)),
+        Form::Hold(_) | Form::Loop | Form::Share(_) => in_modes(mode, 5, 6, Advance::Push(0)),
         Form::Either => in_modes(mode, 5, 6, Advance::Stay(7)),
         Form::One => in_mode(mode, 7, Advance::Push(1)),
         Form::Two => in_mode(mode, 8, Advance::Push(2)),
@@ -284,7 +286,7 @@ fn tested_by(form: Form) -> u8
     match form {
         Form::Thread(_) => 8,
         Form::Call(_) => 7,
-        Form::Hold(_) => 6,
+        Form::Hold(_) | Form::Share(_) => 6,
         _ => 0,
     }
 }
@@ -297,6 +299,7 @@ pub fn number_in(form: Form) -> usize
         Form::Thread(n) => n as usize,
         Form::Call(n) => n as usize,
         Form::Hold(n) => n as usize,
+        Form::Share(n) => n as usize,
         _ => 0,
     }
 }

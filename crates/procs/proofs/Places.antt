@@ -20,6 +20,7 @@ use Rattle.plan.specs.Table.{formAt, tableForms}
 use Rattle.plan.specs.Rules.{procFormFrom}
 use Rattle.plan.specs.Settled.{PlanTable, tablePlan}
 use Rattle.plan.specs.Starts.{StandsAt, Starts}
+use Rattle.plan.proofs.ClaimForms.{by-claim}
 use Rattle.procs.specs.Passes.{consIf, placesFrom, threadsFrom}
 
 -- ---- lists behind a place
@@ -70,8 +71,12 @@ unfolding formCount blockForms placesFrom kindIn
 places-block done k fs = ap (λ n. placesFrom n fs) (omega arith)
 places-block (skip r) k fs = places-block r (suc k) fs ∙ ap (λ n. placesFrom n fs) (omega arith)
 places-block (call p r) k fs = places-block r (suc k) fs ∙ ap (λ n. placesFrom n fs) (omega arith)
-places-block (hold l b r) k fs =
-    places-block b (suc k) (Close ∷ blockForms r fs) ∙ places-block r (suc (suc k + formCount b)) fs ∙ ap (λ n. placesFrom n fs) (omega arith)
+places-block (hold a b r) k fs =
+    let gs = blockForms b (Close ∷ blockForms r fs) in
+    let n = k + suc (formCount b + suc (formCount r)) in
+    let e : placesFrom (suc k) gs ≡ placesFrom n fs =
+    places-block b (suc k) (Close ∷ blockForms r fs) ∙ places-block r (suc (suc k + formCount b)) fs ∙ ap (λ n. placesFrom n fs) (omega arith) in
+    by-claim (λ f. placesFrom k (f ∷ gs) ≡ placesFrom n fs) a e e
 places-block (loop b r) k fs =
     places-block b (suc k) (Close ∷ blockForms r fs) ∙ places-block r (suc (suc k + formCount b)) fs ∙ ap (λ n. placesFrom n fs) (omega arith)
 places-block (either a b r) k fs =
@@ -132,7 +137,9 @@ unfolding blockForms threadsFrom kindIn
 threads-block done fs = refl
 threads-block (skip r) fs = threads-block r fs
 threads-block (call p r) fs = threads-block r fs
-threads-block (hold l b r) fs = threads-block b (Close ∷ blockForms r fs) ∙ threads-block r fs
+threads-block (hold a b r) fs =
+    let e = threads-block b (Close ∷ blockForms r fs) ∙ threads-block r fs in
+    by-claim (λ f. threadsFrom (f ∷ blockForms b (Close ∷ blockForms r fs)) ≡ threadsFrom fs) a e e
 threads-block (loop b r) fs = threads-block b (Close ∷ blockForms r fs) ∙ threads-block r fs
 threads-block (either a b r) fs =
     threads-block a (Close ∷ Two ∷ blockForms b (Close ∷ Close ∷ blockForms r fs)) ∙ threads-block b (Close ∷ Close ∷ blockForms r fs) ∙ threads-block r fs

@@ -28,6 +28,7 @@ use Rattle.plan.specs.Grammar.{blockForms, procForms, threadForms}
 use Rattle.plan.specs.Table.{formAt, tableForms}
 use Rattle.plan.specs.Settled.{PlanTable, tablePlan}
 use Rattle.plan.specs.Starts.{Starts}
+use Rattle.plan.proofs.ClaimForms.{by-claim}
 use Rattle.procs.proofs.Places.{map-drop, places-numbers, table-placed}
 use Rattle.reach.specs.Passes.{procBit, calledBy, callsIn, callsFrom}
 
@@ -50,9 +51,9 @@ pub called-call : (f : Form) (p r : ℕ) → f ≡ Call p → r ≡ procBit p �
 unfolding calledBy kindIn numberIn
 called-call f p r e h = rw (e, h)
 
-pub called-rest : (f : Form) (r : ℕ) → OneOf (0 ∷ 1 ∷ 2 ∷ 3 ∷ 4 ∷ 6 ∷ 7 ∷ 8 ∷ 9 ∷ 10 ∷ []) (tagOf the-type f) → r ≡ 0 → r ≡ calledBy f
+pub called-rest : (f : Form) (r : ℕ) → OneOf (0 ∷ 1 ∷ 2 ∷ 3 ∷ 4 ∷ 6 ∷ 7 ∷ 8 ∷ 9 ∷ 10 ∷ 11 ∷ []) (tagOf the-type f) → r ≡ 0 → r ≡ calledBy f
 unfolding calledBy kindIn
-called-rest f r h k = k ∙ sym (match-arm calledBy 0 (0 ∷ 1 ∷ 2 ∷ 3 ∷ 4 ∷ 6 ∷ 7 ∷ 8 ∷ 9 ∷ 10 ∷ []) f h refl)
+called-rest f r h k = k ∙ sym (match-arm calledBy 0 (0 ∷ 1 ∷ 2 ∷ 3 ∷ 4 ∷ 6 ∷ 7 ∷ 8 ∷ 9 ∷ 10 ∷ 11 ∷ []) f h refl)
 
 -- ---- the pass
 
@@ -83,9 +84,10 @@ module _ (n : ℕ) (few : n ≤ maxProcs) where
   calls-block done w fs = refl
   calls-block (skip r) w fs = calls-block r w fs
   calls-block (call p r) w fs = rw (lt-ltb p maxProcs (omega (arith, w .0)), calls-block r (w .1) fs) (sym (or-assoc (2 ^ p) (callMask r) (callsIn fs)))
-  calls-block (hold l b r) w fs =
-      calls-block b (w .1) (Close ∷ blockForms r fs) ∙ ap (bitOr (callMask b)) (calls-block r (w .2) fs)
-      ∙ sym (or-assoc (callMask b) (callMask r) (callsIn fs))
+  calls-block (hold a b r) w fs =
+      let e = calls-block b (w .1) (Close ∷ blockForms r fs) ∙ ap (bitOr (callMask b)) (calls-block r (w .2) fs)
+      ∙ sym (or-assoc (callMask b) (callMask r) (callsIn fs)) in
+      by-claim (λ f. callsIn (f ∷ blockForms b (Close ∷ blockForms r fs)) ≡ bitOr (bitOr (callMask b) (callMask r)) (callsIn fs)) a e e
   calls-block (loop b r) w fs =
       calls-block b (w .0) (Close ∷ blockForms r fs) ∙ ap (bitOr (callMask b)) (calls-block r (w .1) fs)
       ∙ sym (or-assoc (callMask b) (callMask r) (callsIn fs))

@@ -1,14 +1,12 @@
 // The gateway: the state of its threads, which steps are permitted, and the run that a schedule is.
 use super::lines::body;
 use super::lines::find;
-use super::lines::letter;
 use super::lines::number;
 use super::steps::sequence;
 use super::steps::step;
-use super::thread::COUNTS;
 use super::thread::THREAD_ROOM;
+use super::thread::count;
 use super::thread::enter;
-use super::thread::place;
 use limits::LOCK_COUNT;
 use limits::MAX_THREADS;
 ghost use Prim.Native.Nat.{_≤_, _<_};
@@ -22,14 +20,13 @@ pub const STATE_ROOM: usize = MAX_THREADS * THREAD_ROOM;
 // An entry of a schedule is the thread and this times the choice.
 pub const CHOICE: u16 = 8;
 
-// Whether a thread has a positive count of a lock.
-pub fn holds(state: &[usize], t: usize, lock: usize) -> bool
+// Whether a thread holds a lock or, where any way counts, shares it.
+pub fn has(state: &[usize], t: usize, lock: usize, any: bool) -> bool
     requires { ⌜ (stateRoom ≤ length (now state)) × (t < maxThreads) ⌝ }
 {
-    if LOCK_COUNT <= lock {
-        return false;
-    }
-    0 < state[t * THREAD_ROOM + COUNTS + lock]
+    let part = t * THREAD_ROOM;
+    let thread = &state[part..];
+    0 < count(thread, lock, true) || any && 0 < count(thread, lock, false)
 }
 
 fn one_if(b: bool) -> usize
@@ -38,26 +35,28 @@ fn one_if(b: bool) -> usize
     if b { 1 } else { 0 }
 }
 
-// How many threads have a positive count of a lock.
-fn holders(state: &[usize], lock: usize) -> usize
+// Whether no thread holds a lock that another has.
+fn apart_at(state: &[usize], lock: usize) -> bool
     requires { ⌜ stateRoom ≤ length (now state) ⌝ }
 {
-    let mut n: usize = 0;
+    let mut had: usize = 0;
+    let mut held: usize = 0;
     let mut t: usize = 0;
     while t < MAX_THREADS {
-        n += one_if(holds(state, t, lock));
+        had += one_if(has(state, t, lock, true));
+        held += one_if(has(state, t, lock, false));
         t += 1;
     }
-    n
+    had < 2 || held == 0
 }
 
-// Whether no lock has a positive count in two threads.
+// Whether no lock is held by one thread while another has it in any way.
 fn apart(state: &[usize]) -> bool
     requires { ⌜ stateRoom ≤ length (now state) ⌝ }
 {
     let mut lock: usize = 0;
     while lock < LOCK_COUNT {
-        if 1 < holders(state, lock) {
+        if !apart_at(state, lock) {
             return false;
         }
         lock += 1;
@@ -115,16 +114,4 @@ pub fn start(text: &[u8], state: &mut [usize])
         start_thread(text, &mut state[part..], t);
         t += 1;
     }
-}
-
-// The lock whose hold a thread is about to begin, or one that is none.
-pub fn wanted(text: &[u8], state: &[usize], t: usize) -> usize
-    requires { ⌜ (stateRoom ≤ length (now state)) × (t < maxThreads) ⌝ }
-{
-    let part = t * THREAD_ROOM;
-    let at = place(&state[part..]);
-    if letter(text, at) == b'h' {
-        return number(text, at);
-    }
-    LOCK_COUNT
 }

@@ -18,7 +18,7 @@ fn indented(text: &[u8], at: usize) -> usize
     i
 }
 
-// The letter of a form that starts with a bracket: its second byte, with `w` for two and `.` for the plan.
+// The letter of a form that starts with a bracket: its second byte, with `k` for a skip, `w` for two and `.` for the plan.
 fn opening(form: &[u8]) -> u8 {
     if form.len() < 3 {
         return b'?';
@@ -27,6 +27,7 @@ fn opening(form: &[u8]) -> u8 {
     let third = form[2];
     match second {
         b'p' => if third == b'r' { b'p' } else { b'.' },
+        b's' => if third == b'h' { b's' } else { b'k' },
         b't' => if third == b'h' { b't' } else { b'w' },
         _ => second,
     }
@@ -128,6 +129,15 @@ pub fn find(text: &[u8], wanted: u8, k: usize) -> usize {
     at
 }
 
+// Whether a form is a hold or a share.
+pub fn takes_lock(form: u8) -> bool {
+    match form {
+        b'h' => true,
+        b's' => true,
+        _ => false,
+    }
+}
+
 // The place at which the block of a procedure starts.
 pub fn body(text: &[u8], proc: usize) -> usize {
     behind(text, find(text, b'p', proc))
@@ -141,7 +151,7 @@ fn nested(depth: usize, form: u8) -> usize
     match form {
         b')' => if depth == 0 { 0 } else { depth - 1 },
         b';' => depth,
-        b's' => depth,
+        b'k' => depth,
         b'c' => depth,
         b't' => depth,
         _ => depth + 1,

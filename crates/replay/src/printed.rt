@@ -42,8 +42,20 @@ fn begins(line: &[u8], word: &[u8]) -> bool {
     check::same(&line[0..n], word)
 }
 
-// The set of the thread that a digit is, empty where it is that of none.
-fn thread_set(digit: u8) -> u64 {
+// Whether a line ends as a form does.
+fn closes(line: &[u8]) -> bool {
+    let n = line.len();
+    if n < 2 {
+        return false;
+    }
+    check::same(&line[n - 2..], b")\n")
+}
+
+// The set of the thread that a blank and a digit are, empty where they are that of none.
+fn thread_set(blank: u8, digit: u8) -> u64 {
+    if blank != b' ' {
+        return 0;
+    }
     match digit {
         b'0' => 1,
         b'1' => 2,
@@ -55,32 +67,33 @@ fn thread_set(digit: u8) -> u64 {
     }
 }
 
-// The threads that a line `(stuck T ..)` names, each behind a blank; none where it is no such line, or the threads do not ascend.
-fn threads_in(line: &[u8]) -> u64 {
-    if line.len() < 8 {
-        return 0;
-    }
-    let end = line.len() - 2;
+// The threads in a part of a line, each a blank and a digit; none where something else is there, or the threads do not ascend.
+fn threads_in(part: &[u8]) -> u64 {
     let mut set: u64 = 0;
-    let mut i: usize = 6;
-    while i < end {
-        let next = thread_set(line[i + 1]);
-        if line[i] != b' ' || next <= set {
+    let mut i: usize = 0;
+    while i + 1 < part.len() {
+        let next = thread_set(part[i], part[i + 1]);
+        if next <= set {
             return 0;
         }
         set = set | next;
         i += 2;
     }
-    if i == end && check::same(&line[end..], b")\n") {
-        set
-    } else {
-        0
-    }
+    if i == part.len() { set } else { 0 }
 }
 
-// The entry of a thread and a choice, each a digit; that of thread 7, which is never there, where they are none.
-fn entry_of(thread: u8, choice: u8) -> u16 {
-    if thread < b'0' || b'5' < thread || choice < b'0' || b'2' < choice {
+// The threads that a line `(stuck T ..)` names; none where it is no such line.
+fn named_in(line: &[u8]) -> u64 {
+    let n = line.len();
+    if n < 8 || !closes(line) {
+        return 0;
+    }
+    threads_in(&line[6..n - 2])
+}
+
+// The entry of a thread, a blank and a choice, each number a digit; that of thread 7, which is never there, where they are none.
+fn entry_of(thread: u8, blank: u8, choice: u8) -> u16 {
+    if blank != b' ' || thread < b'0' || b'5' < thread || choice < b'0' || b'2' < choice {
         return 7;
     }
     (thread - b'0') as u16 + CHOICE * ((choice - b'0') as u16)
@@ -90,18 +103,15 @@ fn entry_of(thread: u8, choice: u8) -> u16 {
 fn take_line(text: &[u8], line: &[u8], state: &mut [usize]) -> bool
     requires { ⌜ stateRoom ≤ length (now state) ⌝ }
 {
-    if line.len() != 11 {
+    if line.len() != 11 || !closes(line) {
         return false;
     }
-    if line[7] != b' ' || !check::same(&line[9..11], b")\n") {
-        return false;
-    }
-    take(text, state, entry_of(line[6], line[8]))
+    take(text, state, entry_of(line[6], line[7], line[8]))
 }
 
 // The threads of a line `(stuck T ..)`, which stands once and before the steps.
 fn read_stuck(line: &[u8], told: Told) -> Told {
-    let named = threads_in(line);
+    let named = named_in(line);
     Told {
         free: told.free,
         deadlocks: told.deadlocks,
@@ -128,7 +138,20 @@ fn read_step(text: &[u8], line: &[u8], told: Told, state: &mut [usize]) -> Told
     }
 }
 
-// Reads a line; others than these are passed over.
+// Reads a line of a deadlock; others than these are passed over.
+fn read_inside(text: &[u8], line: &[u8], told: Told, state: &mut [usize]) -> Told
+    requires { ⌜ stateRoom ≤ length (now state) ⌝ }
+{
+    if begins(line, b"(stuck") {
+        return read_stuck(line, told);
+    }
+    if begins(line, b"(step") {
+        return read_step(text, line, told, state);
+    }
+    told
+}
+
+// Reads a line.
 fn read_line(text: &[u8], line: &[u8], told: Told, state: &mut [usize]) -> Told
     requires { ⌜ stateRoom ≤ length (now state) ⌝ }
 {
@@ -141,13 +164,7 @@ fn read_line(text: &[u8], line: &[u8], told: Told, state: &mut [usize]) -> Told
         next.deadlocks = more(told.deadlocks);
         return next;
     }
-    if begins(line, b"(stuck") {
-        return read_stuck(line, told);
-    }
-    if begins(line, b"(step") {
-        return read_step(text, line, told, state);
-    }
-    told
+    read_inside(text, line, told, state)
 }
 
 // Reads the lines of a part of a report, in the state that those before it left.

@@ -25,9 +25,10 @@ fn cost(text: &[u8], at: usize, sizes: &[usize]) -> usize
 {
     let form = letter(text, at);
     match form {
-        b's' => 1,
+        b'k' => 1,
         b'e' => 1,
         b'h' => 2,
+        b's' => 2,
         b'l' => 2,
         b'c' => std::num::wrapping_add_usize(1, size(sizes, number(text, at))),
         b't' => size(sizes, number(text, at)),
@@ -53,17 +54,24 @@ fn so_far(size: usize, first: bool) -> usize {
     if first { 0 } else { size }
 }
 
-// A pass over the text. No procedure calls itself, so none reads an entry that is being added up.
+// Adds a line to its entry, after the line before added to `entry`. No procedure calls itself, so none reads an entry that is being added up.
+fn add_line(text: &[u8], at: usize, entry: usize, sizes: &mut [usize]) -> usize
+    requires { ⌜ sizesRoom ≤ length (now sizes) ⌝ }
+{
+    let next = next_entry(entry, letter(text, at));
+    let more = cost(text, at, sizes);
+    sizes[next] = std::num::wrapping_add_usize(so_far(sizes[next], next != entry), more);
+    next
+}
+
+// A pass over the text.
 fn pass(text: &[u8], sizes: &mut [usize])
     requires { ⌜ sizesRoom ≤ length (now sizes) ⌝ }
 {
     let mut entry: usize = 0;
     let mut at: usize = 0;
     while at < text.len() {
-        let next = next_entry(entry, letter(text, at));
-        let more = cost(text, at, sizes);
-        sizes[next] = std::num::wrapping_add_usize(so_far(sizes[next], next != entry), more);
-        entry = next;
+        entry = add_line(text, at, entry, sizes);
         at = next_line(text, at);
     }
 }

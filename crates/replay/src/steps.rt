@@ -4,6 +4,7 @@ use super::lines::body;
 use super::lines::closing;
 use super::lines::letter;
 use super::lines::number;
+use super::lines::takes_lock;
 use super::thread::LEVELS;
 use super::thread::count_down;
 use super::thread::count_up;
@@ -16,22 +17,23 @@ ghost use Prim.Native.Nat.{_≤_};
 ghost use lib.ListN.{length};
 ghost use Rattle.replay.specs.Tables.{threadRoom};
 
-// Begins a hold: its count up by 1.
-fn begin_hold(text: &[u8], thread: &mut [usize], at: usize) -> bool
+// Begins a hold or a share: its count up by 1.
+fn begin(text: &[u8], thread: &mut [usize], at: usize, form: u8) -> bool
     requires { ⌜ threadRoom ≤ length (now thread) ⌝ }
 {
-    count_up(thread, number(text, at)) && enter(thread, behind(text, at))
+    count_up(thread, number(text, at), form == b'h') && enter(thread, behind(text, at))
 }
 
-// At a bracket that closes, only the end of a hold is a step: its count down by 1.
+// At a bracket that closes, only the end of a hold or of a share is a step: its count down by 1.
 fn at_end(text: &[u8], thread: &mut [usize], at: usize) -> bool
     requires { ⌜ threadRoom ≤ length (now thread) ⌝ }
 {
     let line = innermost(thread);
-    if letter(text, line) != b'h' {
+    let form = letter(text, line);
+    if !takes_lock(form) {
         return false;
     }
-    count_down(thread, number(text, line)) && leave(thread, behind(text, at))
+    count_down(thread, number(text, line), form == b'h') && leave(thread, behind(text, at))
 }
 
 // A loop's head: 1 enters, 2 leaves.
@@ -62,9 +64,10 @@ fn at_other(text: &[u8], thread: &mut [usize], at: usize, form: u8) -> bool
     requires { ⌜ threadRoom ≤ length (now thread) ⌝ }
 {
     match form {
-        b's' => go(thread, behind(text, at)),
+        b'k' => go(thread, behind(text, at)),
         b'c' => enter(thread, body(text, number(text, at))),
-        b'h' => begin_hold(text, thread, at),
+        b'h' => begin(text, thread, at, form),
+        b's' => begin(text, thread, at, form),
         b')' => at_end(text, thread, at),
         _ => false,
     }

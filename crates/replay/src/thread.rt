@@ -1,4 +1,4 @@
-// One thread of the gateway, as a part of the table that the state is: how deep it is in the plan and where, and which locks it holds.
+// One thread of the gateway, as a part of the table that the state is: how deep it is in the plan and where, and its counts of locks.
 use limits::LOCK_COUNT;
 use limits::SIZE_ROOM;
 ghost use Prim.Native.Nat.{_≤_, _<_};
@@ -8,11 +8,15 @@ ghost use Rattle.replay.specs.Tables.{levels, threadRoom};
 // The part has the thread's depth,
 const DEPTH: usize = 0;
 
-// its count of each lock,
-pub const COUNTS: usize = 1;
+// its count of each lock by hold,
+const HELD: usize = 1;
 
-// and a place for each depth. The last is where its remainder starts, those before it are of the holds, loops, eithers and calls that it is in, and the first is the text's first line.
-const PLACES: usize = COUNTS + LOCK_COUNT;
+// and by share,
+const SHARED: usize = HELD + LOCK_COUNT;
+
+// and a place for each depth. The last is where its remainder starts, those before it are of the holds, shares, loops, eithers and calls that it is in, and the first
+// is the text's first line.
+const PLACES: usize = SHARED + LOCK_COUNT;
 
 // A thread is in at most as many of them as its size says.
 pub const LEVELS: usize = SIZE_ROOM + 1;
@@ -35,7 +39,7 @@ pub fn place(thread: &[usize]) -> usize
     thread[PLACES + d]
 }
 
-// The line of the innermost hold, loop, either or call that a thread is in.
+// The line of the innermost hold, share, loop, either or call that a thread is in.
 pub fn innermost(thread: &[usize]) -> usize
     requires { ⌜ threadRoom ≤ length (now thread) ⌝ }
 {
@@ -88,34 +92,46 @@ pub fn leave(thread: &mut [usize], at: usize) -> bool
     put(thread, d - 1, at)
 }
 
-// The count of a lock up by 1: whether there is such a lock.
-pub fn count_up(thread: &mut [usize], lock: usize) -> bool
+// Where the count of a lock stands, by hold or by share: behind the part where there is no such lock.
+fn count_place(lock: usize, hold: bool) -> usize {
+    if LOCK_COUNT <= lock {
+        return THREAD_ROOM;
+    }
+    if hold { HELD + lock } else { SHARED + lock }
+}
+
+// The count of a lock, by hold or by share.
+pub fn count(thread: &[usize], lock: usize, hold: bool) -> usize
     requires { ⌜ threadRoom ≤ length (now thread) ⌝ }
 {
-    if LOCK_COUNT <= lock {
+    let i = count_place(lock, hold);
+    if THREAD_ROOM <= i { 0 } else { thread[i] }
+}
+
+// Sets a count: whether there is such a lock.
+fn set_count(thread: &mut [usize], lock: usize, hold: bool, x: usize) -> bool
+    requires { ⌜ threadRoom ≤ length (now thread) ⌝ }
+{
+    let i = count_place(lock, hold);
+    if THREAD_ROOM <= i {
         return false;
     }
-    let count = thread[COUNTS + lock];
-    store(
-        thread,
-        COUNTS + lock,
-        std::num::wrapping_add_usize(count, 1),
-    );
+    store(thread, i, x);
     true
 }
 
-// The count of a lock down by 1: whether there is such a lock.
-pub fn count_down(thread: &mut [usize], lock: usize) -> bool
+// A count up by 1.
+pub fn count_up(thread: &mut [usize], lock: usize, hold: bool) -> bool
     requires { ⌜ threadRoom ≤ length (now thread) ⌝ }
 {
-    if LOCK_COUNT <= lock {
-        return false;
-    }
-    let count = thread[COUNTS + lock];
-    store(
-        thread,
-        COUNTS + lock,
-        std::num::wrapping_sub_usize(count, 1),
-    );
-    true
+    let n = count(thread, lock, hold);
+    set_count(thread, lock, hold, std::num::wrapping_add_usize(n, 1))
+}
+
+// A count down by 1.
+pub fn count_down(thread: &mut [usize], lock: usize, hold: bool) -> bool
+    requires { ⌜ threadRoom ≤ length (now thread) ⌝ }
+{
+    let n = count(thread, lock, hold);
+    set_count(thread, lock, hold, std::num::wrapping_sub_usize(n, 1))
 }

@@ -10,10 +10,13 @@ use lib.Seq.{take-suc, take-length}
 use mir.Syntax.{w8, w16, w64}
 use mir.Val.{Fits}
 use Rattle.laws.specs.Wrote.{Wrote}
-use Rattle.report_lines.specs.Lines.{pairForm, pairLine, stuckLine, stepLine, procOpen, linesOf, procOpenRoom, pairFormRoom, pairLineRoom, stuckLineRoom, stepLineRoom}
+use Rattle.columns.specs.Columns.{pairNumber, pairNumbers}
+use Rattle.columns.proofs.Numbers.{numbers-length, numbers-at}
+use Rattle.report_lines.specs.Lines.{pairForm, pairLine, stuckLine, stepLine, procOpen, linesOf, procOpenRoom, pairLineRoom, stuckLineRoom, stepLineRoom}
 use Rattle.laws.proofs.Wrote.{wrote-none, wrote-more, wrote-length}
 use Rattle.report_lines.proofs.Digits.{digits-short, number-short}
 use Rattle.report_lines.proofs.Members.{members-short}
+use Rattle.report_lines.proofs.WholeLines.{form-within}
 
 -- ---- how long a line is
 
@@ -21,17 +24,12 @@ pub proc-short : (p : ℕ) → Fits w64 p → length (procOpen p) ≤ procOpenRo
 unfolding procOpen
 proc-short p f = rw (length-append, length-append) (omega (arith, number-short p f))
 
-form-within : (w : ℕ) → length (pairForm w) ≤ pairFormRoom
-unfolding pairForm
-form-within w = rw (length-append, length-append, length-append) (omega (arith, digits-short 1 (w % 32) (omega arith), members-short (w / 32)))
-
 pub pair-short : (w : ℕ) → length (pairLine w) ≤ pairLineRoom
 unfolding pairLine
 pair-short w = rw length-append (omega (arith, form-within w))
 
--- a form's length as a rule of `omega`
-pub form-short : (w : ℕ) → Fits w64 w → length (pairForm w) ≤ pairFormRoom
-form-short w f = form-within w
+pub line-end-room : (l l₁ : List ℕ) (at i w : ℕ) → at + pairLineRoom ≤ length l → Wrote l l₁ at i (pairForm w) → i + 1 ≤ length l₁
+line-end-room l l₁ at i w room v = omega (arith, v .place, wrote-length l l₁ at i _ v, form-within w)
 
 pub stuck-short : (m : ℕ) → Fits w8 m → length (stuckLine m) ≤ stuckLineRoom
 unfolding stuckLine
@@ -87,3 +85,29 @@ module _ (line : ℕ → List ℕ) (room : ℕ) where
 
     pub joined-within : i ≤ at + length xs * room
     joined-within = rw (← whole) (j .within)
+
+-- ---- the same of pairs in two columns
+
+module _ (line : ℕ → List ℕ) (room : ℕ) (out₀ out ms ks : List ℕ) (at i k : ℕ) (same : length ms ≤ length ks) (j : Joined line room out₀ out at i k (pairNumbers ms ks)) where
+  sized : length (pairNumbers ms ks) ≡ length ms
+  sized = numbers-length ms ks ∙ omega arith
+
+  pub columns-room : k < length ms → at + length ms * room ≤ length out₀ → i + room ≤ length out
+  columns-room h r = joined-room line room out₀ out (pairNumbers ms ks) at i k (rw sized h) j (rw sized r)
+
+  pub columns-more : k < length ms → (out′ : List ℕ) (i′ : ℕ) → length (line (pairNumber (getD ms k 0) (getD ks k 0))) ≤ room → Wrote out out′ i i′ (line (pairNumber (getD ms k 0) (getD ks k 0)))
+      → Joined line room out₀ out′ at i′ (k + 1) (pairNumbers ms ks)
+  columns-more h out′ i′ short w =
+      let e = numbers-at ms ks k h (omega arith) in
+      joined-more line room out₀ out (pairNumbers ms ks) at i k (rw sized h) j out′ i′ (rw e short) (rw e w)
+
+  module _ (h : length ms ≤ k) (b : k ≤ length ms) where
+    pub columns-done : Wrote out₀ out at i (linesOf line (pairNumbers ms ks))
+    columns-done = joined-done line room out₀ out (pairNumbers ms ks) at i k (rw sized h) (rw sized b) j
+
+    pub columns-within : i ≤ at + length ms * room
+    columns-within = rw sized at (joined-within line room out₀ out (pairNumbers ms ks) at i k (rw sized h) (rw sized b) j)
+
+pub columns-none : (line : ℕ → List ℕ) (room : ℕ) (out ms ks : List ℕ) (at : ℕ) → length ms ≤ length ks → at + length ms * room ≤ length out → Joined line room out out at at 0 (pairNumbers ms ks)
+columns-none line room out ms ks at same h =
+    let e : length (pairNumbers ms ks) ≡ length ms = numbers-length ms ks ∙ omega arith in joined-none line room out (pairNumbers ms ks) at (rw e h)

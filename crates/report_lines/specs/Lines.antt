@@ -3,9 +3,12 @@ use Prim.Native.Nat.{ℕ, zero, suc, _+_, _*_, _/_, _%_}
 use mathlib.Core.Bool.{cond}
 use mathlib.Core.List.{List, [], _∷_, _++_}
 use mathlib.Core.Option.{Option, none, some}
-use lib.Dec.{ltb}
+use lib.Bits.{bitOr}
+use lib.Dec.{eqb, ltb}
+use Rattle.limits.specs.Limits.{lockCount, maskSize}
 use Rattle.laws.specs.Bytes.{bytes}
 use Rattle.laws.specs.Mask.{inMask}
+use Rattle.semantics.specs.Pairs.{hadOf, wantedWord}
 use Rattle.text.specs.declared.Refusal.{Refusal}
 
 -- "Numbers in plan texts are decimal", and so are those of the report, as case B has them: the digits of n, highest first, without a leading zero, if there are no more than k
@@ -22,10 +25,14 @@ unfoldable pub members : ℕ → ℕ → List ℕ
 members zero m = []
 members (suc k) m = members k m ++ cond (inMask m k) (k ∷ []) []
 
--- a blank and the number, for each
-unfoldable pub listed : List ℕ → List ℕ
-listed [] = []
-listed (k ∷ ks) = bytes " " ++ digits k ++ listed ks
+-- the texts of the numbers of a list, in order
+unfoldable pub linesOf : (ℕ → List ℕ) → List ℕ → List ℕ
+linesOf line [] = []
+linesOf line (x ∷ xs) = line x ++ linesOf line xs
+
+-- a blank and the number
+abbrev pub behindBlank : ℕ → List ℕ
+behindBlank k = bytes " " ++ digits k
 
 -- "The program prints `(report`"
 unfoldable pub reportOpen : List ℕ
@@ -56,10 +63,34 @@ abbrev pub unlessRefused : Option Refusal → List ℕ → List ℕ
 unlessRefused none given = given
 unlessRefused (some x) given = refusedLine (x .rule) (x .line)
 
--- "A pair line is `(pair L` with the wanted lock. The held locks follow, lowest number first": the pair has the wanted lock in its 5 lowest bits, the mask of the
--- held locks above them
+-- `(pair L`, where x is the pair's third word: "with `s` after the number for each .. wanted share"
+unfoldable pub wantedText : ℕ → List ℕ
+wantedText x = bytes "(pair " ++ digits (x / 2) ++ cond (eqb (x % 2) 0) (bytes "s") []
+
+-- a blank and lock k, where it is held in the set m of claims
+unfoldable pub heldText : ℕ → ℕ → List ℕ
+heldText m k = cond (inMask m (k + lockCount)) (behindBlank k) []
+
+-- where it is shared, "with `s` after the number"
+unfoldable pub sharedText : ℕ → ℕ → List ℕ
+sharedText m k = cond (inMask m k) (behindBlank k ++ bytes "s") []
+
+-- "a lock had both ways stands first plain, then with `s`"
+abbrev pub lockText : ℕ → ℕ → List ℕ
+lockText m k = heldText m k ++ sharedText m k
+
+-- the locks that are had in the set m, by hold or by share
+abbrev pub hadLocks : ℕ → ℕ
+hadLocks m = bitOr (m / maskSize) (m % maskSize)
+
+-- each of them, "lowest number first"
+unfoldable pub hadText : ℕ → List ℕ
+hadText m = linesOf (lockText m) (members lockCount (hadLocks m))
+
+-- "A pair line is `(pair L` with the wanted lock. The held locks follow, lowest number first"; 02, change 9: "Pair lines print as before, with `s` after the number for each shared
+-- lock or wanted share; a lock had both ways stands first plain, then with `s`."
 unfoldable pub pairForm : ℕ → List ℕ
-pairForm w = bytes "(pair " ++ digits (w % 32) ++ listed (members 64 (w / 32)) ++ bytes ")"
+pairForm w = wantedText (wantedWord w) ++ hadText (hadOf w) ++ bytes ")"
 
 -- with its line end
 unfoldable pub pairLine : ℕ → List ℕ
@@ -67,16 +98,11 @@ pairLine w = pairForm w ++ bytes "\n"
 
 -- "`(stuck T ..)` with thread numbers ascending", for a mask of threads
 unfoldable pub stuckLine : ℕ → List ℕ
-stuckLine m = bytes "(stuck" ++ listed (members 64 m) ++ bytes ")\n"
+stuckLine m = bytes "(stuck" ++ linesOf behindBlank (members 64 m) ++ bytes ")\n"
 
 -- "one `(step T C)` per entry (thread, choice)": an entry is the thread and 8 times the choice
 unfoldable pub stepLine : ℕ → List ℕ
 stepLine e = bytes "(step " ++ digits (e % 8) ++ (bytes " " ++ digits (e / 8)) ++ bytes ")\n"
-
--- one line for each number of a list, in order
-unfoldable pub linesOf : (ℕ → List ℕ) → List ℕ → List ℕ
-linesOf line [] = []
-linesOf line (x ∷ xs) = line x ++ linesOf line xs
 
 -- "for each procedure `(proc P` with its pairs and `)`"
 unfoldable pub procLines : ℕ → List ℕ → List ℕ
@@ -96,9 +122,17 @@ procOpenRoom = 6 + 20 + 1
 abbrev pub refusedLineRoom : ℕ
 refusedLineRoom = 9 + 3 + 1 + 20 + 2
 
--- for `(pair L ..)`, with a blank before each held lock
+-- for a lock that is had both ways, with blanks
+abbrev pub lockRoom : ℕ
+lockRoom = 3 + 4
+
+-- for `(pair L`
+abbrev pub wantedRoom : ℕ
+wantedRoom = 6 + 2 + 1
+
+-- for `(pair L ..)`
 abbrev pub pairFormRoom : ℕ
-pairFormRoom = 6 + 2 + 64 * 3 + 1
+pairFormRoom = wantedRoom + lockCount * lockRoom + 1
 
 -- with its line end
 abbrev pub pairLineRoom : ℕ

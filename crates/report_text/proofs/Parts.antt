@@ -3,7 +3,7 @@
 use Prim.Native.Nat.{ℕ, zero, suc, _+_, _-_, _<_, _≤_}
 use native.Mathlib.Nat.{not-suc-le-zero, le-of-suc-le-suc}
 use native.Mathlib.Omega.{arith}
-use mathlib.Core.Path.{_≡_, refl, sym, subst}
+use mathlib.Core.Path.{_≡_, refl, sym, subst, _∙_}
 use mathlib.Core.List.{List, [], _∷_}
 use lib.ListN.{length, take, getD, length-take}
 use Rattle.limits.specs.Limits.{maxPairs, maxEntries}
@@ -18,7 +18,9 @@ use Rattle.procs.specs.declared.Layout.{Layout}
 use Rattle.procs.specs.Laid.{Laid}
 use Rattle.laws.specs.Wrote.{Wrote}
 use Rattle.report_lines.specs.Lines.{reportOpen, freeLine, closing, procLines, deadlockLines, refusedLine, procLinesRoom, deadlockRoom}
-use Rattle.laws.proofs.Wrote.{wrote-none, wrote-start}
+use Rattle.laws.proofs.Wrote.{wrote-none, wrote-start, wrote-length}
+use Rattle.columns.specs.Columns.{pairNumbers}
+use Rattle.columns.proofs.Numbers.{numbers-length, numbers-take}
 use Rattle.report_text.specs.declared.Findings.{Findings}
 use Rattle.answers.specs.declared.Verdict.{Verdict}
 use Rattle.answers.specs.declared.Verdict.the-variants.{Free, Deadlock, Refused}
@@ -27,20 +29,35 @@ use Rattle.report_text.specs.Tables.{partRoom, scheduleLength, scheduleI
 
 -- ---- a procedure
 
-module _ (ws : List ℕ) (l : Layout) (p n : ℕ) (before list : List ℕ) (w : RulesKept ws) (d : Laid ws l) (h : p < l .procs)
-    (k : Wrote before list 0 n (pairList (tablePlan ws .procs) p)) where
-  pairs : take (n - 0) list ≡ pairList (tablePlan ws .procs) p
+module _ (ws : List ℕ) (l : Layout) (p n : ℕ) (ms ks ms′ ks′ : List ℕ) (w : RulesKept ws) (d : Laid ws l) (h : p < l .procs)
+    (k : Wrote (pairNumbers ms ks) (pairNumbers ms′ ks′) 0 n (pairList (tablePlan ws .procs) p)) where
+  pairs : pairNumbers (take (n - 0) ms′) (take (n - 0) ks′) ≡ pairList (tablePlan ws .procs) p
   pairs =
       let e : n - 0 ≡ n = omega arith in
-      rw e (wrote-start before list 0 n (pairList (tablePlan ws .procs) p) k refl)
+      rw e (sym (numbers-take n ms′ ks′) ∙ wrote-start (pairNumbers ms ks) (pairNumbers ms′ ks′) 0 n (pairList (tablePlan ws .procs) p) k refl)
 
-  few : length (take (n - 0) list) ≤ maxPairs
-  few = rw pairs (few-pairs ws w p (omega (arith, d .procs-all)))
+  inside : n ≤ length (pairNumbers ms′ ks′)
+  inside = omega (arith, k .fits, wrote-length (pairNumbers ms ks) (pairNumbers ms′ ks′) 0 n (pairList (tablePlan ws .procs) p) k)
 
-  pub procedure-room : (out : List ℕ) → partRoom ≤ length out → 0 + procLinesRoom (length (take (n - 0) list)) ≤ length out
+  pub within-masks : n ≤ length ms′
+  within-masks = omega (arith, inside, numbers-length ms′ ks′)
+
+  pub within-codes : n ≤ length ks′
+  within-codes = omega (arith, inside, numbers-length ms′ ks′)
+
+  pub procedure-codes : length (take (n - 0) ms′) ≤ length (take (n - 0) ks′)
+  procedure-codes = omega (arith, within-codes, length-take (n - 0) ms′, length-take (n - 0) ks′)
+
+  few : length (take (n - 0) ms′) ≤ maxPairs
+  few =
+      let z : length (pairNumbers (take (n - 0) ms′) (take (n - 0) ks′)) ≤ maxPairs = rw pairs (few-pairs ws w p (omega (arith, d .procs-all))) in
+      omega (arith, z, numbers-length (take (n - 0) ms′) (take (n - 0) ks′), procedure-codes)
+
+  pub procedure-room : (out : List ℕ) → partRoom ≤ length out → 0 + procLinesRoom (length (take (n - 0) ms′)) ≤ length out
   procedure-room out r = omega (arith, few)
 
-  pub procedure-lines : (out out′ : List ℕ) (i : ℕ) → Wrote out out′ 0 i (procLines p (take (n - 0) list)) → Wrote out out′ 0 i (procLines p (pairList (tablePlan ws .procs) p))
+  pub procedure-lines : (out out′ : List ℕ) (i : ℕ) → Wrote out out′ 0 i (procLines p (pairNumbers (take (n - 0) ms′) (take (n - 0) ks′)))
+      → Wrote out out′ 0 i (procLines p (pairList (tablePlan ws .procs) p))
   procedure-lines out out′ i v = subst (λ l. Wrote out out′ 0 i (procLines p l)) pairs v
 
 module _ (j : Findings) (table : List ℕ) (t : ProcTables j table) where

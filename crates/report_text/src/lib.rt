@@ -17,7 +17,7 @@ use plan::Reading;
 use procs::Layout;
 use report_lines::PAIR_FORM_ROOM;
 
-// Bytes that suffice for a part of the report, most for the lines of a procedure: the opening and closing lines, and a line for each pair with room for 64 held locks.
+// Bytes that suffice for a part of the report, most for the lines of a procedure: the opening and closing lines, and a line for each pair with room for each lock both ways.
 const PROC_OPEN_ROOM: usize = 6 + 20 + 1;
 
 const PAIR_LINE_ROOM: usize = PAIR_FORM_ROOM + 1;
@@ -68,19 +68,20 @@ pub fn judge_text(text: &[u8], table: &mut [u64], entries: &mut [u16]) -> Findin
     }
 }
 
-// The lines of procedure p of a table.
+// The lines of procedure p of a table, by way of two columns of pairs.
 fn put_pair_lines(
     table: &[u64],
     layout: Layout,
     p: usize,
-    list: &mut [u64],
+    masks: &mut [u64],
+    codes: &mut [u32],
     out: &mut [u8],
 ) -> usize
-    requires { ⌜ RulesKept (now table) × Laid (now table) layout × (p < layout .procs) × (maxPairs ≤ length (now list)) × (partRoom ≤ length (now out)) ⌝ }
+    requires { ⌜ RulesKept (now table) × Laid (now table) layout × (p < layout .procs) × (maxPairs ≤ length (now masks)) × (maxPairs ≤ length (now codes)) × (partRoom ≤ length (now out)) ⌝ }
     ensures { λ r. ⌜ Wrote (now (out .entry)) (now (out .exit)) 0 r (procLines p (pairList (tablePlan (now (table .entry)) .procs) p)) ⌝ }
 {
-    let n = pairs::collect_pairs(table, layout, p, list);
-    report_lines::put_proc_lines(out, 0, p, &list[0..n])
+    let n = pairs::collect_columns(table, layout, p, masks, codes);
+    report_lines::put_proc_lines(out, 0, p, &masks[0..n], &codes[0..n])
 }
 
 // The part of procedure p.
@@ -89,8 +90,16 @@ fn put_procedure(findings: Findings, table: &[u64], p: usize, out: &mut [u8]) ->
     ensures { λ r. ⌜ Wrote (now (out .entry)) (now (out .exit)) 0 r (procLines p (pairList (tablePlan (take (findings .forms) (now (table .entry))) .procs) p)) ⌝ }
 {
     let forms = findings.forms;
-    let mut list = [0u64; MAX_PAIRS];
-    put_pair_lines(&table[0..forms], findings.layout, p, &mut list, out)
+    let mut masks = [0u64; MAX_PAIRS];
+    let mut codes = [0u32; MAX_PAIRS];
+    put_pair_lines(
+        &table[0..forms],
+        findings.layout,
+        p,
+        &mut masks,
+        &mut codes,
+        out,
+    )
 }
 
 // The part of the verdict.

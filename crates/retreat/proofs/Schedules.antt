@@ -1,7 +1,7 @@
 -- Tables that are right for a plan and a cycle are paths of its threads (`Paths`), at whose ends each member stands before the hold of its pair
 -- (`AtCycle`). So the way back starts at the theory's first target, and where it has come to the start the entries are a schedule, with the set that
 -- the rounds give.
-use Prim.Native.Nat.{ℕ, zero, suc, _+_, _-_, _/_, _<_, _≤_}
+use Prim.Native.Nat.{ℕ, zero, suc, _+_, _-_, _%_, _<_, _≤_}
 use native.Mathlib.Omega.{arith}
 use mathlib.Core.Path.{_≡_, refl, sym, ap, _∙_, subst}
 use mathlib.Core.Logic.{_⊎_, inl, inr, ⊎-elim, _≢_}
@@ -9,26 +9,27 @@ use mathlib.Core.List.{List, []}
 use lib.Dec.{T, eqb, eqb→eq, eqb-refl}
 use lib.ListN.{length, getD, take, drop, length-drop, length-map, List·getD-map}
 use lib.Seq.{take-length, length-take-le, getD-take, getD-drop}
-use Rattle.limits.specs.Limits.{maxThreads, lockCount, maskSize, maxSize, maxEntries}
+use Rattle.limits.specs.Limits.{maxThreads, maxSize, maxEntries}
 use Rattle.laws.specs.Mask.{inMask}
 use Rattle.laws.specs.Wrote.{Wrote}
 use Rattle.laws.proofs.Tests.{search-below}
-use Rattle.semantics.specs.Plan.{Block, done, hold, _⨾_, bodyIn, LockPlan, Plain}
+use Rattle.semantics.specs.Plan.{Block, done, hold, _⨾_, bodyIn, LockPlan}
 use Rattle.semantics.specs.Run.{ThreadState, thread, initial, unlocked}
 use Rattle.semantics.specs.Sizes.{sizeOf, threadSize, threadSizes}
 use Rattle.semantics.specs.Stuck.{Schedule}
-use Rattle.semantics.specs.Pairs.{held, heldOf, wantedOf}
-use Rattle.semantics.specs.Retreat.{heldMask, Paths, GoingBack}
-use Rattle.semantics.proofs.Ground.LockSets.{held-lt}
+use Rattle.semantics.specs.Pairs.{had, hadOf, wantedOf}
+use Rattle.semantics.specs.Retreat.{hadMask, Paths, GoingBack}
+use Rattle.semantics.proofs.Ground.Claims.{pair-had, pair-wants}
 use Rattle.semantics.proofs.Thread.Remainders.{plain-body}
-use Rattle.semantics.proofs.Thread.Balance.{balanced-plain}
 use Rattle.semantics.specs.Execution.{stateAfter}
-use Rattle.semantics.proofs.Thread.Execution.{balanced-at}
 use Rattle.semantics.specs.StuckRounds.{stuckRounds}
-use Rattle.semantics.specs.Paths.{choices, choiceOf, maskAt, Stands, Finds}
-use Rattle.semantics.proofs.Analysis.Paths.{stands-first, stands-last, stands-masks, stands-execution}
+use Rattle.columns.specs.Columns.{steps}
+use Rattle.columns.proofs.Steps.{steps-length, steps-at, step-choice, step-mask}
+use Rattle.semantics.specs.Paths.{stepOf, choices as choicesOf, choiceOf, maskIn, maskAt, Stands}
+use Rattle.semantics.proofs.Analysis.Paths.{stands-first, stands-last, stands-masks}
 use Rattle.semantics.proofs.Retreat.RetreatMoves.{paths-of, AtCycle, cycle-target, finished, finished-schedule, paths-short}
 use Rattle.retreat.specs.declared.Targets.{Targets}
+use Rattle.retreat.specs.declared.Outcome.{Outcome}
 use Rattle.retreat.specs.Paths.{rowStart, pathOf, masksOf, choiceAt, Holding}
 use Rattle.retreat.specs.Moves.{AtStart, stepsLeft, State, state, Retreats, WentBack}
 use Rattle.retreat.specs.Answer.{TargetsFit, Right, Scheduled}
@@ -36,39 +37,35 @@ use Rattle.retreat.proofs.HeldLocks.{within-at}
 
 -- ---- a path in its row
 
-module _ (steps lens : List ℕ) (t : ℕ) (long : maxEntries ≤ length steps) (low : t < maxThreads) (short : getD lens t 0 ≤ maxSize) where
-  path-length : length (pathOf steps lens t) ≡ getD lens t 0
+module _ (choices rows lens : List ℕ) (t : ℕ) (turns : maxEntries ≤ length choices) (long : maxEntries ≤ length rows) (low : t < maxThreads) (short : getD lens t 0 ≤ maxSize) where
+  path-length : length (pathOf choices rows lens t) ≡ getD lens t 0
   unfolding pathOf
-  path-length = length-take-le (getD lens t 0) (drop (rowStart t) steps) (rw (length-drop (rowStart t) steps) (omega arith))
+  path-length =
+      length-take-le (getD lens t 0) (drop (rowStart t) (steps choices rows))
+      (rw (length-drop (rowStart t) (steps choices rows)) (omega (arith, steps-length choices rows)))
 
-  step-at : (j : ℕ) → j < getD lens t 0 → getD (pathOf steps lens t) j 0 ≡ getD steps (rowStart t + j) 0
+  step-at : (j : ℕ) → j < getD lens t 0 → getD (pathOf choices rows lens t) j 0 ≡ stepOf (getD choices (rowStart t + j) 0 % 4) (getD rows (rowStart t + j) 0)
   unfolding pathOf
-  step-at j h = getD-take (getD lens t 0) (drop (rowStart t) steps) j 0 h ∙ getD-drop (rowStart t) steps j 0
+  step-at j h =
+      getD-take (getD lens t 0) (drop (rowStart t) (steps choices rows)) j 0 h ∙ getD-drop (rowStart t) (steps choices rows) j 0
+      ∙ steps-at choices rows (rowStart t + j) (omega arith) (omega arith)
 
-  path-choice : (j : ℕ) → j < length (choices (pathOf steps lens t)) → getD (choices (pathOf steps lens t)) j 0 ≡ choiceAt steps t j
+  path-choice : (j : ℕ) → j < length (choicesOf (pathOf choices rows lens t)) → getD (choicesOf (pathOf choices rows lens t)) j 0 ≡ choiceAt choices t j
   unfolding choiceAt
   path-choice j h =
-      List·getD-map choiceOf (pathOf steps lens t) j 0
-      ∙ ap choiceOf (step-at j (omega (arith, h, length-map (pathOf steps lens t) choiceOf, path-length)))
+      List·getD-map choiceOf (pathOf choices rows lens t) j 0
+      ∙ ap choiceOf (step-at j (omega (arith, h, length-map (pathOf choices rows lens t) choiceOf, path-length)))
+      ∙ step-choice (getD choices (rowStart t + j) 0) (getD rows (rowStart t + j) 0)
 
-  path-mask : (j : ℕ) → j ≤ getD lens t 0 → getD (masksOf steps t) j 0 ≡ maskAt (pathOf steps lens t) j
+  path-mask : (j : ℕ) → j ≤ getD lens t 0 → getD (masksOf rows t) j 0 ≡ maskAt (pathOf choices rows lens t) j
   unfolding masksOf
   path-mask zero h = refl
   path-mask (suc j) h =
-      List·getD-map (λ e. e / 4) (drop (rowStart t) steps) j 0 ∙ ap (λ e. e / 4) (getD-drop (rowStart t) steps j 0 ∙ sym (step-at j (omega arith)))
+      getD-drop (rowStart t) rows j 0 ∙ sym (ap maskIn (step-at j (omega arith)) ∙ step-mask (getD choices (rowStart t + j) 0) (getD rows (rowStart t + j) 0))
 
-  -- the masks along the path of a procedure are of the 32 locks
-  pub path-locks : (ps : List Block) (p w : ℕ) → ((q : ℕ) → Plain (bodyIn ps q)) → Finds ps (initial ps p) w (pathOf steps lens t)
-      → (j : ℕ) → j ≤ getD lens t 0 → getD (masksOf steps t) j 0 < maskSize
-  path-locks ps p w bodies f j h =
-      let le : j ≤ length (pathOf steps lens t) = omega (arith, path-length) in
-      let b = balanced-at bodies (bodies p) (balanced-plain (bodyIn ps p) (bodies p)) (stands-execution (f .stands)) j
-      (omega (arith, le, length-map (pathOf steps lens t) choiceOf)) in
-      rw (path-mask j h ∙ stands-masks ps p (f .stands) j le) (held-lt lockCount _ (omega (arith, b .size)))
-
-path-none : (steps lens : List ℕ) (t : ℕ) → getD lens t 0 ≡ 0 → pathOf steps lens t ≡ []
+path-none : (choices rows lens : List ℕ) (t : ℕ) → getD lens t 0 ≡ 0 → pathOf choices rows lens t ≡ []
 unfolding pathOf
-path-none steps lens t e = rw e
+path-none choices rows lens t e = rw e
 
 -- a path of procedure p leads somewhere
 record PathLeads (ps : List Block) (p : ℕ) (path : List ℕ) : Type 0 where
@@ -83,8 +80,8 @@ leads-nowhere ps p path e =
 
 -- ---- what is right for a plan and a cycle of its threads
 
-module _ (plan : LockPlan) (vss : List (List ℕ)) (k : ℕ) (threadOf pair : ℕ → ℕ) (steps : List ℕ) (targets : Targets)
-    (r : Right plan vss k threadOf pair steps targets) (fit : TargetsFit steps targets) where
+module _ (plan : LockPlan) (vss : List (List ℕ)) (k : ℕ) (threadOf pair : ℕ → ℕ) (choices rows : List ℕ) (targets : Targets)
+    (r : Right plan vss k threadOf pair choices rows targets) (fit : TargetsFit choices rows targets) where
   abbrev ps : List Block
   ps = plan .procs
 
@@ -98,10 +95,10 @@ module _ (plan : LockPlan) (vss : List (List ℕ)) (k : ℕ) (threadOf pair : �
   procAt t = getD (plan .threads) t 0
 
   abbrev path : ℕ → List ℕ
-  path t = pathOf steps lens t
+  path t = pathOf choices rows lens t
 
   abbrev P : ℕ → List ℕ
-  P t = choices (path t)
+  P t = choicesOf (path t)
 
   abbrev s : ℕ → ℕ → ThreadState
   s t = stateAfter ps (initial ps (procAt t)) (P t)
@@ -120,13 +117,13 @@ module _ (plan : LockPlan) (vss : List (List ℕ)) (k : ℕ) (threadOf pair : �
   below t b = omega (arith, r .all)
 
   in-row : (t : ℕ) → t < n → getD lens t 0 ≤ maxSize
-  in-row t b = within-at steps lens (targets .threads) t (fit .in-rows) (below t b)
+  in-row t b = within-at lens (targets .threads) t (fit .in-rows) (below t b)
 
   at : (t : ℕ) → t < n → getD first-at t 0 ≡ getD lens t 0
   at t b = getD-take n lens t 0 b
 
   sized : (t : ℕ) → t < n → length (path t) ≡ getD lens t 0
-  sized t b = path-length steps lens t (fit .paths) (omega (arith, few)) (in-row t b)
+  sized t b = path-length choices rows lens t (fit .turns) (fit .paths) (omega (arith, few)) (in-row t b)
 
   -- a thread is a member of the cycle or not
   member-or : (t : ℕ) → ((i : ℕ) × (i < k) × (threadOf i ≡ t)) ⊎ ((i : ℕ) → i < k → threadOf i ≢ t)
@@ -141,19 +138,19 @@ module _ (plan : LockPlan) (vss : List (List ℕ)) (k : ℕ) (threadOf pair : �
       (λ (q : (i : ℕ) × (i < k) × (threadOf i ≡ t)).
       let f = r .path (q .0) (q .1) in
       subst (λ u. PathLeads ps (procAt u) (path u)) (q .2)
-      (record { mask = f .mask; count = f .count; rest = hold (f .lock) (f .inside) (f .following); stands = f .stands }))
-      (λ (q : (i : ℕ) → i < k → threadOf i ≢ t). leads-nowhere ps (procAt t) (path t) (path-none steps lens t (r .others t (below t b) q .0)))
+      (record { mask = f .mask; count = f .count; rest = hold (f .claim) (f .inside) (f .following); stands = f .stands }))
+      (λ (q : (i : ℕ) → i < k → threadOf i ≢ t). leads-nowhere ps (procAt t) (path t) (path-none choices rows lens t (r .others t (below t b) q .0)))
       (member-or t)
 
-  table-masks : (t j : ℕ) → t < n → j ≤ length (P t) → getD (masksOf steps t) j 0 ≡ heldMask (s t j)
+  table-masks : (t j : ℕ) → t < n → j ≤ length (P t) → getD (masksOf rows t) j 0 ≡ hadMask (s t j)
   table-masks t j b l =
       let le : j ≤ length (path t) = omega (arith, l, length-map (path t) choiceOf) in
-      path-mask steps lens t (fit .paths) (omega (arith, few)) (in-row t b) j (omega (arith, le, sized t b))
+      path-mask choices rows lens t (fit .turns) (fit .paths) (omega (arith, few)) (in-row t b) j (omega (arith, le, sized t b))
       ∙ stands-masks ps (procAt t) ((leads t b) .stands) j le
 
-  paths : Paths ps (plan .threads) P s (masksOf steps) (targets .begins)
+  paths : Paths ps (plan .threads) P s (masksOf rows) (targets .begins)
   paths =
-      paths-of ps (plan .threads) P (masksOf steps) (targets .begins) (plain-body (r .ranks .sound)) (omega (arith, few))
+      paths-of ps (plan .threads) P (masksOf rows) (targets .begins) (plain-body (r .ranks .sound)) (omega (arith, few))
       (λ t b. let q = leads t b in (thread (q .rest) (q .count), q .stands .leads)) table-masks (λ t b. r .begins-with t (below t b))
 
   inside : (t : ℕ) → t < n → getD first-at t 0 ≤ length (P t)
@@ -161,16 +158,16 @@ module _ (plan : LockPlan) (vss : List (List ℕ)) (k : ℕ) (threadOf pair : �
 
   -- at the end of its path a member stands before the hold of its pair
   member-ends : (i : ℕ) (b : i < k) → s (threadOf i) (getD first-at (threadOf i) 0)
-      ≡ thread (hold ((r .path i b) .lock) ((r .path i b) .inside) ((r .path i b) .following)) ((r .path i b) .count)
+      ≡ thread (hold ((r .path i b) .claim) ((r .path i b) .inside) ((r .path i b) .following)) ((r .path i b) .count)
   member-ends i b =
       let c = present i b in
       ap (s (threadOf i)) (at (threadOf i) c ∙ sym (sized (threadOf i) c)) ∙ stands-last ((r .path i b) .stands)
 
-  member-wants : (i : ℕ) (b : i < k) → (r .path i b) .lock ≡ wantedOf (pair i)
-  member-wants i b = let f = r .path i b in omega (arith, f .pair, f .small)
+  member-wants : (i : ℕ) (b : i < k) → (r .path i b) .claim ≡ wantedOf (pair i)
+  member-wants i b = let f = r .path i b in sym (ap wantedOf (f .pair) ∙ pair-wants (had (f .count)) (f .claim) (f .small))
 
-  member-holds : (i : ℕ) (b : i < k) → held ((r .path i b) .count) ≡ heldOf (pair i)
-  member-holds i b = let f = r .path i b in omega (arith, f .pair, f .small)
+  member-holds : (i : ℕ) (b : i < k) → had ((r .path i b) .count) ≡ hadOf (pair i)
+  member-holds i b = let f = r .path i b in sym (ap hadOf (f .pair) ∙ pair-had (had (f .count)) (f .claim) (f .small))
 
   -- no path is longer than its thread's size, so that together they ask for no more steps than a schedule may have
   within : (t : ℕ) → t < n → getD lens t 0 ≤ threadSize plan t
@@ -185,8 +182,8 @@ module _ (plan : LockPlan) (vss : List (List ℕ)) (k : ℕ) (threadOf pair : �
   targets-short = rw (r .all) (paths-short plan lens within)
 
   -- with what the threads hold at the paths' ends
-  module _ (masks : List ℕ) (h : Holding steps lens masks (targets .threads)) where
-    at-cycle : AtCycle n s (masksOf steps) (targets .begins) k threadOf pair first-at (targets .wanted) masks
+  module _ (masks : List ℕ) (h : Holding rows lens masks (targets .threads)) where
+    at-cycle : AtCycle n s (masksOf rows) (targets .begins) k threadOf pair first-at (targets .wanted) masks
     unfolding Holding
     at-cycle = record {
       size = length-take-le n lens (omega (arith, few, fit .full .positions-full));
@@ -194,23 +191,23 @@ module _ (plan : LockPlan) (vss : List (List ℕ)) (k : ℕ) (threadOf pair : �
       stands = λ i b. let f = r .path i b in
           (f .inside, f .following, ap (λ x. x .rest) (member-ends i b) ∙ ap (λ l. hold l (f .inside) (f .following)) (member-wants i b));
       holds = λ i b. let c = present i b in
-          table-masks (threadOf i) (getD first-at (threadOf i) 0) c (inside (threadOf i) c) ∙ ap heldMask (member-ends i b) ∙ member-holds i b;
+          table-masks (threadOf i) (getD first-at (threadOf i) 0) c (inside (threadOf i) c) ∙ ap hadMask (member-ends i b) ∙ member-holds i b;
       wants = r .wants;
       others = λ t b f. let q = r .others t (below t b) f in (at t b ∙ q .0, q .1);
-      mask = λ t b. h t (below t b) ∙ ap (λ j. getD (masksOf steps t) j 0) (sym (at t b));
+      mask = λ t b. h t (below t b) ∙ ap (λ j. getD (masksOf rows t) j 0) (sym (at t b));
     }
 
     first : GoingBack ps n P s (threadSizes plan) first-at [] (targets .wanted) masks
     first = cycle-target paths (r .cycle) at-cycle inside (threadSizes plan) (paths-short plan first-at (λ t b. rw (at t b) (within t b)))
 
     -- what the way back to the start ends with
-    ended : (last : State) (es : List ℕ) → Retreats steps (targets .begins) (targets .threads) (state lens (targets .wanted) masks) last es
+    ended : (last : State) (es : List ℕ) → Retreats choices rows (targets .begins) (targets .threads) (state lens (targets .wanted) masks) last es
         → AtStart (last .positions) (targets .threads) → Schedule plan es (inMask (stuckRounds (targets .threads) (targets .threads) (last .wanted) (last .masks)))
     unfolding AtStart
     ended last es b z =
         let e = r .all in
         let g = b .leads ps (plan .threads) P s (threadSizes plan) (sym e)
-        (λ t j c l. let d : t < n = omega (arith, e) in path-choice steps lens t (fit .paths) (omega (arith, few)) (in-row t d) j l) paths (rw e first) in
+        (λ t j c l. let d : t < n = omega (arith, e) in path-choice choices rows lens t (fit .turns) (fit .paths) (omega (arith, few)) (in-row t d) j l) paths (rw e first) in
         rw e (finished-schedule plan (r .ranks .rank) (r .ranks .sound) (finished paths g (λ t c. getD-take (targets .threads) (last .positions) t 0 (below t c) ∙ z t (below t c))))
 
 -- the entries from a place on to the end, as a part of the table
@@ -225,13 +222,13 @@ pub rest-wrote : (table before after : List ℕ) (d : ℕ) → Wrote before afte
 rest-wrote table before after d w = rw (rest-of table d, length-drop d table) at w
 
 -- the answer, in the shape of the function's need
-pub scheduled : (steps : List ℕ) (targets : Targets) (masks : List ℕ) (last : State) (es before after : List ℕ) (count stuck : ℕ) → TargetsFit steps targets
-    → Holding steps (targets .positions) masks (targets .threads)
-    → WentBack steps (targets .begins) (targets .threads) (state (targets .positions) (targets .wanted) masks) last es
-    → Wrote before after 0 count es → stuck ≡ stuckRounds (targets .threads) (targets .threads) (last .wanted) (last .masks)
-    → Scheduled steps targets before count stuck after
-scheduled steps targets masks last es before after count stuck fit h went wrote e = record {
+pub scheduled : (choices rows : List ℕ) (targets : Targets) (masks : List ℕ) (last : State) (es before after : List ℕ) (o : Outcome) → TargetsFit choices rows targets
+    → Holding rows (targets .positions) masks (targets .threads)
+    → WentBack choices rows (targets .begins) (targets .threads) (state (targets .positions) (targets .wanted) masks) last es
+    → Wrote before after 0 (o .entries) es → o .stuck ≡ stuckRounds (targets .threads) (targets .threads) (last .wanted) (last .masks)
+    → Scheduled choices rows targets before o after
+scheduled choices rows targets masks last es before after o fit h went wrote e = record {
   entries = es;
-  schedule = λ plan vss k threadOf pair r. rw e (ended plan vss k threadOf pair steps targets r fit masks h last es (went .retreats) (went .ended));
+  schedule = λ plan vss k threadOf pair r. rw e (ended plan vss k threadOf pair choices rows targets r fit masks h last es (went .retreats) (went .ended));
   wrote = wrote;
 }

@@ -1,4 +1,4 @@
--- The largest stuck set by rounds: what the members hold, the threads that want a lock, a round and the rounds, each growing by a thread or a round; and
+-- The largest stuck set by rounds: what may not stand beside what the members have, the threads that want a claim, a round and the rounds, each growing by a thread or a round; and
 -- what one thread adds to each.
 use Prim.Native.Nat.{ℕ, _+_, _*_, _%_, _^_, _<_, _≤_}
 use native.Mathlib.Numerals.{add-one}
@@ -13,21 +13,22 @@ use lib.ListN.{getD}
 use Rattle.limits.specs.Limits.{maxThreads}
 use Rattle.laws.specs.Mask.{inMask, maskOf}
 use Rattle.laws.proofs.Masks.{shl-one, mask-more}
+use Rattle.semantics.specs.Conflict.{bars}
 use Rattle.semantics.specs.Joins.{joinBelow, otherThan}
-use Rattle.semantics.specs.StuckRounds.{heldByMembers, waitsIn, wanting, stuckRound, stuckRounds}
+use Rattle.semantics.specs.StuckRounds.{barredByMembers, waitsIn, wanting, stuckRound, stuckRounds}
 use Rattle.retreat.proofs.HeldLocks.{join-more, same-end}
 
 module _ (masks : List ℕ) (m t : ℕ) where
-  pub members-none : 0 ≡ heldByMembers 0 masks m t
-  unfolding heldByMembers joinBelow
+  pub members-none : 0 ≡ barredByMembers 0 masks m t
+  unfolding barredByMembers joinBelow
   members-none = refl
 
-  pub members-more : (i r x : ℕ) → r ≡ heldByMembers i masks m t → x ≡ cond (inMask m i && not (eqb i t)) (getD masks i 0) 0
-      → bitOr r x ≡ heldByMembers (i + 1) masks m t
-  unfolding heldByMembers
-  members-more i r x e h = join-more (λ u. inMask m u && not (eqb u t)) (λ u. getD masks u 0) i r x e h
+  pub members-more : (i r x : ℕ) → r ≡ barredByMembers i masks m t → x ≡ cond (inMask m i && not (eqb i t)) (bars (getD masks i 0)) 0
+      → bitOr r x ≡ barredByMembers (i + 1) masks m t
+  unfolding barredByMembers
+  members-more i r x e h = join-more (λ u. inMask m u && not (eqb u t)) (λ u. bars (getD masks u 0)) i r x e h
 
-  pub members-done : (i n r : ℕ) → i ≤ n → n ≤ i → r ≡ heldByMembers i masks m t → r ≡ heldByMembers n masks m t
+  pub members-done : (i n r : ℕ) → i ≤ n → n ≤ i → r ≡ barredByMembers i masks m t → r ≡ barredByMembers n masks m t
   members-done i n r a b e = rw (← same-end i n a b) e
 
 module _ (wanted : List ℕ) where
@@ -73,8 +74,8 @@ module _ (wanted masks : List ℕ) (n m : ℕ) where
 
 -- ---- what one thread adds
 
-pub member-holds : (masks : List ℕ) (m u t : ℕ) (q : Bool) (r : ℕ) → q ≡ inMask m u → q ≡ true → r ≡ cond (otherThan t u) (getD masks u 0) 0
-    → r ≡ cond (inMask m u && not (eqb u t)) (getD masks u 0) 0
+pub member-holds : (masks : List ℕ) (m u t : ℕ) (q : Bool) (r : ℕ) → q ≡ inMask m u → q ≡ true → r ≡ cond (otherThan t u) (bars (getD masks u 0)) 0
+    → r ≡ cond (inMask m u && not (eqb u t)) (bars (getD masks u 0)) 0
 member-holds masks m u t q r e h k = rw (← e, h) k
 
 pub no-member : (m u x : ℕ) (b q : Bool) → q ≡ inMask m u → q ≡ false → 0 ≡ cond (inMask m u && b) x 0
@@ -86,7 +87,7 @@ wants-bit wanted t h k = rw (lt-ltb 0 (getD wanted t 0) h) (shl-one 8 t (omega a
 pub wants-none : (wanted : List ℕ) (t : ℕ) → getD wanted t 0 ≤ 0 → 0 ≡ cond (ltb 0 (getD wanted t 0)) (2 ^ t) 0
 wants-none wanted t h = rw (le-ltb 0 (getD wanted t 0) h)
 
-module _ (wanted masks : List ℕ) (n m t b : ℕ) (q : Bool) (e : q ≡ inMask m t) (h : q ≡ true) (f : b ≡ heldByMembers n masks m t) where
+module _ (wanted masks : List ℕ) (n m t b : ℕ) (q : Bool) (e : q ≡ inMask m t) (h : q ≡ true) (f : b ≡ barredByMembers n masks m t) where
   pub waits-not : bitAnd (getD wanted t 0) b ≡ 0 → 0 ≡ cond (inMask m t && waitsIn n wanted masks m t) (2 ^ t) 0
   waits-not z = rw (← e, h, ← f, z)
 

@@ -16,6 +16,7 @@ use Rattle.semantics.specs.Cycle.{Cycle}
 use Rattle.semantics.specs.StuckRounds.{firstWanted}
 use Rattle.semantics.specs.Paths.{Finds}
 use Rattle.retreat.specs.declared.Targets.{Targets}
+use Rattle.retreat.specs.declared.Outcome.{Outcome}
 use Rattle.retreat.specs.Paths.{pathOf, InRows}
 
 -- the tables have room for each thread
@@ -25,28 +26,29 @@ pub record TargetsFull (t : Targets) : Type 0 where
   pub wanted-full : maxThreads ≡ length (t .wanted)
 
 -- the tables are full, and the paths are within the rows
-pub record TargetsFit (steps : List ℕ) (t : Targets) : Type 0 where
-  pub paths : maxEntries ≤ length steps
+pub record TargetsFit (choices rows : List ℕ) (t : Targets) : Type 0 where
+  pub paths : maxEntries ≤ length rows
+  pub turns : maxEntries ≤ length choices
   pub few : t .threads ≤ maxThreads
   pub full : TargetsFull t
-  pub in-rows : InRows steps (t .positions) (t .threads)
+  pub in-rows : InRows (t .positions) (t .threads)
 
--- The tables are right for the plan, within rule 12, and a cycle of k of its threads, member i with its pair: the steps and positions have a path to the
--- hold of each member's pair and none for the other threads, `begins` the lock that each thread's block begins with a hold of, and `wanted` what each
+-- The tables are right for the plan, within rule 12, and a cycle of k of its threads, member i with its pair: the columns and positions have a path to the
+-- hold of each member's pair and none for the other threads, `begins` the claim that each thread's block begins with, and `wanted` what each
 -- thread wants at its path's end.
-pub record Right (plan : LockPlan) (vss : List (List ℕ)) (k : ℕ) (thread pair : ℕ → ℕ) (steps : List ℕ) (t : Targets) : Type 0 where
+pub record Right (plan : LockPlan) (vss : List (List ℕ)) (k : ℕ) (thread pair : ℕ → ℕ) (choices rows : List ℕ) (t : Targets) : Type 0 where
   pub all : t .threads ≡ length (plan .threads)
   pub ranks : Ranks (plan .procs)
   pub cycle : Cycle vss k thread pair
   pub present : (i : ℕ) → i < k → thread i < t .threads
-  pub path : (i : ℕ) → i < k → Finds (plan .procs) (initial (plan .procs) (threadProc plan (thread i))) (pair i) (pathOf steps (t .positions) (thread i))
+  pub path : (i : ℕ) → i < k → Finds (plan .procs) (initial (plan .procs) (threadProc plan (thread i))) (pair i) (pathOf choices rows (t .positions) (thread i))
   pub short : (i : ℕ) → i < k → getD (t .positions) (thread i) 0 ≤ sizeOf (plan .procs) (threadProc plan (thread i))
   pub wants : (i : ℕ) → i < k → getD (t .wanted) (thread i) 0 ≡ 2 ^ wantedOf (pair i)
   pub others : (u : ℕ) → u < t .threads → ((i : ℕ) → i < k → thread i ≢ u) → (getD (t .positions) u 0 ≡ 0) × (getD (t .wanted) u 0 ≡ getD (t .begins) u 0)
   pub begins-with : (u : ℕ) → u < t .threads → getD (t .begins) u 0 ≡ firstWanted (bodyIn (plan .procs) (threadProc plan u))
 
 -- The entries written are a schedule of every plan that the tables are right for, with the largest stuck set at its end; the rest of the buffer is kept.
-pub record Scheduled (steps : List ℕ) (t : Targets) (before : List ℕ) (count stuck : ℕ) (after : List ℕ) : Type 0 where
+pub record Scheduled (choices rows : List ℕ) (t : Targets) (before : List ℕ) (o : Outcome) (after : List ℕ) : Type 0 where
   pub entries : List ℕ
-  pub schedule : (plan : LockPlan) (vss : List (List ℕ)) (k : ℕ) (thread pair : ℕ → ℕ) → Right plan vss k thread pair steps t → Schedule plan entries (inMask stuck)
-  pub wrote : Wrote before after 0 count entries
+  pub schedule : (plan : LockPlan) (vss : List (List ℕ)) (k : ℕ) (thread pair : ℕ → ℕ) → Right plan vss k thread pair choices rows t → Schedule plan entries (inMask (o .stuck))
+  pub wrote : Wrote before after 0 (o .entries) entries

@@ -38,14 +38,14 @@ stepsLeft positions n = total n (λ t. getD positions t 0)
 
 -- "thread + 8 × choice", for the last step of thread k
 unfoldable pub entryOf : List ℕ → List ℕ → ℕ → ℕ
-entryOf steps positions k = k + 8 * choiceAt steps k (getD positions k 0 - 1)
+entryOf choices positions k = k + 8 * choiceAt choices k (getD positions k 0 - 1)
 
 -- each thread below k landed: where it jumped to and what it wants there
 unfoldable pub Landed : List ℕ → List ℕ → ℕ → List ℕ → List ℕ → List ℕ → ℕ → Type 0
-Landed steps begins n positions positions′ wanted′ k =
-    (t : ℕ) → t < k → JumpTo (masksOf steps t) (othersAt n (masksOf steps) positions t) (getD begins t 0) (getD positions t 0) (getD positions′ t 0) (getD wanted′ t 0)
+Landed rows begins n positions positions′ wanted′ k =
+    (t : ℕ) → t < k → JumpTo (masksOf rows t) (othersAt n (masksOf rows) positions t) (getD begins t 0) (getD positions t 0) (getD positions′ t 0) (getD wanted′ t 0)
 
--- a state of the way back: the position of each thread on its path, and what each wants and holds at the last target
+-- a state of the way back: the position of each thread on its path, and what each wants and has at the last target
 pub record State : Type 0 where
   pub positions : List ℕ
   pub wanted : List ℕ
@@ -62,43 +62,44 @@ pub record StateFull (s : State) : Type 0 where
   pub masks-full : maxThreads ≤ length (s .masks)
 
 -- the paths and what the threads begin with are there, and the positions of a state are within the rows
-pub record OnWayBack (steps begins : List ℕ) (n : ℕ) (s : State) : Type 0 where
-  pub paths : maxEntries ≤ length steps
+pub record OnWayBack (choices rows begins : List ℕ) (n : ℕ) (s : State) : Type 0 where
+  pub paths : maxEntries ≤ length rows
+  pub turns : maxEntries ≤ length choices
   pub beginnings : maxThreads ≤ length begins
   pub few : n ≤ maxThreads
-  pub in-rows : InRows steps (s .positions) n
+  pub in-rows : InRows (s .positions) n
   pub sized : StateFull s
 
--- a thread that may go back did: its entry is in front, what is wanted and held at the target is as before
-pub record SteppedBack (steps : List ℕ) (n : ℕ) (s s′ : State) (es es′ : List ℕ) : Type 0 where
+-- a thread that may go back did: its entry is in front, what is wanted and had at the target is as before
+pub record SteppedBack (choices rows : List ℕ) (n : ℕ) (s s′ : State) (es es′ : List ℕ) : Type 0 where
   pub thread : ℕ
   pub present : thread < n
-  pub permitted : mayGoBack steps (s .positions) n thread ≡ true
+  pub permitted : mayGoBack rows (s .positions) n thread ≡ true
   pub moved : s′ .positions ≡ set (s .positions) thread (getD (s .positions) thread 0 - 1)
-  pub entries : es′ ≡ entryOf steps (s .positions) thread ∷ es
+  pub entries : es′ ≡ entryOf choices (s .positions) thread ∷ es
   pub wants : s′ .wanted ≡ s .wanted
   pub holds : s′ .masks ≡ s .masks
 
 -- none may go back: all jumped, the entries are forgotten
-pub record Jumped (steps begins : List ℕ) (n : ℕ) (s s′ : State) (es′ : List ℕ) : Type 0 where
-  pub landed : Landed steps begins n (s .positions) (s′ .positions) (s′ .wanted) n
-  pub holds : Holding steps (s .positions) (s′ .masks) n
+pub record Jumped (rows begins : List ℕ) (n : ℕ) (s s′ : State) (es′ : List ℕ) : Type 0 where
+  pub landed : Landed rows begins n (s .positions) (s′ .positions) (s′ .wanted) n
+  pub holds : Holding rows (s .positions) (s′ .masks) n
   pub entries : es′ ≡ []
 
 -- one move, from a state with the entries es to one with the entries es′
-unfoldable pub Turned : List ℕ → List ℕ → ℕ → State → State → List ℕ → List ℕ → Type 0
-Turned steps begins n s s′ es es′ = SteppedBack steps n s s′ es es′ ⊎ Jumped steps begins n s s′ es′
+unfoldable pub Turned : List ℕ → List ℕ → List ℕ → ℕ → State → State → List ℕ → List ℕ → Type 0
+Turned choices rows begins n s s′ es es′ = SteppedBack choices rows n s s′ es es′ ⊎ Jumped rows begins n s s′ es′
 
 -- whatever plan the paths are of: from a target that the first state is, the way back leads to the second, with the entries es
-pub record Retreats (steps begins : List ℕ) (n : ℕ) (s₀ s : State) (es : List ℕ) : Type 0 where
+pub record Retreats (choices rows begins : List ℕ) (n : ℕ) (s₀ s : State) (es : List ℕ) : Type 0 where
   pub leads : (ps : List Block) (ns : List ℕ) (P : ℕ → List ℕ) (x : ℕ → ℕ → ThreadState) (bound : ℕ) → length ns ≡ n
-      → ((t j : ℕ) → t < n → j < length (P t) → getD (P t) j 0 ≡ choiceAt steps t j)
-      → Paths ps ns P x (masksOf steps) begins
+      → ((t j : ℕ) → t < n → j < length (P t) → getD (P t) j 0 ≡ choiceAt choices t j)
+      → Paths ps ns P x (masksOf rows) begins
       → GoingBack ps (length ns) P x bound (take n (s₀ .positions)) [] (s₀ .wanted) (s₀ .masks)
       → GoingBack ps (length ns) P x bound (take n (s .positions)) es (s .wanted) (s .masks)
 
 -- The way back has come to the start, and there are no more entries than there were steps to go back at first.
-pub record WentBack (steps begins : List ℕ) (n : ℕ) (s₀ s : State) (es : List ℕ) : Type 0 where
+pub record WentBack (choices rows begins : List ℕ) (n : ℕ) (s₀ s : State) (es : List ℕ) : Type 0 where
   pub short : length es ≤ stepsLeft (s₀ .positions) n
   pub ended : AtStart (s .positions) n
-  pub retreats : Retreats steps begins n s₀ s es
+  pub retreats : Retreats choices rows begins n s₀ s es

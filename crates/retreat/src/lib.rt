@@ -2,25 +2,26 @@
 // the start to a moment with a stuck set, and the largest such set there.
 ghost use mathlib.Core.Path.{_≡_};
 ghost use mathlib.Core.Bool.{cond, not, _&&_, false};
-ghost use Prim.Native.Nat.{_+_, _-_, _*_, _^_, _≤_, _<_};
+ghost use Prim.Native.Nat.{_+_, _-_, _*_, _%_, _^_, _≤_, _<_};
 ghost use lib.Bits.{bitAnd};
 ghost use lib.Dec.{eqb, ltb};
 ghost use lib.ListN.{length, getD, set, drop};
-ghost use Rattle.limits.specs.Limits.{maxThreads, lockCount, maskSize, maxSize, maxEntries};
+ghost use Rattle.limits.specs.Limits.{maxThreads, claimCount, maxSize, maxEntries};
 ghost use Rattle.laws.specs.Mask.{bit, inMask};
+ghost use Rattle.semantics.specs.Conflict.{bars};
 ghost use Rattle.semantics.specs.Joins.{otherThan};
 ghost use Rattle.semantics.specs.Retreat.{scanBack, JumpTo};
-ghost use Rattle.semantics.specs.StuckRounds.{heldByMembers, waitsIn, wanting, stuckRound, stuckRounds};
+ghost use Rattle.semantics.specs.StuckRounds.{barredByMembers, waitsIn, wanting, stuckRound, stuckRounds};
 ghost use Rattle.laws.specs.Wrote.{Wrote};
-ghost use Rattle.retreat.specs.Paths.{masksOf, InRows, Holding, heldByOthers, mayGoBack, NoneMayGoBack, Standing};
+ghost use Rattle.retreat.specs.Paths.{masksOf, InRows, Holding, barredByOthers, mayGoBack, NoneMayGoBack, Standing};
 ghost use Rattle.retreat.specs.Moves.{FirstBelow, hasStepped, stepsLeft, entryOf, Landed, state, OnWayBack, Turned, WentBack};
 ghost use Rattle.retreat.specs.Answer.{TargetsFit, Scheduled};
 use limits::MAX_ENTRIES;
 use limits::MAX_SIZE;
 use limits::MAX_THREADS;
 
-// What a schedule is made from, beside the table of steps: how many threads there are, and of each how long its path is, the mask of the lock that its
-// block begins with a hold of, and that of the lock that it wants at its path's end.
+// What a schedule is made from, beside the columns of steps: how many threads there are, and of each how long its path is, the mask of the claim that its
+// block begins with, and that of the claim that it wants at its path's end.
 pub struct Targets {
     pub threads: usize,
     pub positions: [u64; MAX_THREADS],
@@ -34,64 +35,65 @@ pub struct Outcome {
     pub stuck: u8,
 }
 
-// How many threads are on the way back, and the place from which the entries stand.
+// How many threads are on the way back, the mask of the claim that the block of each begins with, and the place from which the entries stand.
 struct Way {
     threads: usize,
+    begins: [u64; MAX_THREADS],
     place: usize,
 }
 
-// Where a thread jumps to, and the lock that it wants there, as a mask.
+// Where a thread jumps to, and the claim that it wants there, as a mask.
 struct Landing {
     place: u64,
     wants: u64,
 }
 
-// ---- what the threads hold
+// ---- what the threads have
 
-// The locks that thread t holds after j steps of its path.
-fn mask_at(steps: &[u64], t: usize, j: u64) -> u64
-    requires { ⌜ (maxEntries ≤ length (now steps)) × (t < maxThreads) × (j ≤ maxSize) ⌝ }
-    ensures { λ r. ⌜ r ≡ getD (masksOf (now (steps .entry)) t) j 0 ⌝ }
+// What thread t has after j steps of its path.
+fn mask_at(rows: &[u64], t: usize, j: u64) -> u64
+    requires { ⌜ (maxEntries ≤ length (now rows)) × (t < maxThreads) × (j ≤ maxSize) ⌝ }
+    ensures { λ r. ⌜ r ≡ getD (masksOf (now (rows .entry)) t) j 0 ⌝ }
 {
     if j == 0 {
         return 0;
     }
-    locks::mask_in(steps[MAX_SIZE * t + (j as usize - 1)])
+    rows[MAX_SIZE * t + (j as usize - 1)]
 }
 
-// The locks that each thread holds at its position.
-fn fill_masks(steps: &[u64], positions: &[u64], masks: &mut [u64], n: usize)
-    requires { ⌜ (maxEntries ≤ length (now steps)) × (n ≤ maxThreads) × (maxThreads ≤ length (now positions)) × (maxThreads ≤ length (now masks))
-        × InRows (now steps) (now positions) n ⌝ }
-    ensures { λ r. ⌜ Holding (now (steps .entry)) (now (positions .entry)) (now (masks .exit)) n ⌝ }
+// What each thread has at its position.
+fn fill_masks(rows: &[u64], positions: &[u64], masks: &mut [u64], n: usize)
+    requires { ⌜ (maxEntries ≤ length (now rows)) × (n ≤ maxThreads) × (maxThreads ≤ length (now positions)) × (maxThreads ≤ length (now masks))
+        × InRows (now positions) n ⌝ }
+    ensures { λ r. ⌜ Holding (now (rows .entry)) (now (positions .entry)) (now (masks .exit)) n ⌝ }
 {
     let mut t: usize = 0;
     while t < n {
-        masks[t] = mask_at(steps, t, positions[t]);
+        masks[t] = mask_at(rows, t, positions[t]);
         t += 1;
     }
 }
 
-// What thread i holds, unless it is thread k.
-fn held_unless(masks: &[u64], i: usize, k: usize) -> u64
+// What may not stand beside what thread i has, unless it is thread k.
+fn barred_unless(masks: &[u64], i: usize, k: usize) -> u64
     requires { ⌜ i < length (now masks) ⌝ }
-    ensures { λ r. ⌜ r ≡ cond (otherThan k i) (getD (now (masks .entry)) i 0) 0 ⌝ }
+    ensures { λ r. ⌜ r ≡ cond (otherThan k i) (bars (getD (now (masks .entry)) i 0)) 0 ⌝ }
 {
     if i == k {
         return 0;
     }
-    masks[i]
+    locks::barred(masks[i])
 }
 
-// What the threads other than k hold.
-fn others_hold(masks: &[u64], n: usize, k: usize) -> u64
+// What may not stand beside what the threads other than k have.
+fn others_bar(masks: &[u64], n: usize, k: usize) -> u64
     requires { ⌜ (n ≤ maxThreads) × (maxThreads ≤ length (now masks)) ⌝ }
-    ensures { λ r. ⌜ r ≡ heldByOthers (now (masks .entry)) n k ⌝ }
+    ensures { λ r. ⌜ r ≡ barredByOthers (now (masks .entry)) n k ⌝ }
 {
     let mut all: u64 = 0;
     let mut i: usize = 0;
     while i < n {
-        all = all | held_unless(masks, i, k);
+        all = all | barred_unless(masks, i, k);
         i += 1;
     }
     all
@@ -100,25 +102,25 @@ fn others_hold(masks: &[u64], n: usize, k: usize) -> u64
 // ---- a step back
 
 // Whether thread k has stepped and may go back.
-fn can_go_back(steps: &[u64], positions: &[u64], masks: &[u64], n: usize, k: usize) -> bool
-    requires { ⌜ Standing (now steps) (now positions) (now masks) n × (k < n) ⌝ }
-    ensures { λ r. ⌜ r ≡ mayGoBack (now (steps .entry)) (now (positions .entry)) n k ⌝ }
+fn can_go_back(rows: &[u64], positions: &[u64], masks: &[u64], n: usize, k: usize) -> bool
+    requires { ⌜ Standing (now rows) (now positions) (now masks) n × (k < n) ⌝ }
+    ensures { λ r. ⌜ r ≡ mayGoBack (now (rows .entry)) (now (positions .entry)) n k ⌝ }
 {
     let j = positions[k];
     if j == 0 {
         return false;
     }
-    mask_at(steps, k, j - 1) & others_hold(masks, n, k) == 0
+    mask_at(rows, k, j - 1) & others_bar(masks, n, k) == 0
 }
 
 // The first thread that may go back, or n.
-fn find_back(steps: &[u64], positions: &[u64], masks: &[u64], n: usize) -> usize
-    requires { ⌜ Standing (now steps) (now positions) (now masks) n ⌝ }
-    ensures { λ r. ⌜ FirstBelow (mayGoBack (now (steps .entry)) (now (positions .entry)) n) n r ⌝ }
+fn find_back(rows: &[u64], positions: &[u64], masks: &[u64], n: usize) -> usize
+    requires { ⌜ Standing (now rows) (now positions) (now masks) n ⌝ }
+    ensures { λ r. ⌜ FirstBelow (mayGoBack (now (rows .entry)) (now (positions .entry)) n) n r ⌝ }
 {
     let mut k: usize = 0;
     while k < n {
-        if can_go_back(steps, positions, masks, n, k) {
+        if can_go_back(rows, positions, masks, n, k) {
             return k;
         }
         k += 1;
@@ -126,14 +128,14 @@ fn find_back(steps: &[u64], positions: &[u64], masks: &[u64], n: usize) -> usize
     k
 }
 
-// The same, with the table of what the threads hold made first.
-fn choose_back(steps: &[u64], positions: &[u64], n: usize) -> usize
-    requires { ⌜ (maxEntries ≤ length (now steps)) × (n ≤ maxThreads) × (maxThreads ≤ length (now positions)) × InRows (now steps) (now positions) n ⌝ }
-    ensures { λ r. ⌜ FirstBelow (mayGoBack (now (steps .entry)) (now (positions .entry)) n) n r ⌝ }
+// The same, with the table of what the threads have made first.
+fn choose_back(rows: &[u64], positions: &[u64], n: usize) -> usize
+    requires { ⌜ (maxEntries ≤ length (now rows)) × (n ≤ maxThreads) × (maxThreads ≤ length (now positions)) × InRows (now positions) n ⌝ }
+    ensures { λ r. ⌜ FirstBelow (mayGoBack (now (rows .entry)) (now (positions .entry)) n) n r ⌝ }
 {
     let mut masks = [0u64; MAX_THREADS];
-    fill_masks(steps, positions, &mut masks, n);
-    find_back(steps, positions, &masks, n)
+    fill_masks(rows, positions, &mut masks, n);
+    find_back(rows, positions, &masks, n)
 }
 
 // The first thread that has stepped, or n.
@@ -151,29 +153,37 @@ fn find_stepped(positions: &[u64], n: usize) -> usize
     t
 }
 
+// The entry of a thread and a choice.
+fn entry(thread: u16, choice: u8) -> u16
+    requires { ⌜ thread < maxThreads ⌝ }
+    ensures { λ r. ⌜ r ≡ thread + 8 * (choice % 4) ⌝ }
+{
+    thread + 8 * (choice as u16 % 4)
+}
+
 // Thread k goes back by a step: its entry is put at place d.
-fn put_entry(steps: &[u64], positions: &mut [u64], entries: &mut [u16], k: usize, d: usize)
-    requires { ⌜ (maxEntries ≤ length (now steps)) × (maxThreads ≤ length (now positions)) × (k < maxThreads) × (0 < getD (now positions) k 0) × (getD (now positions) k 0 ≤ maxSize)
+fn put_entry(choices: &[u8], positions: &mut [u64], entries: &mut [u16], k: usize, d: usize)
+    requires { ⌜ (maxEntries ≤ length (now choices)) × (maxThreads ≤ length (now positions)) × (k < maxThreads) × (0 < getD (now positions) k 0) × (getD (now positions) k 0 ≤ maxSize)
         × (d < length (now entries)) ⌝ }
     ensures { λ r. ⌜ (now (positions .exit) ≡ set (now (positions .entry)) k (getD (now (positions .entry)) k 0 - 1))
-        × (now (entries .exit) ≡ set (now (entries .entry)) d (entryOf (now (steps .entry)) (now (positions .entry)) k)) ⌝ }
+        × (now (entries .exit) ≡ set (now (entries .entry)) d (entryOf (now (choices .entry)) (now (positions .entry)) k)) ⌝ }
 {
     let j = positions[k] - 1;
-    let step = steps[MAX_SIZE * k + j as usize];
-    entries[d] = locks::entry_of(k as u64, locks::choice_in(step)) as u16;
+    let choice = choices[MAX_SIZE * k + j as usize];
+    entries[d] = entry(k as u16, choice);
     positions[k] = j;
 }
 
 // ---- the jump
 
-// The last place of thread t, from j downward, at which it does not hold lock l.
-fn scan_back(steps: &[u64], t: usize, l: u64, j: u64) -> u64
-    requires { ⌜ (maxEntries ≤ length (now steps)) × (t < maxThreads) × (l < lockCount) × (j ≤ maxSize) ⌝ }
-    ensures { λ r. ⌜ r ≡ scanBack (masksOf (now (steps .entry)) t) l j ⌝ }
+// The last place of thread t, from j downward, at which it has not claim l.
+fn scan_back(rows: &[u64], t: usize, l: u64, j: u64) -> u64
+    requires { ⌜ (maxEntries ≤ length (now rows)) × (t < maxThreads) × (l < claimCount) × (j ≤ maxSize) ⌝ }
+    ensures { λ r. ⌜ r ≡ scanBack (masksOf (now (rows .entry)) t) l j ⌝ }
 {
     let mut a = j;
     while 0 < a {
-        if locks::has_lock(mask_at(steps, t, a), l) {
+        if locks::has_claim(mask_at(rows, t, a), l) {
             a -= 1;
         } else {
             return a;
@@ -182,20 +192,19 @@ fn scan_back(steps: &[u64], t: usize, l: u64, j: u64) -> u64
     a
 }
 
-// The lowest lock of m.
+// The lowest claim of m.
 fn lowest(m: u64) -> u32
-    requires { ⌜ (0 < m) × (m < maskSize) ⌝ }
-    ensures { λ r. ⌜ (r < lockCount) × (bit m r ≡ 1) ⌝ }
+    requires { ⌜ 0 < m ⌝ }
+    ensures { λ r. ⌜ (r < claimCount) × (bit m r ≡ 1) ⌝ }
 {
     u64::trailing_zeros(m)
 }
 
-// Where thread k, at position j, jumps to, and what it wants there: the lowest lock that its last step gave up and another thread holds.
-fn land(steps: &[u64], begins: &[u64], masks: &[u64], n: usize, k: usize, j: u64) -> Landing
-    requires { ⌜ (maxEntries ≤ length (now steps)) × (maxThreads ≤ length (now begins)) × (n ≤ maxThreads) × (maxThreads ≤ length (now masks)) × (k < maxThreads) × (j ≤ maxSize)
-        × (0 < j → 0 < bitAnd (getD (masksOf (now steps) k) (j - 1) 0) (heldByOthers (now masks) n k))
-        × (0 < j → getD (masksOf (now steps) k) (j - 1) 0 < maskSize) ⌝ }
-    ensures { λ r. ⌜ JumpTo (masksOf (now (steps .entry)) k) (heldByOthers (now (masks .entry)) n k) (getD (now (begins .entry)) k 0) j
+// Where thread k, at position j, jumps to, and what it wants there: the lowest claim that its last step gave up and that may not stand beside what another thread has.
+fn land(rows: &[u64], begins: &[u64], masks: &[u64], n: usize, k: usize, j: u64) -> Landing
+    requires { ⌜ (maxEntries ≤ length (now rows)) × (maxThreads ≤ length (now begins)) × (n ≤ maxThreads) × (maxThreads ≤ length (now masks)) × (k < maxThreads) × (j ≤ maxSize)
+        × (0 < j → 0 < bitAnd (getD (masksOf (now rows) k) (j - 1) 0) (barredByOthers (now masks) n k)) ⌝ }
+    ensures { λ r. ⌜ JumpTo (masksOf (now (rows .entry)) k) (barredByOthers (now (masks .entry)) n k) (getD (now (begins .entry)) k 0) j
         (r .place) (r .wants) ⌝ }
 {
     if j == 0 {
@@ -204,53 +213,53 @@ fn land(steps: &[u64], begins: &[u64], masks: &[u64], n: usize, k: usize, j: u64
             wants: begins[k],
         };
     }
-    let both = mask_at(steps, k, j - 1) & others_hold(masks, n, k);
+    let both = mask_at(rows, k, j - 1) & others_bar(masks, n, k);
     let l = lowest(both) as u64;
-    let place = scan_back(steps, k, l, j - 1);
+    let place = scan_back(rows, k, l, j - 1);
     Landing {
         place,
-        wants: locks::lock_bit(l),
+        wants: locks::claim_bit(l),
     }
 }
 
 // Each thread jumps, where none may go back.
 fn jump(
-    steps: &[u64],
+    rows: &[u64],
     begins: &[u64],
     masks: &[u64],
     positions: &mut [u64],
     wanted: &mut [u64],
     n: usize,
 )
-    requires { ⌜ Standing (now steps) (now positions) (now masks) n × (maxThreads ≤ length (now begins)) × (maxThreads ≤ length (now wanted))
-        × NoneMayGoBack (now steps) (now positions) n ⌝ }
-    ensures { λ r. ⌜ Landed (now (steps .entry)) (now (begins .entry)) n (now (positions .entry)) (now (positions .exit)) (now (wanted .exit)) n ⌝ }
+    requires { ⌜ Standing (now rows) (now positions) (now masks) n × (maxThreads ≤ length (now begins)) × (maxThreads ≤ length (now wanted))
+        × NoneMayGoBack (now rows) (now positions) n ⌝ }
+    ensures { λ r. ⌜ Landed (now (rows .entry)) (now (begins .entry)) n (now (positions .entry)) (now (positions .exit)) (now (wanted .exit)) n ⌝ }
 {
     let mut k: usize = 0;
     while k < n {
-        let to = land(steps, begins, masks, n, k, positions[k]);
+        let to = land(rows, begins, masks, n, k, positions[k]);
         positions[k] = to.place;
         wanted[k] = to.wants;
         k += 1;
     }
 }
 
-// The same, with the table of what the threads hold at the new target made first.
+// The same, with the table of what the threads have at the new target made first.
 fn jump_all(
-    steps: &[u64],
+    rows: &[u64],
     begins: &[u64],
     positions: &mut [u64],
     wanted: &mut [u64],
     masks: &mut [u64],
     n: usize,
 )
-    requires { ⌜ (maxEntries ≤ length (now steps)) × (maxThreads ≤ length (now begins)) × (maxThreads ≤ length (now positions)) × (maxThreads ≤ length (now wanted))
-        × (maxThreads ≤ length (now masks)) × (n ≤ maxThreads) × InRows (now steps) (now positions) n × NoneMayGoBack (now steps) (now positions) n ⌝ }
-    ensures { λ r. ⌜ Holding (now (steps .entry)) (now (positions .entry)) (now (masks .exit)) n
-        × Landed (now (steps .entry)) (now (begins .entry)) n (now (positions .entry)) (now (positions .exit)) (now (wanted .exit)) n ⌝ }
+    requires { ⌜ (maxEntries ≤ length (now rows)) × (maxThreads ≤ length (now begins)) × (maxThreads ≤ length (now positions)) × (maxThreads ≤ length (now wanted))
+        × (maxThreads ≤ length (now masks)) × (n ≤ maxThreads) × InRows (now positions) n × NoneMayGoBack (now rows) (now positions) n ⌝ }
+    ensures { λ r. ⌜ Holding (now (rows .entry)) (now (positions .entry)) (now (masks .exit)) n
+        × Landed (now (rows .entry)) (now (begins .entry)) n (now (positions .entry)) (now (positions .exit)) (now (wanted .exit)) n ⌝ }
 {
-    fill_masks(steps, positions, masks, n);
-    jump(steps, begins, masks, positions, wanted, n);
+    fill_masks(rows, positions, masks, n);
+    jump(rows, begins, masks, positions, wanted, n);
 }
 
 // ---- the way back
@@ -258,51 +267,58 @@ fn jump_all(
 // One move: the first thread that may go back does, or all jump and the entries are forgotten. The entries stand from the way's place to the table's
 // end, and then from the place that is the answer.
 fn turn(
-    steps: &[u64],
-    begins: &[u64],
+    choices: &[u8],
+    rows: &[u64],
     way: Way,
     positions: &mut [u64],
     wanted: &mut [u64],
     masks: &mut [u64],
     entries: &mut [u16],
 ) -> usize
-    requires { ⌜ OnWayBack (now steps) (now begins) (way .threads) (state (now positions) (now wanted) (now masks)) × (0 < way .place)
+    requires { ⌜ OnWayBack (now choices) (now rows) (way .begins) (way .threads) (state (now positions) (now wanted) (now masks)) × (0 < way .place)
         × (way .place ≤ length (now entries)) ⌝ }
     ensures { λ r. ⌜ (r ≤ length (now (entries .exit)))
-        × Turned (now (steps .entry)) (now (begins .entry)) (way .threads) (state (now (positions .entry)) (now (wanted .entry)) (now (masks .entry)))
+        × Turned (now (choices .entry)) (now (rows .entry)) (way .begins) (way .threads) (state (now (positions .entry)) (now (wanted .entry)) (now (masks .entry)))
         (state (now (positions .exit)) (now (wanted .exit)) (now (masks .exit))) (drop (way .place) (now (entries .entry))) (drop r (now (entries .exit))) ⌝ }
 {
     let n = way.threads;
     let d = way.place;
-    let k = choose_back(steps, positions, n);
+    let k = choose_back(rows, positions, n);
     if k < n {
-        put_entry(steps, positions, entries, k, d - 1);
+        put_entry(choices, positions, entries, k, d - 1);
         return d - 1;
     }
-    jump_all(steps, begins, positions, wanted, masks, n);
+    let begins = way.begins;
+    jump_all(rows, &begins, positions, wanted, masks, n);
     entries.len()
 }
 
-// The way back to the start: the answer is the place from which the entries stand.
+// The way back from the targets to the start: the answer is the place from which the entries stand.
 fn go_back(
-    steps: &[u64],
-    begins: &[u64],
-    n: usize,
+    choices: &[u8],
+    rows: &[u64],
+    targets: Targets,
     positions: &mut [u64],
     wanted: &mut [u64],
     masks: &mut [u64],
     table: &mut [u16],
 ) -> usize
-    requires { ⌜ OnWayBack (now steps) (now begins) n (state (now positions) (now wanted) (now masks)) × (maxEntries ≤ length (now table)) ⌝ }
+    requires { ⌜ OnWayBack (now choices) (now rows) (targets .begins) (targets .threads) (state (now positions) (now wanted) (now masks)) × (maxEntries ≤ length (now table)) ⌝ }
     ensures { λ r. ⌜ (r ≤ length (now (table .exit)))
-        × WentBack (now (steps .entry)) (now (begins .entry)) n (state (now (positions .entry)) (now (wanted .entry)) (now (masks .entry)))
+        × WentBack (now (choices .entry)) (now (rows .entry)) (targets .begins) (targets .threads) (state (now (positions .entry)) (now (wanted .entry)) (now (masks .entry)))
         (state (now (positions .exit)) (now (wanted .exit)) (now (masks .exit))) (drop r (now (table .exit))) ⌝ }
 {
+    let n = targets.threads;
+    let begins = targets.begins;
     let mut place = table.len();
     let mut t = find_stepped(positions, n);
     while t < n {
-        let way = Way { threads: n, place };
-        place = turn(steps, begins, way, positions, wanted, masks, table);
+        let way = Way {
+            threads: n,
+            begins,
+            place,
+        };
+        place = turn(choices, rows, way, positions, wanted, masks, table);
         t = find_stepped(positions, n);
     }
     place
@@ -310,7 +326,7 @@ fn go_back(
 
 // ---- the stuck set
 
-// Bit t, if thread t wants a lock.
+// Bit t, if thread t wants a claim.
 fn wanting_bit(wanted: &[u64], t: usize) -> u8
     requires { ⌜ (t < maxThreads) × (maxThreads ≤ length (now wanted)) ⌝ }
     ensures { λ r. ⌜ r ≡ cond (ltb 0 (getD (now (wanted .entry)) t 0)) (2 ^ t) 0 ⌝ }
@@ -321,7 +337,7 @@ fn wanting_bit(wanted: &[u64], t: usize) -> u8
     0
 }
 
-// The threads that want a lock.
+// The threads that want a claim.
 fn wanting_set(wanted: &[u64], n: usize) -> u8
     requires { ⌜ (n ≤ maxThreads) × (maxThreads ≤ length (now wanted)) ⌝ }
     ensures { λ r. ⌜ r ≡ wanting n (now (wanted .entry)) ⌝ }
@@ -343,38 +359,38 @@ fn is_member(m: u8, t: usize) -> bool
     m & (1u8 << t) != 0
 }
 
-// What thread u holds, if it is a member of m other than t.
-fn held_if_member(masks: &[u64], m: u8, u: usize, t: usize) -> u64
+// What may not stand beside what thread u has, if it is a member of m other than t.
+fn barred_if_member(masks: &[u64], m: u8, u: usize, t: usize) -> u64
     requires { ⌜ (u < maxThreads) × (maxThreads ≤ length (now masks)) ⌝ }
-    ensures { λ r. ⌜ r ≡ cond (inMask m u && not (eqb u t)) (getD (now (masks .entry)) u 0) 0 ⌝ }
+    ensures { λ r. ⌜ r ≡ cond (inMask m u && not (eqb u t)) (bars (getD (now (masks .entry)) u 0)) 0 ⌝ }
 {
     if is_member(m, u) {
-        return held_unless(masks, u, t);
+        return barred_unless(masks, u, t);
     }
     0
 }
 
-// What the members of m other than t hold.
-fn members_hold(masks: &[u64], m: u8, n: usize, t: usize) -> u64
+// What may not stand beside what the members of m other than t have.
+fn members_bar(masks: &[u64], m: u8, n: usize, t: usize) -> u64
     requires { ⌜ (n ≤ maxThreads) × (maxThreads ≤ length (now masks)) ⌝ }
-    ensures { λ r. ⌜ r ≡ heldByMembers n (now (masks .entry)) m t ⌝ }
+    ensures { λ r. ⌜ r ≡ barredByMembers n (now (masks .entry)) m t ⌝ }
 {
     let mut all: u64 = 0;
     let mut u: usize = 0;
     while u < n {
-        all = all | held_if_member(masks, m, u, t);
+        all = all | barred_if_member(masks, m, u, t);
         u += 1;
     }
     all
 }
 
-// Bit t, if thread t is in m and wants a lock that another member holds.
+// Bit t, if thread t is in m and wants what may not stand beside what another member has.
 fn waiting_bit(wanted: &[u64], masks: &[u64], m: u8, n: usize, t: usize) -> u8
     requires { ⌜ (n ≤ maxThreads) × (t < maxThreads) × (maxThreads ≤ length (now wanted)) × (maxThreads ≤ length (now masks)) ⌝ }
     ensures { λ r. ⌜ r ≡ cond (inMask m t && waitsIn n (now (wanted .entry)) (now (masks .entry)) m t) (2 ^ t) 0 ⌝ }
 {
     if is_member(m, t) {
-        if wanted[t] & members_hold(masks, m, n, t) == 0 {
+        if wanted[t] & members_bar(masks, m, n, t) == 0 {
             return 0;
         }
         return 1u8 << t;
@@ -382,7 +398,7 @@ fn waiting_bit(wanted: &[u64], masks: &[u64], m: u8, n: usize, t: usize) -> u8
     0
 }
 
-// The members of m that want a lock that another member holds.
+// The members of m that want what may not stand beside what another member has.
 fn stuck_round(wanted: &[u64], masks: &[u64], m: u8, n: usize) -> u8
     requires { ⌜ (n ≤ maxThreads) × (maxThreads ≤ length (now wanted)) × (maxThreads ≤ length (now masks)) ⌝ }
     ensures { λ r. ⌜ r ≡ stuckRound n (now (wanted .entry)) (now (masks .entry)) m ⌝ }
@@ -396,7 +412,7 @@ fn stuck_round(wanted: &[u64], masks: &[u64], m: u8, n: usize) -> u8
     all
 }
 
-// The largest stuck set of n threads: of those that want a lock, as many rounds as there are threads leave it.
+// The largest stuck set of n threads: of those that want a claim, as many rounds as there are threads leave it.
 fn stuck_set(wanted: &[u64], masks: &[u64], n: usize) -> u8
     requires { ⌜ (n ≤ maxThreads) × (maxThreads ≤ length (now wanted)) × (maxThreads ≤ length (now masks)) ⌝ }
     ensures { λ r. ⌜ r ≡ stuckRounds n n (now (wanted .entry)) (now (masks .entry)) ⌝ }
@@ -434,20 +450,25 @@ fn finish(
 }
 
 // The schedule, with the table that it is made in.
-fn schedule_with(steps: &[u64], targets: Targets, table: &mut [u16], entries: &mut [u16]) -> Outcome
-    requires { ⌜ TargetsFit (now steps) targets × (maxEntries ≤ length (now table)) × (stepsLeft (targets .positions) (targets .threads) ≤ length (now entries)) ⌝ }
-    ensures { λ r. ⌜ Scheduled (now (steps .entry)) targets (now (entries .entry)) (r .entries) (r .stuck) (now (entries .exit)) ⌝ }
+fn schedule_with(
+    choices: &[u8],
+    rows: &[u64],
+    targets: Targets,
+    table: &mut [u16],
+    entries: &mut [u16],
+) -> Outcome
+    requires { ⌜ TargetsFit (now choices) (now rows) targets × (maxEntries ≤ length (now table)) × (stepsLeft (targets .positions) (targets .threads) ≤ length (now entries)) ⌝ }
+    ensures { λ r. ⌜ Scheduled (now (choices .entry)) (now (rows .entry)) targets (now (entries .entry)) r (now (entries .exit)) ⌝ }
 {
     let n = targets.threads;
-    let begins = targets.begins;
     let mut positions = targets.positions;
     let mut wanted = targets.wanted;
     let mut masks = [0u64; MAX_THREADS];
-    fill_masks(steps, &positions, &mut masks, n);
+    fill_masks(rows, &positions, &mut masks, n);
     let place = go_back(
-        steps,
-        &begins,
-        n,
+        choices,
+        rows,
+        targets,
         &mut positions,
         &mut wanted,
         &mut masks,
@@ -456,13 +477,13 @@ fn schedule_with(steps: &[u64], targets: Targets, table: &mut [u16], entries: &m
     finish(table, place, &wanted, &masks, n, entries)
 }
 
-// A schedule to a deadlock, from the paths of a cycle's threads to their pairs. The path of thread t is positions[t] numbers of `steps` from MAX_SIZE × t on,
-// each the choice of a step plus 4 × the mask of the locks held after it. The schedule fills the start of `entries`, which has room for as many steps as
+// A schedule to a deadlock, from the paths of a cycle's threads to their pairs. The path of thread t is positions[t] steps of the columns from MAX_SIZE × t on,
+// each its choice and the mask of what is had after it. The schedule fills the start of `entries`, which has room for as many steps as
 // the paths have together, and the rest is kept.
-pub fn schedule(steps: &[u64], targets: Targets, entries: &mut [u16]) -> Outcome
-    requires { ⌜ TargetsFit (now steps) targets × (stepsLeft (targets .positions) (targets .threads) ≤ length (now entries)) ⌝ }
-    ensures { λ r. ⌜ Scheduled (now (steps .entry)) targets (now (entries .entry)) (r .entries) (r .stuck) (now (entries .exit)) ⌝ }
+pub fn schedule(choices: &[u8], rows: &[u64], targets: Targets, entries: &mut [u16]) -> Outcome
+    requires { ⌜ TargetsFit (now choices) (now rows) targets × (stepsLeft (targets .positions) (targets .threads) ≤ length (now entries)) ⌝ }
+    ensures { λ r. ⌜ Scheduled (now (choices .entry)) (now (rows .entry)) targets (now (entries .entry)) r (now (entries .exit)) ⌝ }
 {
     let mut table = [0u16; MAX_ENTRIES];
-    schedule_with(steps, targets, &mut table, entries)
+    schedule_with(choices, rows, targets, &mut table, entries)
 }

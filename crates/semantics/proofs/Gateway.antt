@@ -1,4 +1,4 @@
--- Threads beside each other: what a lock excludes, which steps are permitted, what every run keeps, runs and executions.
+-- Threads beside each other: what a claim excludes, which steps are permitted, what every run keeps, runs and executions.
 pub mod Compatible
 pub mod Apart
 pub mod Steps

@@ -8,3 +8,4 @@ pub mod Retreat
 pub mod Stuck
 pub mod Conflicts
 pub mod Analysis
+pub mod HoldsOnly

@@ -6,10 +6,10 @@ use mathlib.Core.Path.{_≡_}
 use lib.Dec.{T}
 use Rattle.semantics.specs.Plan.{Block, done, skip, call, hold, loop, either, end, bodyIn}
 use Rattle.semantics.specs.Run.{unlocked, up, down}
-use Rattle.semantics.specs.Pairs.{pairOf, held, fresh}
+use Rattle.semantics.specs.Pairs.{pairOf, had, fresh}
 
 -- Definition 3.1: "The lock alphabet Σ is defined as the union of two disjoint copies of Locks": ℓ, where the lock is acquired, and ℓ̄, where it is
--- released.
+-- released. 02, change 9: a lock is acquired by share or by hold, so that it is two copies of the claims here.
 pub data Action : Type 0 where
   acquire : ℕ → Action
   release : ℕ → Action
@@ -23,7 +23,8 @@ countsAfter cs (release l ∷ u) = countsAfter (down l cs) u
 -- Definition 3.5: "The language ℒ(C) of a statement C is defined inductively as follows:
 --   ℒ(skip) := {ε}   ℒ(p()) := ℒ(body(p))   ℒ(acq(ℓ)) := {ℓ}   ℒ(rel(ℓ)) := {ℓ̄}   ℒ(C₁; C₂) := ℒ(C₁) · ℒ(C₂)
 --   ℒ(if(∗) then C₁ else C₂) := ℒ(C₁) ∪ ℒ(C₂)   ℒ(while(∗) do C) := ℒ(C)*".
--- A block is its first statement, then the rest r, so each word has a word v of the rest at its end. A hold is acq(ℓ); b; rel(ℓ).
+-- A block is its first statement, then the rest r, so each word has a word v of the rest at its end. A hold is acq(ℓ); b; rel(ℓ), and a
+-- share the same of its claim.
 pub data InLanguage (ps : List Block) : Block → List Action → Type 0 where
   in-done : InLanguage ps done []
   in-skip : {r : Block} {v : List Action} → InLanguage ps r v → InLanguage ps (skip r) v
@@ -36,11 +37,12 @@ pub data InLanguage (ps : List Block) : Block → List Action → Type 0 where
   in-end : {l : ℕ} {r : Block} {v : List Action} → InLanguage ps r v → InLanguage ps (end l r) (release l ∷ v)
 
 -- Definition 4.1: "The set Crit(C) of critical pairs of a statement C is defined as: Crit(C) := {(⌊⟨u⟩⌋, ℓ) | ∃v. uℓv ∈ ℒ(C) and ℓ ∉ ⌊⟨u⟩⌋}", where
--- ⌊⟨u⟩⌋ is the set of the locks with a positive count after u. Here C is procedure p, u is `before`, v is `behind`, and w is the pair as one number.
+-- ⌊⟨u⟩⌋ is the set of the claims with a positive count after u, and ℓ ∉ ⌊⟨u⟩⌋ is widened to: ℓ is fresh (02, change 9). Here C is procedure p, ℓ is `claim`, u is `before`,
+-- v is `behind`, and w is the pair as one number.
 pub record PublishedCritical (ps : List Block) (p w : ℕ) : Type 0 where
   pub before : List Action
-  pub lock : ℕ
+  pub claim : ℕ
   pub behind : List Action
-  pub in-language : InLanguage ps (bodyIn ps p) (before ++ acquire lock ∷ behind)
-  pub free : T (fresh (countsAfter unlocked before) lock)
-  pub pair : w ≡ pairOf (held (countsAfter unlocked before)) lock
+  pub in-language : InLanguage ps (bodyIn ps p) (before ++ acquire claim ∷ behind)
+  pub free : T (fresh (countsAfter unlocked before) claim)
+  pub pair : w ≡ pairOf (had (countsAfter unlocked before)) claim

@@ -7,15 +7,16 @@ use mathlib.Core.Path.{_≡_}
 use lib.Bits.{bitOr}
 use lib.ListN.{length, getD}
 use lib.Dec.{T, eqb}
-use Rattle.limits.specs.Limits.{lockCount}
-use Rattle.laws.specs.Mask.{bit}
+use Rattle.limits.specs.Limits.{claimCount}
+use Rattle.laws.specs.Mask.{inMask}
+use Rattle.semantics.specs.Claims.{freshTo}
 use Rattle.semantics.specs.Plan.{Block, done, skip, call, hold, loop, either, end, bodyIn}
 use Rattle.semantics.specs.Sizes.{sizeAt}
 use Rattle.semantics.specs.Run.{ThreadState, thread, initial}
-use Rattle.semantics.specs.Pairs.{pairOf, held, fresh}
+use Rattle.semantics.specs.Pairs.{pairOf, had, fresh}
 use Rattle.semantics.specs.Execution.{exec, stateAfter}
 
--- One number for each step of a path: the choice, and the mask of the locks held after it.
+-- One number for each step of a path: the choice, and the mask of what is had after it.
 abbrev pub stepOf : ℕ → ℕ → ℕ
 stepOf c m = c + 4 * m
 
@@ -36,7 +37,7 @@ abbrev pub maskAt : List ℕ → ℕ → ℕ
 maskAt path zero = 0
 maskAt path (suc j) = maskIn (getD path j 0)
 
--- the locks of m, and l
+-- the claims of m, and l
 abbrev pub holding : ℕ → ℕ → ℕ
 holding m l = bitOr m (2 ^ l)
 
@@ -44,11 +45,11 @@ holding m l = bitOr m (2 ^ l)
 abbrev pub put : List ℕ → ℕ → ℕ → List ℕ
 put path c m = path ++ (stepOf c m ∷ [])
 
--- lock l is not in the set m
+-- claim l is fresh to who has those of m
 abbrev pub freshIn : ℕ → ℕ → Bool
-freshIn m l = eqb (bit m l) 0
+freshIn m l = freshTo (inMask m) l
 
--- a hold of l that is begun with the locks of m gives the pair w
+-- a hold of claim l that is begun with the claims of m gives the pair w
 abbrev pub gives : ℕ → ℕ → ℕ → Bool
 gives w m l = freshIn m l && eqb (pairOf m l) w
 
@@ -62,7 +63,7 @@ abbrev pub andThen : Walked → (List ℕ → Walked) → Walked
 andThen (found path) k = found path
 andThen (passed path) k = k path
 
--- the walk of a block, with the locks of m held and the path so far, to a hold that gives w; g p walks procedure p
+-- the walk of a block, with the claims of m had and the path so far, to a hold that gives w; g p walks procedure p
 unfoldable pub walkWith : (ℕ → ℕ → List ℕ → Walked) → ℕ → ℕ → List ℕ → Block → Walked
 walkWith g w m path done = passed path
 walkWith g w m path (skip r) = walkWith g w m (put path 0 m) r
@@ -84,25 +85,25 @@ walkAt (suc d) ps w p m path = walkWith (walkAt d ps w) w m path (bodyIn ps p)
 abbrev pub pathTo : ℕ → List Block → ℕ → ℕ → Walked
 pathTo d ps p w = walkAt d ps w p 0 []
 
--- The walk that began with thread x and has written the path holds the locks of m and stands before b: the choices lead there, with counts cs, and each step has
+-- The walk that began with thread x and has written the path has the claims of m and stands before b: the choices lead there, with counts cs, and each step has
 -- the mask of the counts after it.
 pub record Stands (ps : List Block) (x : ThreadState) (path : List ℕ) (m : ℕ) (cs : List ℕ) (b : Block) : Type 0 where
   pub leads : exec ps x (choices path) ≡ some (thread b cs)
-  pub masks : (j : ℕ) → j < length path → maskIn (getD path j 0) ≡ held ((stateAfter ps x (choices path) (suc j)) .count)
-  pub mask : m ≡ held cs
-  pub locks : length cs ≡ lockCount
+  pub masks : (j : ℕ) → j < length path → maskIn (getD path j 0) ≡ had ((stateAfter ps x (choices path) (suc j)) .count)
+  pub mask : m ≡ had cs
+  pub locks : length cs ≡ claimCount
 
 -- The path leads from x to a hold that gives w. Source 000, Lemma 4.2: "⟨C, ∅⟩ →* ⟨C′, L⟩ → ⟨C″, L[ℓ++]⟩, with X = ⌊L⌋ and ℓ ∉ X".
 pub record Finds (ps : List Block) (x : ThreadState) (w : ℕ) (path : List ℕ) : Type 0 where
-  pub lock : ℕ
+  pub claim : ℕ
   pub inside : Block
   pub following : Block
   pub count : List ℕ
   pub mask : ℕ
-  pub stands : Stands ps x path mask count (hold lock inside following)
-  pub small : lock < lockCount
-  pub free : T (fresh count lock)
-  pub pair : w ≡ pairOf (held count) lock
+  pub stands : Stands ps x path mask count (hold claim inside following)
+  pub small : claim < claimCount
+  pub free : T (fresh count claim)
+  pub pair : w ≡ pairOf (had count) claim
 
 -- The computed path to the pair w of procedure p: its choices are an execution to a hold that gives w, the masks are those after each step, and it is no longer
 -- than the procedure's size.

@@ -4,11 +4,12 @@ use mathlib.Core.Bool.{Bool, true, false}
 use mathlib.Core.List.{List, [], _∷_}
 use lib.Dec.{T}
 use lib.ListN.{length, getD}
-use Rattle.limits.specs.Limits.{lockCount}
+use Rattle.limits.specs.Limits.{claimCount}
 
 -- "A block is one or more statements. A statement is `(skip)`; `(call N)`; `(hold N`, block, `)`; `(loop`, block, `)`; or `(either`, `(one`, block, `)`,
--- `(two`, block, `)`, `)`." A value is the first statement, then the rest; `done` has none. `end` closes a hold that has begun: only what a thread has still
--- to do contains it.
+-- `(two`, block, `)`, `)`." 02, change 9: "Add `(share N`, block, `)`". A value is the first statement, then the rest; `done` has none. A hold and a share are one case, which
+-- has the claim: `hold (byHold N) b r` is `(hold N`, b, `)`, then r, and `hold (byShare N) b r` is `(share N`, b, `)`, then r. Where definitions speak of a hold of a claim, it
+-- is either. `end` closes one that has begun: only what a thread has still to do contains it.
 pub data Block : Type 0 where
   done : Block
   skip : Block → Block
@@ -54,17 +55,17 @@ WellFormed empty (loop b r) = WellFormed false b × WellFormed true r
 WellFormed empty (either a b r) = WellFormed false a × WellFormed false b × WellFormed true r
 WellFormed empty (end l r) = ⊥
 
--- A block in which each call meets C, each lock is below 32 (rule 6), and no hold has begun.
+-- A block in which each call meets C, each lock is below 32 (rule 6) and so each claim below 64, and no hold has begun.
 unfoldable pub Written : (ℕ → Type 0) → Block → Type 0
 Written C done = Unit {0}
 Written C (skip r) = Written C r
 Written C (call p r) = C p × Written C r
-Written C (hold l b r) = (l < lockCount) × Written C b × Written C r
+Written C (hold l b r) = (l < claimCount) × Written C b × Written C r
 Written C (loop b r) = Written C b × Written C r
 Written C (either a b r) = Written C a × Written C b × Written C r
 Written C (end l r) = ⊥
 
--- What the rules settle of the procedures: calls go to a lower rank, locks are below 32, no block is empty.
+-- What the rules settle of the procedures: calls go to a lower rank, claims are below 64, no block is empty.
 pub record Sound (ps : List Block) (rank : ℕ → ℕ) : Type 0 where
   pub body : (p : ℕ) → Written (λ q. rank q < rank p) (bodyIn ps p)
   pub filled : (p : ℕ) → p < length ps → WellFormed false (bodyIn ps p)
@@ -80,6 +81,6 @@ pub record Ranks (ps : List Block) : Type 0 where
 abbrev pub AnyCall : ℕ → Type 0
 AnyCall p = Unit {0}
 
--- a block with locks below 32 in which no hold has begun, its calls left open
+-- a block with claims below 64 in which no hold has begun, its calls left open
 abbrev pub Plain : Block → Type 0
 Plain b = Written AnyCall b

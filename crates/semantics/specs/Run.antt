@@ -5,10 +5,11 @@ use mathlib.Core.Bool.{Bool, true, not, _&&_, _||_, cond}
 use mathlib.Core.Option.{Option, none, some, bind}
 use lib.ListN.{getD, set, replicate}
 use lib.Dec.{eqb, ltb}
-use Rattle.limits.specs.Limits.{lockCount}
+use Rattle.limits.specs.Limits.{claimCount}
+use Rattle.semantics.specs.Claims.{together}
 use Rattle.semantics.specs.Plan.{Block, done, skip, call, hold, loop, either, end, _⨾_, bodyIn}
 
--- "Each thread has a remainder, .. and a count for each lock"
+-- "Each thread has a remainder, .. and a count for each lock"; 02, change 9: a share's is "a second count for each lock". So a thread has a count for each claim
 pub record ThreadState : Type 0 where
   pub rest : Block
   pub count : List ℕ
@@ -37,11 +38,13 @@ move ps c (end l r) cs = cond (eqb c 0) (some (thread r (down l cs))) none
 move ps c (loop b r) cs = cond (eqb c 1) (some (thread (b ⨾ loop b r) cs)) (cond (eqb c 2) (some (thread r cs)) none)
 move ps c (either a b r) cs = cond (eqb c 1) (some (thread (a ⨾ r) cs)) (cond (eqb c 2) (some (thread (b ⨾ r) cs)) none)
 
--- no lock has a positive count in both
+-- whether a thread with these counts has claim a: its count is positive
+abbrev pub has : List ℕ → ℕ → Bool
+has cs a = ltb 0 (getD cs a 0)
+
+-- what the two have may stand together: "no lock is held by hold in one thread while another holds it in any way"
 unfoldable pub compatible : List ℕ → List ℕ → Bool
-compatible [] ds = true
-compatible (c ∷ cs) [] = true
-compatible (c ∷ cs) (d ∷ ds) = not (ltb 0 c && ltb 0 d) && compatible cs ds
+compatible cs ds = together (has cs) (has ds)
 
 -- the set S of threads without thread 0, the others counted from 0
 abbrev pub others : (ℕ → Bool) → ℕ → Bool
@@ -52,7 +55,7 @@ unfoldable pub withAll : (ℕ → Bool) → List ℕ → List ThreadState → Bo
 withAll S cs [] = true
 withAll S cs (t ∷ ts) = (not (S 0) || compatible cs (t .count)) && withAll (others S) cs ts
 
--- "no lock has a positive count in two threads", of those in S
+-- "no lock is held by hold in one thread while another holds it in any way", of those in S
 unfoldable pub apart : (ℕ → Bool) → List ThreadState → Bool
 apart S [] = true
 apart S (t ∷ ts) = (not (S 0) || withAll (others S) (t .count) ts) && apart (others S) ts
@@ -67,7 +70,8 @@ threadAt [] n = none
 threadAt (t ∷ ts) ℕ.zero = some t
 threadAt (t ∷ ts) (ℕ.suc n) = threadAt ts n
 
--- the step of thread t under choice c, the threads outside S forgotten. "The step is permitted when afterwards no lock has a positive count in two threads."
+-- the step of thread t under choice c, the threads outside S forgotten. "A step is permitted when afterwards no lock is held by hold in one thread while another holds it in any
+-- way" (02, change 9).
 unfoldable pub stepIn : (ℕ → Bool) → List Block → List ThreadState → ℕ → ℕ → Option (List ThreadState)
 stepIn S ps ts t c =
     bind (threadAt ts t) (λ x.
@@ -84,9 +88,9 @@ unfoldable pub run : List Block → List ThreadState → List ℕ → Option (Li
 run ps ts [] = some ts
 run ps ts (e ∷ es) = bind (step ps ts e) (λ ts′. run ps ts′ es)
 
--- "a count for each lock, at first 0"
+-- "a count for each lock, at first 0", and so for each claim
 abbrev pub unlocked : List ℕ
-unlocked = replicate lockCount 0
+unlocked = replicate claimCount 0
 
 -- a thread of procedure p before its first step: the remainder is "at first its procedure's block"
 abbrev pub initial : List Block → ℕ → ThreadState
@@ -96,7 +100,7 @@ initial ps p = thread (bodyIn ps p) unlocked
 unfoldable pub start : List Block → List ℕ → List ThreadState
 start ps ns = map (initial ps) ns
 
--- a thread with nothing to do and nothing held
+-- a thread with nothing to do and nothing had
 abbrev pub absentThread : ThreadState
 absentThread = thread done []
 

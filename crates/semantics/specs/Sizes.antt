@@ -1,5 +1,5 @@
 -- Sizes. 01, "The plan text": "The size of a statement is 1 for skip, 1 plus the callee's size for call, 2 plus the block for hold and loop, 1 plus both blocks for
--- either. A block's size is the sum of its statements, a procedure's that of its block."
+-- either. A block's size is the sum of its statements, a procedure's that of its block." 02, change 9: a share is "of size 2 plus its block".
 use Prim.Native.Nat.{ℕ, _+_}
 use mathlib.Core.List.{List}
 use lib.ListN.{length}

@@ -22,9 +22,9 @@ module _ (f : Form) (sizes : List ℕ) (r : ℕ) where
   unfolding costOf kindIn
   cost-one h k = cost-arm 1 (4 ∷ 8 ∷ []) h refl k
 
-  pub cost-two : OneOf (6 ∷ 7 ∷ []) (tagOf the-type f) → r ≡ 2 → r ≡ min sizeRoom (costOf (knownSize sizes) f)
+  pub cost-two : OneOf (6 ∷ 7 ∷ 11 ∷ []) (tagOf the-type f) → r ≡ 2 → r ≡ min sizeRoom (costOf (knownSize sizes) f)
   unfolding costOf kindIn
-  cost-two h k = cost-arm 2 (6 ∷ 7 ∷ []) h refl k
+  cost-two h k = cost-arm 2 (6 ∷ 7 ∷ 11 ∷ []) h refl k
 
   pub cost-rest : OneOf (0 ∷ 1 ∷ 2 ∷ 3 ∷ 9 ∷ 10 ∷ []) (tagOf the-type f) → r ≡ 0 → r ≡ min sizeRoom (costOf (knownSize sizes) f)
   unfolding costOf kindIn

@@ -14,6 +14,7 @@ use Rattle.plan.specs.Grammar.{blockForms, procForms, threadForms}
 use Rattle.plan.specs.Table.{formAt, tableForms}
 use Rattle.plan.specs.Settled.{PlanTable, tablePlan}
 use Rattle.plan.specs.Starts.{Starts}
+use Rattle.plan.proofs.ClaimForms.{by-claim}
 use Rattle.procs.proofs.Places.{map-drop, PlacedBlock, places-numbers, table-placed}
 use Rattle.sizes.specs.Passes.{costOf, costFrom}
 
@@ -23,7 +24,10 @@ module _ (s : ℕ → ℕ) where
   cost-block C done w fs = omega arith
   cost-block C (skip r) w fs = omega (arith, cost-block C r w fs)
   cost-block C (call p r) w fs = omega (arith, cost-block C r (w .1) fs)
-  cost-block C (hold l b r) w fs = omega (arith, cost-block C b (w .1) (Close ∷ blockForms r fs), cost-block C r (w .2) fs)
+  cost-block C (hold a b r) w fs =
+      let gs = blockForms b (Close ∷ blockForms r fs) in
+      let e : 2 + costFrom s gs ≡ 2 + sizeWith s b + sizeWith s r + costFrom s fs = omega (arith, cost-block C b (w .1) (Close ∷ blockForms r fs), cost-block C r (w .2) fs) in
+      by-claim (λ f. costFrom s (f ∷ gs) ≡ 2 + sizeWith s b + sizeWith s r + costFrom s fs) a e e
   cost-block C (loop b r) w fs = omega (arith, cost-block C b (w .0) (Close ∷ blockForms r fs), cost-block C r (w .1) fs)
   cost-block C (either a b r) w fs =
       omega (

@@ -68,7 +68,7 @@ fn cost_of(form: Form, sizes: &[u64]) -> u64
     match form {
         Form::Skip | Form::Either => 1,
         Form::Call(p) => add_capped(1, known_size(sizes, p as usize)),
-        Form::Hold(_) | Form::Loop => 2,
+        Form::Hold(_) | Form::Loop | Form::Share(_) => 2,
         _ => 0,
     }
 }

@@ -6,9 +6,10 @@ use Rattle.laws.specs.Choice.{pick}
 use Rattle.laws.specs.Mask.{bit}
 use Rattle.laws.specs.Sums.{total}
 use Rattle.text.specs.Forms.{numberIn, kindIn}
-use Rattle.text.specs.Kinds.{kindOf, planKind, twoKind, threadKind, callKind, holdKind, numbered, keywordKind}
+use Rattle.text.specs.Kinds.{kindOf, planKind, twoKind, skipKind, threadKind, callKind, holdKind, shareKind, numbered, keywordKind}
 use Rattle.text.specs.Kinds.{betweenKeyword, afterKeyword, numberOf, appendDigit, leadingOf, digitOf}
 use Rattle.text.specs.Lines.{split, unindented, passedOver, formsIn, formsOf, unreadable, unreadableLine, lineFor, lineOf}
+use Rattle.semantics.specs.Claims.{byShare, byHold}
 use Rattle.semantics.specs.Plan.{bodyIn}
 use Rattle.semantics.specs.CallMasks.{callMask, joinThrough, warshallRound, reachMasks, reachMask, joinReached}
 use Rattle.semantics.specs.Sizes.{sizeWith, sizeAt, sizeOf, threadSize, threadSizes}
@@ -21,9 +22,9 @@ use Rattle.space.specs.Slip.{sizeLine, sumLine, sizeLines, slipOf, print
 use Rattle.space.specs.Examples.{SlipsRight}
 
 pub slips-right : SlipsRight
-unfolding printedSlip slipOf sizeLines sizeLine sumLine digits digitsIn refusedLine kindOf planKind twoKind threadKind callKind holdKind numbered keywordKind betweenKeyword
-    afterKeyword numberOf appendDigit leadingOf digitOf split unindented passedOver formsIn formsOf unreadable unreadableLine lineFor lineOf pick orElse bind equal inFront behind
+unfolding printedSlip slipOf sizeLines sizeLine sumLine digits digitsIn refusedLine kindOf planKind twoKind skipKind threadKind callKind holdKind shareKind numbered keywordKind betweenKeyword
+    afterKeyword numberOf appendDigit leadingOf digitOf split unindented passedOver formsIn formsOf unreadable unreadableLine lineFor lineOf pick orElse bind equal byShare byHold inFront behind
     planIn among only closeBlock onClose advanceOf misplaced misplacedForm counted overLimit pastLimitFrom pastLimitForm testedBy leastBad numberIn kindIn breaks breaking countIf
     breakingForm tooLong linesRefusal referencesRefusal grammarRefusal formsRefusal planOf procFormFrom lowestFrom procRefusal recursive callMask joinThrough warshallRound
     reachMasks reachMask idle joinReached tooLarge planRefusal bodyIn sizeWith sizeAt sizeOf threadSize threadSizes total bit
-slips-right = record { a = refl; threads = refl; empty = refl }
+slips-right = record { a = refl; threads = refl; shared = refl; empty = refl }

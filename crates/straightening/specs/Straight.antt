@@ -1,5 +1,5 @@
 -- Straightened plans. 02, change 8: "Reviewers read a shorter plan: every either replaced by its two blocks one after the other, every loop by its block." What is left
--- is straight-line code: skips, calls and holds.
+-- is straight-line code: skips, calls, holds and shares (change 9), which are one case of a block.
 use mathlib.Core.List.{map}
 use Rattle.semantics.specs.Plan.{Block, done, skip, call, hold, loop, either, end, _⨾_, LockPlan}
 

@@ -1,14 +1,17 @@
 -- One row of a table of rows is lent and put back, the others stay: those below lie before it, those above behind it.
-use Prim.Native.Nat.{ℕ, _+_, _-_, _*_, _<_, _≤_}
+use Prim.Native.Nat.{ℕ, _+_, _-_, _*_, _%_, _<_, _≤_}
 use native.Mathlib.Omega.{arith}
-use mathlib.Core.List.{List, _++_}
+use mathlib.Core.List.{List, [], _∷_, _++_}
 use mathlib.Core.Logic.{⊎-elim, _≢_}
-use mathlib.Core.Path.{_≡_, sym, ap, _∙_}
+use mathlib.Core.Path.{_≡_, refl, sym, ap, _∙_}
 use borrow.Rule.Slice.PartMut.{putMid}
 use lib.ListN.{length, take, drop, length-drop, take-append-drop}
 use lib.Seq.{length-take-le, take-append-le, drop-append-le, drop-append-add, drop-at, drop-drop}
 use Rattle.limits.specs.Limits.{maxSize}
 use Rattle.laws.proofs.Tests.{lt-or-le}
+use Rattle.semantics.specs.Paths.{stepOf}
+use Rattle.columns.specs.Columns.{steps}
+use Rattle.columns.proofs.Steps.{steps-take, steps-drop}
 
 -- a part that ends within the front
 front : (p : List ℕ) (m b : ℕ) → b + m ≤ length p → (x : List ℕ) → take m (drop b (p ++ x)) ≡ take m (drop b p)
@@ -46,3 +49,22 @@ module _ (s part : List ℕ) (t k : ℕ) (size : k ≡ maxSize) (full : length p
 
   pub row-other : (u m : ℕ) → u ≢ t → m ≤ maxSize → take m (drop (maxSize * u) back) ≡ take m (drop (maxSize * u) s)
   row-other u m n h = ⊎-elim (λ (b : u < t). row-below u m b h) (λ (b : t ≤ u). row-above u m (omega arith)) (lt-or-le u t)
+
+-- ---- a row of two columns
+
+steps-append : (us vs cs ms : List ℕ) → length us ≡ length vs → steps (us ++ cs) (vs ++ ms) ≡ steps us vs ++ steps cs ms
+unfolding steps
+steps-append [] [] cs ms e = refl
+steps-append [] (v ∷ vs) cs ms e = absurd (omega arith)
+steps-append (u ∷ us) [] cs ms e = absurd (omega arith)
+steps-append (u ∷ us) (v ∷ vs) cs ms e = ap (λ (l : List ℕ). stepOf (u % 4) v ∷ l) (steps-append us vs cs ms (omega arith))
+
+-- a part put back into both is put back into the steps
+pub steps-back : (cs ms us vs : List ℕ) (at k : ℕ) → length us ≡ length vs → at ≤ length cs → at ≤ length ms
+    → putMid at k (steps cs ms) (steps us vs) ≡ steps (putMid at k cs us) (putMid at k ms vs)
+steps-back cs ms us vs at k e h l =
+    let front : length (take at cs) ≡ length (take at ms) = length-take-le at cs h ∙ sym (length-take-le at ms l) in
+    sym (steps-append (take at cs) (take at ms) (us ++ drop k (drop at cs)) (vs ++ drop k (drop at ms)) front
+    ∙ ap (λ x. steps (take at cs) (take at ms) ++ x) (steps-append us vs (drop k (drop at cs)) (drop k (drop at ms)) e)
+    ∙ ap (λ x. x ++ (steps us vs ++ steps (drop k (drop at cs)) (drop k (drop at ms)))) (sym (steps-take at cs ms))
+    ∙ ap (λ x. take at (steps cs ms) ++ (steps us vs ++ x)) (sym (ap (drop k) (steps-drop at cs ms) ∙ steps-drop k (drop at cs) (drop at ms))))

@@ -7,11 +7,15 @@ use mathlib.Core.Path.{_≡_, refl, sym, ap, _∙_}
 use borrow.Rule.Slice.PartMut.{putMid}
 use lib.ListN.{length, getD, set, take, drop, length-drop, replicate, getD-replicate}
 use lib.Seq.{length-take-le, getD-set-same, getD-set-other}
-use Rattle.limits.specs.Limits.{maxThreads, maxSize, maxEntries}
+use Rattle.limits.specs.Limits.{maxThreads, claimCount, maxSize, maxEntries}
 use Rattle.laws.proofs.Tests.{eq-or-ne}
 use Rattle.semantics.specs.Plan.{bodyIn}
+use Rattle.semantics.specs.Pairs.{hadOf, wantedOf}
 use Rattle.semantics.specs.Sizes.{sizeOf}
 use Rattle.semantics.specs.StuckRounds.{firstWanted}
+use Rattle.columns.specs.Columns.{pairNumber, steps, places, pairBy}
+use Rattle.columns.proofs.Numbers.{number-held}
+use Rattle.columns.proofs.Steps.{steps-length}
 use Rattle.plan.specs.Table.{tableForms}
 use Rattle.plan.specs.Settled.{tablePlan}
 use Rattle.plan.proofs.WithinSize.{sizes-within}
@@ -21,7 +25,7 @@ use Rattle.procs.specs.declared.Layout.{Layout}
 use Rattle.procs.proofs.Layouts.{runs-at}
 use Rattle.retreat.specs.declared.Targets.{Targets}
 use Rattle.targets.specs.Tables.{procOf, beginOf, LaidPlan, BeginMasks, AtStarts, Target, RowWritten, MemberPut}
-use Rattle.targets.proofs.Rows.{row-same, row-other}
+use Rattle.targets.proofs.Rows.{row-same, row-other, steps-back}
 
 pub few-threads : (ws : List ℕ) (l : Layout) → LaidPlan ws l → l .threads ≤ maxThreads
 few-threads ws l a = rw (a .laid .threads-all) (a .plan .settled .few-threads)
@@ -89,33 +93,66 @@ module _ (ws : List ℕ) (l : Layout) (t pair p : ℕ) (a : LaidPlan ws l) (g : 
         member = g .member;
       })
 
-  pub row-written : (r : ℕ) (steps part : List ℕ) → PathWritten ws p pair r part → maxEntries ≤ length steps
-      → length part ≡ length (take (maxSize * t + maxSize - maxSize * t) (drop (maxSize * t) steps))
-      → RowWritten ws t pair steps r (putMid (maxSize * t) (maxSize * t + maxSize - maxSize * t) steps part)
+  -- one row of each column is lent
+  pub row-room : (choices rows : List ℕ) → maxEntries ≤ length choices → maxEntries ≤ length rows
+      → maxSize ≤ length (steps (take (maxSize * t + maxSize - maxSize * t) (drop (maxSize * t) choices)) (take (maxSize * t + maxSize - maxSize * t) (drop (maxSize * t) rows)))
+  row-room choices rows long wide =
+      let k = maxSize * t + maxSize - maxSize * t in
+      let few : t < maxThreads = omega (arith, g .present, few-threads ws l a) in
+      omega (
+        arith,
+        few,
+        steps-length (take k (drop (maxSize * t) choices)) (take k (drop (maxSize * t) rows)),
+        length-take-le k (drop (maxSize * t) choices) (omega (arith, few, length-drop (maxSize * t) choices)),
+        length-take-le k (drop (maxSize * t) rows) (omega (arith, few, length-drop (maxSize * t) rows)),
+      )
+
+  -- and put back
+  pub row-written : (r : ℕ) (choices rows turns masks : List ℕ) → PathWritten ws p pair r (steps turns masks) → maxEntries ≤ length choices → maxEntries ≤ length rows
+      → length turns ≡ length (take (maxSize * t + maxSize - maxSize * t) (drop (maxSize * t) choices))
+      → length masks ≡ length (take (maxSize * t + maxSize - maxSize * t) (drop (maxSize * t) rows))
+      → RowWritten ws t pair (steps choices rows) r
+      (steps (putMid (maxSize * t) (maxSize * t + maxSize - maxSize * t) choices turns) (putMid (maxSize * t) (maxSize * t + maxSize - maxSize * t) rows masks))
   unfolding sizeOf
-  row-written r steps part w rows same =
+  row-written r choices rows turns masks w long wide same also =
       let k = maxSize * t + maxSize - maxSize * t in
       let size : k ≡ maxSize = omega arith in
       let few : t < maxThreads = omega (arith, g .present, few-threads ws l a) in
-      let room : maxSize * t + maxSize ≤ length steps = omega arith in
-      let full : length part ≡ maxSize = same ∙ length-take-le k (drop (maxSize * t) steps) (omega (arith, length-drop (maxSize * t) steps)) ∙ size in
+      let all : maxEntries ≤ length (steps choices rows) = omega (arith, steps-length choices rows) in
+      let room : maxSize * t + maxSize ≤ length (steps choices rows) = omega arith in
+      let turns-full : length turns ≡ maxSize = same ∙ length-take-le k (drop (maxSize * t) choices) (omega (arith, length-drop (maxSize * t) choices)) ∙ size in
+      let masks-full : length masks ≡ maxSize = also ∙ length-take-le k (drop (maxSize * t) rows) (omega (arith, length-drop (maxSize * t) rows)) ∙ size in
+      let full : length (steps turns masks) ≡ maxSize = omega (arith, steps-length turns masks) in
       let short : r ≤ sizeOf (tablePlan ws .procs) p = rw (w .count) (w .found .short) in
       let small : sizeOf (tablePlan ws .procs) p ≤ maxSize = rw is (size-within ws l t a (g .present)) in
       let le : r ≤ maxSize = omega (arith, short, small) in
-      record {
-        finds = rw (row-same steps part t k size full room r le ∙ w .written, ← is) (w .found .place);
+      let back = steps-back choices rows turns masks (maxSize * t) k (omega (arith, turns-full, masks-full)) (omega (arith, few)) (omega (arith, few)) in
+      rw (← back) (record {
+        finds = rw (row-same (steps choices rows) (steps turns masks) t k size full room r le ∙ w .written, ← is) (w .found .place);
         short = rw (← is) short;
-        others = row-other steps part t k size full room;
-      }
+        others = row-other (steps choices rows) (steps turns masks) t k size full room;
+      })
 
--- ---- the member of a cycle that an entry is
+-- ---- the member of a cycle that a candidate is
 
-module _ (ws : List ℕ) (e t pair : ℕ) (of : t ≡ e % 8) (rest : pair ≡ e / 8) where
-  pub member-target : (n : ℕ) → Target ws n (e % 8) (e / 8) → Target ws n t pair
-  member-target n g = rw (of, rest) g
+module _ (hs ws : List ℕ) (c t aim code : ℕ) (of : t ≡ c % 8) (had : aim ≡ hadOf (pairBy hs c)) (wish : code ≡ c / 8) where
+  pair-again : pairNumber aim code ≡ pairBy hs c
+  unfolding pairBy
+  pair-again =
+      let m = getD hs (c / (8 * claimCount) % places) 0 in
+      ap (λ k. pairNumber aim k) wish ∙ ap (λ x. pairNumber x (c / 8)) (had ∙ number-held m (c / 8))
 
-  pub member-put : (s : Targets) (r k v : ℕ) (steps steps′ : List ℕ) → RowWritten ws t pair steps r steps′ → k ≡ pair % 32 → v ≡ 2 ^ k
-      → MemberPut ws (e % 8) (e / 8) s steps
+  pub member-target : (n : ℕ) → Target ws n (c % 8) (pairBy hs c) → Target ws n t (pairNumber aim code)
+  member-target n g = rw (of, pair-again) g
+
+  pub member-put : (s : Targets) (r k v : ℕ) (steps steps′ : List ℕ) → RowWritten ws t (pairNumber aim code) steps r steps′ → k ≡ wantedOf (pairBy hs c) → v ≡ 2 ^ k
+      → MemberPut ws (c % 8) (pairBy hs c) s steps
       (record { threads = s .threads; positions = set (s .positions) t r; begins = s .begins; wanted = set (s .wanted) t v }) steps′
-  member-put s r k v steps steps′ w f h =
-      rw (← of, ← rest) (record { count = r; row = w; lengths = refl; wanted = rw (h, f); same-threads = refl; same-begins = refl })
+  member-put s r k v steps steps′ w f h = rw (← of) (record {
+    count = r;
+    row = rw pair-again at w;
+    lengths = refl;
+    wanted = ap (λ x. set (s .wanted) t x) (h ∙ ap (λ x. 2 ^ x) f);
+    same-threads = refl;
+    same-begins = refl;
+  })

@@ -20,7 +20,7 @@ use Rattle.procs.specs.declared.Layout.{Layout}
 use Rattle.procs.specs.Laid.{Laid}
 use Rattle.candidates.specs.Candidates.{memberThread, memberPair}
 use Rattle.retreat.specs.declared.Targets.{Targets}
-use Rattle.retreat.specs.Paths.{rowStart, pathOf}
+use Rattle.retreat.specs.Paths.{rowStart}
 use Rattle.retreat.specs.Answer.{TargetsFull, TargetsFit, Right}
 
 -- the pair lists of a plan's threads
@@ -31,7 +31,7 @@ pairLists ws = map (pairList (tablePlan ws .procs)) (tablePlan ws .threads)
 unfoldable pub procOf : List ℕ → ℕ → ℕ
 procOf ws t = threadProc (tablePlan ws) t
 
--- the lock, as a mask, that thread t of a plan begins with a hold of
+-- the claim, as a mask, that thread t of a plan begins with
 unfoldable pub beginOf : List ℕ → ℕ → ℕ
 beginOf ws t = firstWanted (bodyIn (tablePlan ws .procs) (procOf ws t))
 
@@ -42,18 +42,22 @@ pub record LaidPlan (ws : List ℕ) (l : Layout) : Type 0 where
   pub ranks : Ranks (tablePlan ws .procs)
   pub sized : tooLarge (tableForms ws) ≡ none
 
--- What is asked: a plan's table with its layout, and a cycle of k pairs of its threads as candidates thread + 8 × pair.
-pub record CycleAsked (ws : List ℕ) (l : Layout) (chosen : List ℕ) (k : ℕ) : Type 0 where
+-- What is asked: a plan's table with its layout, and a cycle of k pairs of its threads as candidates, where `hs` are the masks of their pairs.
+pub record CycleAsked (hs : List ℕ) (ws : List ℕ) (l : Layout) (chosen : List ℕ) (k : ℕ) : Type 0 where
   pub plan-laid : LaidPlan ws l
-  pub cycle : Cycle (pairLists ws) k (memberThread chosen) (memberPair chosen)
+  pub cycle : Cycle (pairLists ws) k (memberThread chosen) (memberPair hs chosen)
   pub room : k ≤ length chosen
 
 -- What the tables are in the end: right for the cycle, and the paths within their rows.
-pub record PathsPrepared (ws chosen : List ℕ) (k : ℕ) (steps : List ℕ) (r : Targets) : Type 0 where
-  pub right : Right (tablePlan ws) (pairLists ws) k (memberThread chosen) (memberPair chosen) steps r
-  pub fit : TargetsFit steps r
+pub record PathsPrepared (hs : List ℕ) (ws chosen : List ℕ) (k : ℕ) (choices rows : List ℕ) (r : Targets) : Type 0 where
+  pub right : Right (tablePlan ws) (pairLists ws) k (memberThread chosen) (memberPair hs chosen) choices rows r
+  pub fit : TargetsFit choices rows r
 
 -- ---- on the way
+
+-- the path of thread t among the steps of all: as many as `lens` says
+unfoldable pub pathIn : List ℕ → List ℕ → ℕ → List ℕ
+pathIn steps lens t = take (getD lens t 0) (drop (rowStart t) steps)
 
 -- the first n entries are what the threads begin with
 unfoldable pub BeginMasks : List ℕ → List ℕ → ℕ → Type 0
@@ -78,7 +82,7 @@ pub record RowWritten (ws : List ℕ) (t pair : ℕ) (before : List ℕ) (r : �
   pub short : r ≤ sizeOf (tablePlan ws .procs) (procOf ws t)
   pub others : (u m : ℕ) → u ≢ t → m ≤ maxSize → take m (drop (rowStart u) after) ≡ take m (drop (rowStart u) before)
 
--- The path, its length and the wanted lock of thread t are put into the tables.
+-- The path, its length and the wanted claim of thread t are put into the tables.
 pub record MemberPut (ws : List ℕ) (t pair : ℕ) (s : Targets) (steps : List ℕ) (s′ : Targets) (steps′ : List ℕ) : Type 0 where
   pub count : ℕ
   pub row : RowWritten ws t pair steps count steps′
@@ -87,13 +91,13 @@ pub record MemberPut (ws : List ℕ) (t pair : ℕ) (s : Targets) (steps : List 
   pub same-threads : s′ .threads ≡ s .threads
   pub same-begins : s′ .begins ≡ s .begins
 
--- The first i members of the cycle are done: their paths, lengths and wanted locks are in the tables. The other threads have no steps and want what they begin with.
-pub record MembersDone (ws chosen : List ℕ) (i n : ℕ) (steps : List ℕ) (s : Targets) : Type 0 where
+-- The first i members of the cycle are done: their paths, lengths and wanted claims are in the tables. The other threads have no steps and want what they begin with.
+pub record MembersDone (hs : List ℕ) (ws chosen : List ℕ) (i n : ℕ) (steps : List ℕ) (s : Targets) : Type 0 where
   pub all : s .threads ≡ n
   pub full : TargetsFull s
   pub begins-are : BeginMasks ws (s .begins) n
-  pub path : (j : ℕ) → j < i → Finds (tablePlan ws .procs) (initial (tablePlan ws .procs) (procOf ws (memberThread chosen j))) (memberPair chosen j)
-      (pathOf steps (s .positions) (memberThread chosen j))
+  pub path : (j : ℕ) → j < i → Finds (tablePlan ws .procs) (initial (tablePlan ws .procs) (procOf ws (memberThread chosen j))) (memberPair hs chosen j)
+      (pathIn steps (s .positions) (memberThread chosen j))
   pub short : (j : ℕ) → j < i → getD (s .positions) (memberThread chosen j) 0 ≤ sizeOf (tablePlan ws .procs) (procOf ws (memberThread chosen j))
-  pub wants : (j : ℕ) → j < i → getD (s .wanted) (memberThread chosen j) 0 ≡ 2 ^ wantedOf (memberPair chosen j)
+  pub wants : (j : ℕ) → j < i → getD (s .wanted) (memberThread chosen j) 0 ≡ 2 ^ wantedOf (memberPair hs chosen j)
   pub others : (t : ℕ) → t < n → ((j : ℕ) → j < i → memberThread chosen j ≢ t) → (getD (s .positions) t 0 ≡ 0) × (getD (s .wanted) t 0 ≡ beginOf ws t)

@@ -1,11 +1,14 @@
 // The tables that a schedule to a cycle is made from: the path of each of its threads to its pair, what each thread begins with and what it wants.
 ghost use mathlib.Core.Path.{_≡_};
-ghost use Prim.Native.Nat.{_/_, _%_, _≤_, _<_};
+ghost use Prim.Native.Nat.{_%_, _≤_, _<_};
 ghost use lib.ListN.{length};
 ghost use Rattle.limits.specs.Limits.{maxEntries};
+ghost use Rattle.columns.specs.Columns.{pairNumber, steps, pairBy};
 ghost use Rattle.targets.specs.Tables.{procOf, beginOf, LaidPlan, CycleAsked, PathsPrepared, AtStarts, Target, RowWritten, MemberPut};
+use columns::PLACES;
 use limits::MAX_SIZE;
 use limits::MAX_THREADS;
+use paths::Goal;
 use procs::Layout;
 use retreat::Targets;
 
@@ -18,7 +21,7 @@ fn proc_of(table: &[u64], layout: Layout, t: usize) -> usize
     runs[t] as usize
 }
 
-// The lock that thread t begins with a hold of, as a mask.
+// The claim that thread t begins with, as a mask.
 fn begin_of(table: &[u64], layout: Layout, t: usize) -> u64
     requires { ⌜ LaidPlan (now table) layout × (t < layout .threads) ⌝ }
     ensures { λ r. ⌜ r ≡ beginOf (now (table .entry)) t ⌝ }
@@ -50,39 +53,61 @@ fn at_starts(table: &[u64], layout: Layout) -> Targets
     }
 }
 
-// The path of thread t to a pair, into its row: how many steps it has.
-fn put_path(table: &[u64], layout: Layout, t: usize, pair: u64, steps: &mut [u64]) -> usize
-    requires { ⌜ LaidPlan (now table) layout × Target (now table) (layout .threads) t pair × (maxEntries ≤ length (now steps)) ⌝ }
-    ensures { λ r. ⌜ RowWritten (now (table .entry)) t pair (now (steps .entry)) r (now (steps .exit)) ⌝ }
+// The path of thread t to the pair with a mask and a code, into its row of the columns of steps: how many steps it has.
+fn put_path(
+    table: &[u64],
+    layout: Layout,
+    t: usize,
+    aim: u64,
+    code: u32,
+    choices: &mut [u8],
+    rows: &mut [u64],
+) -> usize
+    requires { ⌜ LaidPlan (now table) layout × Target (now table) (layout .threads) t (pairNumber aim code) × (maxEntries ≤ length (now choices)) × (maxEntries ≤ length (now rows)) ⌝ }
+    ensures { λ r. ⌜ RowWritten (now (table .entry)) t (pairNumber aim code) (steps (now (choices .entry)) (now (rows .entry))) r (steps (now (choices .exit)) (now (rows .exit))) ⌝ }
 {
-    let p = proc_of(table, layout, t);
+    let procedure = proc_of(table, layout, t);
+    let goal = Goal {
+        procedure,
+        aim,
+        code,
+    };
     let starts = layout.starts;
     let procs = layout.procs;
     let at = MAX_SIZE * t;
     let end = at + MAX_SIZE;
-    paths::path_to(table, &starts, procs, p, pair, &mut steps[at..end])
+    paths::path_to(
+        table,
+        &starts,
+        procs,
+        goal,
+        &mut choices[at..end],
+        &mut rows[at..end],
+    )
 }
 
-// The member of the cycle that an entry is: its path into its row, its length and its wanted lock into the tables.
+// The member of the cycle that a candidate is: its path into its row, its length and its wanted claim into the tables.
 fn put_member(
+    masks: &[u64; PLACES],
     table: &[u64],
     layout: Layout,
-    entry: u64,
+    c: u32,
     targets: Targets,
-    steps: &mut [u64],
+    choices: &mut [u8],
+    rows: &mut [u64],
 ) -> Targets
-    requires { ⌜ LaidPlan (now table) layout × Target (now table) (layout .threads) (entry % 8) (entry / 8) × (maxEntries ≤ length (now steps)) ⌝ }
-    ensures { λ r. ⌜ MemberPut (now (table .entry)) (entry % 8) (entry / 8) targets (now (steps .entry)) r (now (steps .exit)) ⌝ }
+    requires { ⌜ LaidPlan (now table) layout × Target (now table) (layout .threads) (c % 8) (pairBy (now masks) c) × (maxEntries ≤ length (now choices)) × (maxEntries ≤ length (now rows)) ⌝ }
+    ensures { λ r. ⌜ MemberPut (now (table .entry)) (c % 8) (pairBy (now (masks .entry)) c) targets (steps (now (choices .entry)) (now (rows .entry))) r (steps (now (choices .exit)) (now (rows .exit))) ⌝ }
 {
-    let t = locks::thread_in(entry) as usize;
-    let pair = locks::rest_in(entry);
-    let count = put_path(table, layout, t, pair, steps);
+    let t = columns::thread_in(c) as usize;
+    let aim = columns::locks_in(masks, c);
+    let count = put_path(table, layout, t, aim, c >> 3, choices, rows);
     let threads = targets.threads;
     let mut positions = targets.positions;
     let begins = targets.begins;
     let mut wanted = targets.wanted;
     positions[t] = count as u64;
-    wanted[t] = locks::lock_bit(locks::wanted_in(pair));
+    wanted[t] = locks::claim_bit(columns::wanted_in(masks, c));
     Targets {
         threads,
         positions,
@@ -91,22 +116,24 @@ fn put_member(
     }
 }
 
-// The tables for `retreat::schedule`, from a cycle of k pairs as candidates thread + 8 × pair: the path of each of its threads to its pair, in a row of
-// MAX_SIZE numbers of `steps`, with its length and the lock that is wanted there; the other threads stay at their start.
+// The tables for `retreat::schedule`, from a cycle of k pairs as candidates: the path of each of its threads to its pair, in a row of
+// MAX_SIZE places of the columns, with its length and the claim that is wanted there; the other threads stay at their start.
 pub fn thread_paths(
+    masks: &[u64; PLACES],
     table: &[u64],
     layout: Layout,
-    chosen: &[u64],
+    chosen: &[u32],
     k: usize,
-    steps: &mut [u64],
+    choices: &mut [u8],
+    rows: &mut [u64],
 ) -> Targets
-    requires { ⌜ CycleAsked (now table) layout (now chosen) k × (maxEntries ≤ length (now steps)) ⌝ }
-    ensures { λ r. ⌜ PathsPrepared (now (table .entry)) (now (chosen .entry)) k (now (steps .exit)) r ⌝ }
+    requires { ⌜ CycleAsked (now masks) (now table) layout (now chosen) k × (maxEntries ≤ length (now choices)) × (maxEntries ≤ length (now rows)) ⌝ }
+    ensures { λ r. ⌜ PathsPrepared (now (masks .entry)) (now (table .entry)) (now (chosen .entry)) k (now (choices .exit)) (now (rows .exit)) r ⌝ }
 {
     let mut targets = at_starts(table, layout);
     let mut i: usize = 0;
     while i < k {
-        targets = put_member(table, layout, chosen[i], targets, steps);
+        targets = put_member(masks, table, layout, chosen[i], targets, choices, rows);
         i += 1;
     }
     targets

@@ -13,13 +13,13 @@ use denote.Enum.Declared.{tagOf}
 use mir.Val.{hasKey}
 use types.Run.{OneOf}
 use Rattle.text.specs.declared.Form.{Form}
-use Rattle.text.specs.declared.Form.the-variants.{Plan, Proc, Thread, Close, Skip, Call, Hold, Loop, Either, One, Two}
+use Rattle.text.specs.declared.Form.the-variants.{Plan, Proc, Thread, Close, Skip, Call, Hold, Loop, Either, One, Two, Share}
 use Rattle.text.specs.Forms.{numberIn, kindNumber, kindIn}
 use Rattle.text.proofs.Form.{the-type}
 
 -- the forms in the order in which they are declared, each with the number n where it has one
 abbrev pub formAt : ℕ → ℕ → Form
-formAt n k = getD (Plan ∷ Proc ∷ Thread n ∷ Close ∷ Skip ∷ Call n ∷ Hold n ∷ Loop ∷ Either ∷ One ∷ Two ∷ []) k Close
+formAt n k = getD (Plan ∷ Proc ∷ Thread n ∷ Close ∷ Skip ∷ Call n ∷ Hold n ∷ Loop ∷ Either ∷ One ∷ Two ∷ Share n ∷ []) k Close
 
 form-there : (f : Form) → formAt (numberIn f) (kindNumber f) ≡ f
 unfolding numberIn
@@ -34,6 +34,7 @@ form-there Loop = refl
 form-there Either = refl
 form-there One = refl
 form-there Two = refl
+form-there (Share l) = refl
 
 kind-tag : (f : Form) → tagOf the-type f ≡ kindNumber f
 kind-tag Plan = refl
@@ -47,6 +48,7 @@ kind-tag Loop = refl
 kind-tag Either = refl
 kind-tag One = refl
 kind-tag Two = refl
+kind-tag (Share l) = refl
 
 -- a form of the kind of g
 pub kind-form : (g f : Form) → kindIn (g ∷ []) f ≡ true → f ≡ formAt (numberIn f) (kindNumber g)
@@ -88,7 +90,7 @@ without js [] = []
 without js (k ∷ ks) = cond (hasKey js k) (without js ks) (k ∷ without js ks)
 
 abbrev pub others : List Form → List ℕ
-others gs = without (positions gs) (0 ∷ 1 ∷ 2 ∷ 3 ∷ 4 ∷ 5 ∷ 6 ∷ 7 ∷ 8 ∷ 9 ∷ 10 ∷ [])
+others gs = without (positions gs) (0 ∷ 1 ∷ 2 ∷ 3 ∷ 4 ∷ 5 ∷ 6 ∷ 7 ∷ 8 ∷ 9 ∷ 10 ∷ 11 ∷ [])
 
 -- the arm of one pattern, of several, and of the rest
 module _ (gs : List Form) (f : Form) (r : Bool) where

@@ -12,7 +12,7 @@ use lib.Dec.{eqb}
 use borrow.Author.Tests.{ne-eqb}
 use Rattle.laws.specs.Choice.{pick}
 use Rattle.text.specs.declared.Form.{Form}
-use Rattle.text.specs.declared.Form.the-variants.{Plan, Proc, Thread, Close, Skip, Call, Hold, Loop, Either, One, Two}
+use Rattle.text.specs.declared.Form.the-variants.{Plan, Proc, Thread, Close, Skip, Call, Hold, Loop, Either, One, Two, Share}
 use Rattle.text.specs.declared.Kind.{Kind}
 use Rattle.text.specs.declared.Kind.the-variants.{Known, Unknown}
 use Rattle.text.specs.declared.Place.{Place}
@@ -42,6 +42,7 @@ written-kept Loop = (refl, refl)
 written-kept Either = (refl, refl)
 written-kept One = (refl, refl)
 written-kept Two = (refl, refl)
+written-kept (Share n) = (refl, refl)
 
 pub write-unindented : (f : Form) → unindented (write f) ≡ write f
 write-unindented f = written-kept f .0

@@ -17,14 +17,14 @@ use Rattle.laws.proofs.Bytes.{equal-refl, equal-is}
 use Rattle.laws.proofs.Choices.{pick-elim}
 use Rattle.laws.proofs.Tests.{lt-or-le, T-and}
 use Rattle.text.specs.declared.Form.{Form}
-use Rattle.text.specs.declared.Form.the-variants.{Plan, Proc, Thread, Close, Skip, Call, Hold, Loop, Either, One, Two}
+use Rattle.text.specs.declared.Form.the-variants.{Plan, Proc, Thread, Close, Skip, Call, Hold, Loop, Either, One, Two, Share}
 use Rattle.text.specs.declared.Kind.{Kind}
 use Rattle.text.specs.declared.Kind.the-variants.{Known, Unknown}
 use Rattle.text.specs.declared.Number.{Number}
 use Rattle.text.specs.declared.Number.the-variants.{Is, Not}
 use Rattle.text.specs.Forms.{decimal, write, numberIn, IsForm}
 use Rattle.text.specs.Kinds.{digitOf, leadingOf, appendDigit, numberOf, afterKeyword, betweenKeyword, keywordKind}
-use Rattle.text.specs.Kinds.{numbered, holdKind, callKind, threadKind, planKind, twoKind, kindOf}
+use Rattle.text.specs.Kinds.{numbered, holdKind, shareKind, callKind, threadKind, planKind, twoKind, skipKind, kindOf}
 
 -- digits, read and written
 
@@ -249,6 +249,11 @@ unfolding holdKind write numberIn
 right-hold l = right-number l Hold (afterKeyword l (bytes "(hold "))
     (λ n e. let a = after-inv l (bytes "(hold ") n e in record { small = a .small; written = a .written })
 
+right-share : (l : List ℕ) → Right l (shareKind l)
+unfolding shareKind write numberIn
+right-share l = right-number l Share (afterKeyword l (bytes "(share "))
+    (λ n e. let a = after-inv l (bytes "(share ") n e in record { small = a .small; written = a .written })
+
 right-call : (l : List ℕ) → Right l (callKind l)
 unfolding callKind write numberIn
 right-call l = right-number l Call (betweenKeyword l (bytes "(call "))
@@ -277,11 +282,18 @@ right-two l =
     (right-pick l (eqb (getD l 2 0) 119) _ _ (right-keyword l Two (omega arith))
     (right-pick l (eqb (getD l 2 0) 104) _ _ (right-thread l) (right-unknown l)))
 
+right-skip : (l : List ℕ) → Right l (skipKind l)
+unfolding skipKind write numberIn
+right-skip l =
+    right-pick l (ltb (length l) 3) _ _ (right-unknown l)
+    (right-pick l (eqb (getD l 2 0) 107) _ _ (right-keyword l Skip (omega arith))
+    (right-pick l (eqb (getD l 2 0) 104) _ _ (right-share l) (right-unknown l)))
+
 right-kind : (l : List ℕ) → Right l (kindOf l)
 unfolding kindOf write numberIn
 right-kind l =
     right-pick l (ltb (length l) 2) _ _ (right-keyword l Close (omega arith))
-    (right-pick l (eqb (getD l 1 0) 115) _ _ (right-keyword l Skip (omega arith))
+    (right-pick l (eqb (getD l 1 0) 115) _ _ (right-skip l)
     (right-pick l (eqb (getD l 1 0) 99) _ _ (right-call l)
     (right-pick l (eqb (getD l 1 0) 104) _ _ (right-hold l)
     (right-pick l (eqb (getD l 1 0) 108) _ _ (right-keyword l Loop (omega arith))
@@ -292,7 +304,7 @@ right-kind l =
 
 -- the kind of a form as it is written
 written-kind : (f : Form) → numberIn f < 1000 → kindOf (write f) ≡ Known f
-unfolding kindOf planKind twoKind holdKind callKind threadKind keywordKind numbered pick equal write numberIn
+unfolding kindOf planKind twoKind skipKind holdKind shareKind callKind threadKind keywordKind numbered pick equal write numberIn
 written-kind Plan h = refl
 written-kind Proc h = refl
 written-kind (Thread n) h =
@@ -311,6 +323,9 @@ written-kind Loop h = refl
 written-kind Either h = refl
 written-kind One h = refl
 written-kind Two h = refl
+written-kind (Share n) h =
+    rw (le-ltb (length (bytes "(share " ++ decimal n)) 2 (omega arith), le-ltb (length (bytes "(share " ++ decimal n)) 3 (omega arith))
+    (ap (numbered Share) (after-keyword (bytes "(share ") (decimal n) ∙ number-decimal n h))
 
 pub kind-written : (l : List ℕ) (f : Form) → (kindOf l ≡ Known f) ↔ IsForm l f
 kind-written l f = (right-kind l f, λ w. ap kindOf (w .written) ∙ written-kind f (w .small))
@@ -338,6 +353,7 @@ write-some Loop = omega arith
 write-some Either = omega arith
 write-some One = omega arith
 write-some Two = omega arith
+write-some (Share n) = omega arith
 
 abbrev Unbroken : List ℕ → Type 0
 Unbroken l = List·Memᴰ 10 l → ⊥
@@ -388,3 +404,4 @@ write-unbroken Loop = unbroken-is (bytes "(loop") tt
 write-unbroken Either = unbroken-is (bytes "(either") tt
 write-unbroken One = unbroken-is (bytes "(one") tt
 write-unbroken Two = unbroken-is (bytes "(two") tt
+write-unbroken (Share n) = unbroken-append (bytes "(share ") (decimal n) (unbroken-is (bytes "(share ") tt) (unbroken-decimal n)

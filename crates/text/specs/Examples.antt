@@ -5,11 +5,11 @@ use mathlib.Core.Option.{Option, none, some}
 use mathlib.Core.Path.{_≡_, refl}
 use Rattle.laws.specs.Choice.{pick}
 use Rattle.laws.specs.Bytes.{bytes, equal}
-use Rattle.text.specs.declared.Form.the-variants.{Plan, Proc, Thread, Close, Skip, Call, Hold, Loop, Either, One, Two}
+use Rattle.text.specs.declared.Form.the-variants.{Plan, Proc, Thread, Close, Skip, Call, Hold, Loop, Either, One, Two, Share}
 use Rattle.text.specs.declared.Kind.{Kind}
 use Rattle.text.specs.declared.Kind.the-variants.{Known, Unknown}
 use Rattle.text.specs.Kinds.{digitOf, leadingOf, appendDigit, numberOf, afterKeyword, betweenKeyword, keywordKind}
-use Rattle.text.specs.Kinds.{numbered, holdKind, callKind, threadKind, planKind, twoKind, kindOf}
+use Rattle.text.specs.Kinds.{numbered, holdKind, shareKind, callKind, threadKind, planKind, twoKind, skipKind, kindOf}
 use Rattle.text.specs.Lines.{split, unindented, passedOver, unreadable, unreadableLine, lineFor, lineOf}
 
 record Example : Type 0 where
@@ -31,6 +31,16 @@ examples =
     record { rest = bytes "(hold 12)"; kind = Unknown } ∷
     record { rest = bytes "(hold  1"; kind = Unknown } ∷
     record { rest = bytes "(hold +1"; kind = Unknown } ∷
+    record { rest = bytes "(share 0"; kind = Known (Share 0) } ∷
+    record { rest = bytes "(share 12"; kind = Known (Share 12) } ∷
+    record { rest = bytes "(share 999"; kind = Known (Share 999) } ∷
+    record { rest = bytes "(share 1000"; kind = Unknown } ∷
+    record { rest = bytes "(share 012"; kind = Unknown } ∷
+    record { rest = bytes "(share 12)"; kind = Unknown } ∷
+    record { rest = bytes "(share  1"; kind = Unknown } ∷
+    record { rest = bytes "(share"; kind = Unknown } ∷
+    record { rest = bytes "(shared 1"; kind = Unknown } ∷
+    record { rest = bytes "(s"; kind = Unknown } ∷
     record { rest = bytes "(call 7)"; kind = Known (Call 7) } ∷
     record { rest = bytes "(call 7"; kind = Unknown } ∷
     record { rest = bytes "(call )"; kind = Unknown } ∷
@@ -55,7 +65,7 @@ examples =
     []
 
 examples-right : map (λ e. kindOf (e .rest)) examples ≡ map (λ e. e .kind) examples
-unfolding examples kindOf planKind twoKind holdKind callKind threadKind keywordKind numbered betweenKeyword afterKeyword numberOf appendDigit leadingOf digitOf pick equal
+unfolding examples kindOf planKind twoKind skipKind holdKind shareKind callKind threadKind keywordKind numbered betweenKeyword afterKeyword numberOf appendDigit leadingOf digitOf pick equal
 examples-right = refl
 
 -- the first unreadable line of a text

@@ -1,4 +1,4 @@
--- The forms of a plan text and how each is written. 01, "The plan text".
+-- The forms of a plan text and how each is written. 01, "The plan text"; 02, change 9, "Add `(share N`, block, `)`".
 use mathlib.Core.Bool.{Bool, false, _||_, cond}
 use Prim.Native.Nat.{ℕ, _+_, _/_, _%_, _<_}
 use mathlib.Core.List.{List, [], _∷_, _++_}
@@ -6,7 +6,7 @@ use mathlib.Core.Path.{_≡_}
 use lib.Dec.{eqb, ltb}
 use Rattle.laws.specs.Bytes.{bytes}
 use Rattle.text.specs.declared.Form.{Form}
-use Rattle.text.specs.declared.Form.the-variants.{Plan, Proc, Thread, Close, Skip, Call, Hold, Loop, Either, One, Two}
+use Rattle.text.specs.declared.Form.the-variants.{Plan, Proc, Thread, Close, Skip, Call, Hold, Loop, Either, One, Two, Share}
 
 -- "N is one to three digits without a leading zero, or `0`": the digits of a number below 1,000
 unfoldable pub decimal : ℕ → List ℕ
@@ -28,6 +28,7 @@ write Loop = bytes "(loop"
 write Either = bytes "(either"
 write One = bytes "(one"
 write Two = bytes "(two"
+write (Share n) = bytes "(share " ++ decimal n
 
 -- a form's number, or 0 where it has none
 unfoldable pub numberIn : Form → ℕ
@@ -42,6 +43,7 @@ numberIn Loop = 0
 numberIn Either = 0
 numberIn One = 0
 numberIn Two = 0
+numberIn (Share n) = n
 
 -- ---- the kinds of forms
 
@@ -58,6 +60,7 @@ kindNumber Loop = 7
 kindNumber Either = 8
 kindNumber One = 9
 kindNumber Two = 10
+kindNumber (Share l) = 11
 
 -- whether a form is of the kind of one of the forms gs, whatever their numbers
 unfoldable pub kindIn : List Form → Form → Bool
@@ -84,13 +87,21 @@ isCall f = kindIn (Call 0 ∷ []) f
 abbrev pub isHold : Form → Bool
 isHold f = kindIn (Hold 0 ∷ []) f
 
--- "A statement is `(skip)`; `(call N)`; `(hold N` ..; `(loop` ..; or `(either` .."
-abbrev pub isStatement : Form → Bool
-isStatement f = kindIn (Skip ∷ Call 0 ∷ Hold 0 ∷ Loop ∷ Either ∷ []) f
+-- `(share N`
+abbrev pub isShare : Form → Bool
+isShare f = kindIn (Share 0 ∷ []) f
 
--- "brackets of hold, loop, either, one and two"
+-- `(hold N` or `(share N`: the forms that take a lock, which rule 6 tests
+abbrev pub takesLock : Form → Bool
+takesLock f = kindIn (Hold 0 ∷ Share 0 ∷ []) f
+
+-- "A statement is `(skip)`; `(call N)`; `(hold N` ..; `(loop` ..; or `(either` .."; 02, change 9: a share is "one statement and one bracket in rule 5"
+abbrev pub isStatement : Form → Bool
+isStatement f = kindIn (Skip ∷ Call 0 ∷ Hold 0 ∷ Loop ∷ Either ∷ Share 0 ∷ []) f
+
+-- "brackets of hold, loop, either, one and two", and of share
 abbrev pub isBracket : Form → Bool
-isBracket f = kindIn (Hold 0 ∷ Loop ∷ Either ∷ One ∷ Two ∷ []) f
+isBracket f = kindIn (Hold 0 ∷ Loop ∷ Either ∷ One ∷ Two ∷ Share 0 ∷ []) f
 
 -- forms that do not stand within a procedure: they begin the plan, a procedure or a thread
 abbrev pub beginsOther : Form → Bool

@@ -8,7 +8,7 @@ use lib.ListN.{length, getD, take, drop}
 use Rattle.laws.specs.Choice.{pick}
 use Rattle.laws.specs.Bytes.{bytes, equal}
 use Rattle.text.specs.declared.Form.{Form}
-use Rattle.text.specs.declared.Form.the-variants.{Plan, Proc, Thread, Close, Skip, Call, Hold, Loop, Either, One, Two}
+use Rattle.text.specs.declared.Form.the-variants.{Plan, Proc, Thread, Close, Skip, Call, Hold, Loop, Either, One, Two, Share}
 use Rattle.text.specs.declared.Kind.{Kind}
 use Rattle.text.specs.declared.Kind.the-variants.{Known, Unknown}
 use Rattle.text.specs.declared.Number.{Number}
@@ -59,6 +59,9 @@ numbered f Not = Unknown
 unfoldable pub holdKind : List ℕ → Kind
 holdKind l = numbered Hold (afterKeyword l (bytes "(hold "))
 
+unfoldable pub shareKind : List ℕ → Kind
+shareKind l = numbered Share (afterKeyword l (bytes "(share "))
+
 unfoldable pub callKind : List ℕ → Kind
 callKind l = numbered Call (betweenKeyword l (bytes "(call "))
 
@@ -81,11 +84,19 @@ twoKind l =
     (pick (eqb (getD l 2 0) 104) (threadKind l)
     Unknown))
 
+-- by the third letter, k or h
+unfoldable pub skipKind : List ℕ → Kind
+skipKind l =
+    pick (ltb (length l) 3) Unknown
+    (pick (eqb (getD l 2 0) 107) (keywordKind l (bytes "(skip)") Skip)
+    (pick (eqb (getD l 2 0) 104) (shareKind l)
+    Unknown))
+
 -- by the second letter: s, c, h, l, e, o, t, p
 unfoldable pub kindOf : List ℕ → Kind
 kindOf l =
     pick (ltb (length l) 2) (keywordKind l (bytes ")") Close)
-    (pick (eqb (getD l 1 0) 115) (keywordKind l (bytes "(skip)") Skip)
+    (pick (eqb (getD l 1 0) 115) (skipKind l)
     (pick (eqb (getD l 1 0) 99) (callKind l)
     (pick (eqb (getD l 1 0) 104) (holdKind l)
     (pick (eqb (getD l 1 0) 108) (keywordKind l (bytes "(loop") Loop)

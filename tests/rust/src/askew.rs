@@ -16,6 +16,7 @@ fn block(trees: &[Tree], fault: Fault) -> Vec<Tree> {
     let right = |tree: &Tree| match tree {
         Tree::Skip | Tree::Call(_) => vec![tree.clone()],
         Tree::Hold(lock, body) => vec![Tree::Hold(*lock, inner(body))],
+        Tree::Share(lock, body) => vec![Tree::Share(*lock, inner(body))],
         Tree::Loop(body) => inner(body),
         Tree::Either(one, two) => [inner(one), inner(two)].concat(),
     };
@@ -159,6 +160,30 @@ pub fn holds_as_they_stand(draft: &Draft) -> Vec<u8> {
     })
 }
 
+/// A share's block as it stands.
+pub fn shares_as_they_stand(draft: &Draft) -> Vec<u8> {
+    by(draft, |tree, _| match tree {
+        Tree::Share(..) => Some(vec![tree.clone()]),
+        _ => None,
+    })
+}
+
+/// Shares become holds.
+pub fn holds_for_shares(draft: &Draft) -> Vec<u8> {
+    by(draft, |tree, inner| match tree {
+        Tree::Share(lock, body) => Some(vec![Tree::Hold(*lock, inner(body))]),
+        _ => None,
+    })
+}
+
+/// Shares go too.
+pub fn shares_lost(draft: &Draft) -> Vec<u8> {
+    by(draft, |tree, inner| match tree {
+        Tree::Share(_, body) => Some(inner(body)),
+        _ => None,
+    })
+}
+
 /// Eithers right inside a loop stay, with straightened blocks.
 pub fn eithers_of_loops_kept(draft: &Draft) -> Vec<u8> {
     by(draft, |tree, inner| {
@@ -185,7 +210,7 @@ pub fn holds_lost(draft: &Draft) -> Vec<u8> {
 pub fn holds_of_branches_lost(draft: &Draft) -> Vec<u8> {
     fn without(trees: &[Tree]) -> Vec<Tree> {
         let part = |tree: &Tree| match tree {
-            Tree::Hold(_, body) => body.clone(),
+            Tree::Hold(_, body) | Tree::Share(_, body) => body.clone(),
             other => vec![other.clone()],
         };
         trees.iter().flat_map(part).collect()
@@ -270,6 +295,7 @@ pub fn calls_replaced(draft: &Draft) -> Vec<u8> {
         let part = |tree: &Tree| match tree {
             Tree::Call(callee) => replaced(draft, &straight::block(&draft.procs[*callee])),
             Tree::Hold(lock, body) => vec![Tree::Hold(*lock, replaced(draft, body))],
+            Tree::Share(lock, body) => vec![Tree::Share(*lock, replaced(draft, body))],
             other => vec![other.clone()],
         };
         body.iter().flat_map(part).collect()
@@ -285,6 +311,7 @@ pub fn deepest_kept(draft: &Draft) -> Vec<u8> {
             Tree::Either(..) if left == 2 => vec![tree.clone()],
             Tree::Skip | Tree::Call(_) => vec![tree.clone()],
             Tree::Hold(lock, body) => vec![Tree::Hold(*lock, deep(body, left - 1))],
+            Tree::Share(lock, body) => vec![Tree::Share(*lock, deep(body, left - 1))],
             Tree::Loop(body) => deep(body, left - 1),
             Tree::Either(one, two) => [deep(one, left - 2), deep(two, left - 2)].concat(),
         };

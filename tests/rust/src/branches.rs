@@ -33,7 +33,7 @@ pub fn rounds(count: usize) -> Vec<Tree> {
 fn depth(block: &[Tree]) -> usize {
     let one = |tree: &Tree| match tree {
         Tree::Skip | Tree::Call(_) => 0,
-        Tree::Hold(_, body) | Tree::Loop(body) => 1 + depth(body),
+        Tree::Hold(_, body) | Tree::Share(_, body) | Tree::Loop(body) => 1 + depth(body),
         Tree::Either(one, two) => 2 + depth(one).max(depth(two)),
     };
     block.iter().map(one).max().unwrap_or(0)
@@ -45,6 +45,7 @@ fn bend(block: &[Tree], left: usize, random: &mut Random) -> Vec<Tree> {
     let mut inner = |tree: &Tree| match tree {
         Tree::Skip | Tree::Call(_) => tree.clone(),
         Tree::Hold(lock, body) => Tree::Hold(*lock, bend(body, left.saturating_sub(1), random)),
+        Tree::Share(lock, body) => Tree::Share(*lock, bend(body, left.saturating_sub(1), random)),
         Tree::Loop(body) => Tree::Loop(bend(body, left.saturating_sub(1), random)),
         Tree::Either(one, two) => {
             let left = left.saturating_sub(2);

@@ -4,14 +4,26 @@
 
 use std::collections::BTreeMap;
 
-use crate::families::{hold, some_of, Draft, Tree};
+use crate::families::{hold, share, some_of, Draft, Tree};
 use crate::random::Random;
 use crate::reference::{sized, Refusal, MAX_BRACKETS, MAX_PROCS, MAX_THREADS};
+
+/// A lock, and whether it is taken by a share.
+#[derive(Clone, Copy, Debug, PartialEq, Eq, PartialOrd, Ord)]
+struct Taken {
+    lock: usize,
+    shared: bool,
+}
+
+/// Holds of locks.
+fn held(locks: Vec<usize>) -> Vec<Taken> {
+    locks.into_iter().map(|lock| Taken { lock, shared: false }).collect()
+}
 
 /// Locks one inside the other, around a call or a skip.
 #[derive(Clone, Debug, PartialEq, Eq, PartialOrd, Ord)]
 struct Chain {
-    locks: Vec<usize>,
+    locks: Vec<Taken>,
     call: Option<usize>,
 }
 
@@ -20,11 +32,13 @@ struct Chain {
 pub struct Chains {
     bodies: Vec<Vec<Chain>>,
     threads: Vec<usize>,
+    /// Whether changes make shares, too.
+    shares: bool,
 }
 
 /// Chains as a block: those with a common beginning share its holds.
 fn block(chains: &[Chain]) -> Vec<Tree> {
-    let mut rests: BTreeMap<usize, Vec<Chain>> = BTreeMap::new();
+    let mut rests: BTreeMap<Taken, Vec<Chain>> = BTreeMap::new();
     let mut ends: Vec<Tree> = Vec::new();
     for chain in chains {
         match (chain.locks.split_first(), chain.call) {
@@ -36,17 +50,22 @@ fn block(chains: &[Chain]) -> Vec<Tree> {
         }
     }
     ends.dedup();
-    ends.extend(rests.into_iter().map(|(first, rest)| hold(first, block(&rest))));
+    ends.extend(rests.into_iter().map(|(first, rest)| match first.shared {
+        true => share(first.lock, block(&rest)),
+        false => hold(first.lock, block(&rest)),
+    }));
     ends
 }
 
 /// The chains of a block behind some locks; an either gives those of both blocks.
-fn chains_of(block: &[Tree], locks: &[usize], all: &mut Vec<Chain>) {
+fn chains_of(block: &[Tree], locks: &[Taken], all: &mut Vec<Chain>) {
+    let with = |lock: usize, shared: bool| [locks, &[Taken { lock, shared }]].concat();
     for tree in block {
         match tree {
             Tree::Skip => all.push(Chain { locks: locks.to_vec(), call: None }),
             Tree::Call(callee) => all.push(Chain { locks: locks.to_vec(), call: Some(*callee) }),
-            Tree::Hold(lock, body) => chains_of(body, &[locks, &[*lock]].concat(), all),
+            Tree::Hold(lock, body) => chains_of(body, &with(*lock, false), all),
+            Tree::Share(lock, body) => chains_of(body, &with(*lock, true), all),
             Tree::Loop(body) => chains_of(body, locks, all),
             Tree::Either(one, two) => {
                 chains_of(one, locks, all);
@@ -66,7 +85,20 @@ impl Chains {
             all.dedup();
             all
         };
-        Chains { bodies: draft.procs.iter().map(body).collect(), threads: draft.threads.clone() }
+        let bodies = draft.procs.iter().map(body).collect();
+        Chains { bodies, threads: draft.threads.clone(), shares: false }
+    }
+
+    /// The same, whose changes make shares, too. Where it has none, half of its holds become
+    /// shares.
+    pub fn with_shares(mut self, random: &mut Random) -> Chains {
+        self.shares = true;
+        let taken = || self.bodies.iter().flatten().flat_map(|chain| &chain.locks);
+        if !taken().any(|taken| taken.shared) {
+            let taken = self.bodies.iter_mut().flatten().flat_map(|chain| &mut chain.locks);
+            taken.for_each(|taken| taken.shared = random.chance(50));
+        }
+        self
     }
 
     /// Six threads in a ring of lists, with random numbers of locks, and some bodies
@@ -83,14 +115,14 @@ impl Chains {
             let mut body = random_body(0..locks, length.min(locks), &ring, 60, random);
             if shared > 0 {
                 let chain = |random: &mut Random| Chain {
-                    locks: some_of(0..32, random.between(1, 3), random),
+                    locks: held(some_of(0..32, random.between(1, 3), random)),
                     call: Some(random.below(shared)),
                 };
                 body.extend((0..random.between(0, 4)).map(|_| chain(random)));
             }
             bodies.push(body);
         }
-        Chains { threads: (shared..shared + MAX_THREADS).collect(), bodies }
+        Chains { threads: (shared..shared + MAX_THREADS).collect(), bodies, shares: false }
     }
 
     pub fn draft(&self) -> Draft {
@@ -160,7 +192,16 @@ impl Chains {
         let Some(mut chain) = self.bodies[body].get(at).cloned() else {
             return self.bodies[body].push(any_chain(body, random));
         };
-        match random.below(20) {
+        match random.below(if self.shares { 26 } else { 20 }) {
+            20 | 21 => change_way(&mut self.bodies[body][at], random),
+            22 => self.change_ways(body, random),
+            23 => upgrade(&mut self.bodies[body][at], random),
+            24 => self.put_ways(body, random.chance(50)),
+            25 => {
+                // Another like it, with its last lock in the other way.
+                change_way(&mut chain, random);
+                self.bodies[body].push(chain);
+            }
             0..=2 => change_lock(&mut self.bodies[body][at], random),
             3 => insert_lock(&mut self.bodies[body][at], random),
             4 => remove_lock(&mut self.bodies[body][at], random),
@@ -213,7 +254,7 @@ impl Chains {
     /// Two locks exchanged in all chains of a body.
     fn rename(&mut self, body: usize, random: &mut Random) {
         let (one, two) = (random.below(32), random.below(32));
-        for lock in self.bodies[body].iter_mut().flat_map(|chain| &mut chain.locks) {
+        for Taken { lock, .. } in self.bodies[body].iter_mut().flat_map(|chain| &mut chain.locks) {
             *lock = if *lock == one {
                 two
             } else if *lock == two {
@@ -222,6 +263,19 @@ impl Chains {
                 *lock
             };
         }
+    }
+
+    /// A lock taken in the other way in all chains of a body.
+    fn change_ways(&mut self, body: usize, random: &mut Random) {
+        let one = random.below(32);
+        let taken = self.bodies[body].iter_mut().flat_map(|chain| &mut chain.locks);
+        taken.filter(|taken| taken.lock == one).for_each(|taken| taken.shared = !taken.shared);
+    }
+
+    /// The first lock of all chains of a body taken in one way.
+    fn put_ways(&mut self, body: usize, shared: bool) {
+        let firsts = self.bodies[body].iter_mut().filter_map(|chain| chain.locks.first_mut());
+        firsts.for_each(|taken| taken.shared = shared);
     }
 
     /// Another body for a thread, or two threads exchanged.
@@ -252,7 +306,7 @@ impl Chains {
         self.threads.iter_mut().for_each(|proc| *proc += 1);
         self.bodies.insert(0, moved);
         for _ in 0..random.between(1, 3) {
-            let locks = some_of(0..32, random.below(3), random);
+            let locks = held(some_of(0..32, random.below(3), random));
             self.bodies[body + 1].push(Chain { locks, call: Some(0) });
         }
     }
@@ -292,7 +346,7 @@ fn random_body(
     random: &mut Random,
 ) -> Vec<Chain> {
     let list = |random: &mut Random| [some_of(locks.clone(), length, random), end.to_vec()].concat();
-    (0..random.between(2, count)).map(|_| Chain { locks: list(random), call: None }).collect()
+    (0..random.between(2, count)).map(|_| Chain { locks: held(list(random)), call: None }).collect()
 }
 
 /// Any chain for a body that may call those before it.
@@ -301,21 +355,43 @@ fn any_chain(body: usize, random: &mut Random) -> Chain {
     if random.chance(40) {
         random.shuffle(&mut locks);
     }
-    Chain { locks, call: (body > 0 && random.chance(40)).then(|| random.below(body)) }
+    Chain { locks: held(locks), call: (body > 0 && random.chance(40)).then(|| random.below(body)) }
+}
+
+fn takes(chain: &Chain, lock: usize) -> bool {
+    chain.locks.iter().any(|taken| taken.lock == lock)
 }
 
 fn change_lock(chain: &mut Chain, random: &mut Random) {
     let lock = random.below(32);
-    if !chain.locks.is_empty() && !chain.locks.contains(&lock) {
+    if !chain.locks.is_empty() && !takes(chain, lock) {
         let at = random.below(chain.locks.len());
-        chain.locks[at] = lock;
+        chain.locks[at].lock = lock;
     }
 }
 
 fn insert_lock(chain: &mut Chain, random: &mut Random) {
     let lock = random.below(32);
-    if chain.locks.len() < MAX_BRACKETS && !chain.locks.contains(&lock) {
-        chain.locks.insert(random.below(chain.locks.len() + 1), lock);
+    if chain.locks.len() < MAX_BRACKETS && !takes(chain, lock) {
+        chain.locks.insert(random.below(chain.locks.len() + 1), Taken { lock, shared: false });
+    }
+}
+
+/// A lock taken in the other way.
+fn change_way(chain: &mut Chain, random: &mut Random) {
+    if !chain.locks.is_empty() {
+        let at = random.below(chain.locks.len());
+        chain.locks[at].shared = !chain.locks[at].shared;
+    }
+}
+
+/// A lock that is shared, and behind it held.
+fn upgrade(chain: &mut Chain, random: &mut Random) {
+    if !chain.locks.is_empty() && chain.locks.len() < MAX_BRACKETS {
+        let at = random.below(chain.locks.len());
+        chain.locks[at].shared = true;
+        let held = Taken { shared: false, ..chain.locks[at] };
+        chain.locks.insert(random.between(at + 1, chain.locks.len()), held);
     }
 }
 

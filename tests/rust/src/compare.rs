@@ -5,7 +5,7 @@ use crate::crossings::{bytes, crossed, Couple, COUPLE_BYTES};
 use crate::gateway::replay;
 use crate::guard::Pages;
 use crate::random::Random;
-use crate::reference::{read, Plan, Refusal, MAX_PAIRS, MAX_SUM};
+use crate::reference::{read, Plan, Refusal, MAX_SUM, MAX_WORDS};
 use crate::straight::straight;
 use crate::tidy::{tidy, COPY_BYTES};
 use crate::twins::Twins;
@@ -40,7 +40,7 @@ struct Least {
     entry: usize,
 }
 
-const PAIR_LIST: Least = Least { bytes: 8 * MAX_PAIRS, entry: 8 };
+const PAIR_LIST: Least = Least { bytes: 8 * MAX_WORDS, entry: 8 };
 const COPY: Least = Least { bytes: COPY_BYTES, entry: 1 };
 
 impl Least {
@@ -89,14 +89,14 @@ fn lent_to_crossings(couples: &Result<Vec<Couple>, Refusal>, random: &mut Random
     let all = COUPLE_BYTES * couples.len();
     let each = !couples.is_empty() && random.chance(4);
     let mut lengths = if each { (0..FEW).collect() } else { vec![few] };
-    lengths.push(match random.below(10) {
-        0 | 1 => all,
-        2 => all.saturating_sub(1),
-        3 => all + 1,
-        4 => all.saturating_sub(COUPLE_BYTES / 2),
-        5 => all + COUPLE_BYTES / 2,
-        6 => all + COUPLE_BYTES,
-        7 => all + random.below(5_000),
+    lengths.push(match random.below(11) {
+        0..=2 => all,
+        3 => all.saturating_sub(1),
+        4 => all + 1,
+        5 => all.saturating_sub(8 * random.between(1, 5)),
+        6 => all + COUPLE_BYTES / 2,
+        7 => all + COUPLE_BYTES,
+        8 => all + random.below(5_000),
         _ => random.below(all + 1),
     });
     lengths
@@ -128,10 +128,12 @@ pub struct Counts {
     pub crossings: u64,
     /// Refused by rule 14.
     pub not_two: u64,
-    /// Of threads that cross, lent exactly what all couples need, and less.
+    /// Of threads that cross, lent exactly what all couples need, less, and so that one of
+    /// them fits in part.
     pub all_couples: u64,
     pub some_couples: u64,
-    pub words: u64,
+    pub part_of_a_couple: u64,
+    pub pairs: u64,
     pub entries: u64,
     pub copied: u64,
     pub straightened: u64,
@@ -323,8 +325,8 @@ impl Bench {
         lent: Lent,
     ) -> Result<(), String> {
         self.counts.pair_lists += 1;
-        self.counts.least_words += u64::from(lent.len / 8 == MAX_PAIRS);
-        self.counts.one_word_less += u64::from(lent.len / 8 == MAX_PAIRS - 1);
+        self.counts.least_words += u64::from(lent.len / 8 == MAX_WORDS);
+        self.counts.one_word_less += u64::from(lent.len / 8 == MAX_WORDS - 1);
         let number = self.call(&lent, |text, out| call(text, proc, out));
         let mut expected = std::mem::take(&mut self.before);
         let refusal = Bench::refusal(plan, &lent, PAIR_LIST);
@@ -336,11 +338,11 @@ impl Bench {
             (Some(refusal), _) => Answer::refused(refusal),
             (None, None) => Answer::refused(Refusal { rule: 11, line: 0 }),
             (None, Some(pairs)) => {
-                let words = pairs.iter().flat_map(|pair| pair.word().to_le_bytes());
+                let words = pairs.iter().flat_map(|pair| pair.bytes());
                 for (place, byte) in expected[lent.out..].iter_mut().zip(words) {
                     *place = byte;
                 }
-                self.counts.words += pairs.len() as u64;
+                self.counts.pairs += pairs.len() as u64;
                 Answer { kind: PAIRS, a: 0, b: pairs.len() as u64 }
             }
         };
@@ -430,6 +432,7 @@ impl Bench {
                 expected[lent.out..lent.out + written.len()].copy_from_slice(&written);
                 self.counts.all_couples += u64::from(count > 0 && lent.len == COUPLE_BYTES * count);
                 self.counts.some_couples += u64::from(fit < count);
+                self.counts.part_of_a_couple += u64::from(fit < count && lent.len % COUPLE_BYTES >= 8);
                 self.counts.couples += fit.min(count) as u64;
                 Answer { kind: CROSSED, a: 0, b: count as u64 }
             }

@@ -6,31 +6,38 @@ use std::collections::{BTreeMap, BTreeSet};
 use crate::families::Draft;
 use crate::idle::without_idle;
 use crate::pairs::{Pair, Pairs};
-use crate::reference::{read, Plan, Refusal};
+use crate::reference::{read, Plan, Refusal, PAIR_WORDS};
 
 /// A pair of the first thread and one of the second.
 pub type Couple = (Pair, Pair);
 
 /// The bytes of a couple in a buffer.
-pub const COUPLE_BYTES: usize = 16;
+pub const COUPLE_BYTES: usize = 2 * 8 * PAIR_WORDS;
 
-/// The couples of two lists of pairs that cross: no held lock is in both sets, and each
-/// wants a lock of the other's set. In the order of the first words, then of the second.
+/// The wishes, by lock and whether by a hold, that may not stand beside what a pair has.
+fn barred(pair: &Pair) -> BTreeSet<(u32, bool)> {
+    let has = |set: u32, lock: u32| set >> lock & 1 == 1;
+    let holds = (0..32).filter(|lock| has(pair.had().any(), *lock)).map(|lock| (lock, true));
+    let shares = (0..32).filter(|lock| has(pair.held, *lock)).map(|lock| (lock, false));
+    holds.chain(shares).collect()
+}
+
+/// The couples of two lists of pairs that cross: their locks may stand together, and the
+/// wish of each may not stand beside what the other has. In the order of the first's words,
+/// then of the second's.
 pub fn couples(first: &Pairs, second: &Pairs) -> Vec<Couple> {
-    let set = |pair: &Pair| -> BTreeSet<u32> { pair.locks().collect() };
-    let mut wanting: BTreeMap<u32, Vec<(Pair, BTreeSet<u32>)>> = BTreeMap::new();
+    let mut wanting: BTreeMap<(u32, bool), Vec<(Pair, BTreeSet<(u32, bool)>)>> = BTreeMap::new();
     for pair in second {
-        wanting.entry(pair.wanted).or_default().push((*pair, set(pair)));
+        wanting.entry((pair.wanted, pair.by_hold)).or_default().push((*pair, barred(pair)));
     }
     let mut all = Vec::new();
     for pair in first {
-        let held = set(pair);
-        // Those that want a lock held here.
-        let others = held.iter().filter_map(|lock| wanting.get(lock)).flatten();
-        let crossing = others.filter(|(_, set)| set.contains(&pair.wanted) && set.is_disjoint(&held));
-        all.extend(crossing.map(|(other, _)| (*pair, *other)));
+        // Those whose wish is barred here.
+        let others = barred(pair).into_iter().filter_map(|wish| wanting.get(&wish)).flatten();
+        let both = others.filter(|(_, barred)| barred.contains(&(pair.wanted, pair.by_hold)));
+        all.extend(both.filter(|(other, _)| pair.beside(*other)).map(|(other, _)| (*pair, *other)));
     }
-    all.sort_by_cached_key(|(one, two)| (one.word(), two.word()));
+    all.sort_by_cached_key(|(one, two)| (one.words(), two.words()));
     all
 }
 
@@ -46,10 +53,9 @@ pub fn crossed(plan: &Plan, first: u64, second: u64) -> Result<Vec<Couple>, Refu
     }
 }
 
-/// The bytes of couples, each word lowest byte first.
+/// The bytes of couples: the words of the first's pair, then those of the second's.
 pub fn bytes(couples: &[Couple]) -> Vec<u8> {
-    let words = couples.iter().flat_map(|(one, two)| [one.word(), two.word()]);
-    words.flat_map(u64::to_le_bytes).collect()
+    couples.iter().flat_map(|(one, two)| one.bytes().chain(two.bytes())).collect()
 }
 
 /// The plan with these two threads alone, without the procedures that are idle then.

@@ -8,6 +8,7 @@ use crate::full;
 use crate::generate::statements;
 use crate::random::Random;
 use crate::reference::{MAX_PROCS, MAX_STATEMENTS};
+use crate::shares;
 
 /// A statement to be printed; the numbers may break the rules.
 #[derive(Clone, Debug, PartialEq, Eq)]
@@ -15,11 +16,12 @@ pub enum Tree {
     Skip,
     Call(usize),
     Hold(usize, Vec<Tree>),
+    Share(usize, Vec<Tree>),
     Loop(Vec<Tree>),
     Either(Vec<Tree>, Vec<Tree>),
 }
 
-use Tree::{Call, Hold, Skip};
+use Tree::{Call, Hold, Share, Skip};
 
 /// A plan to be printed.
 #[derive(Clone, Debug, Default, PartialEq, Eq)]
@@ -84,6 +86,11 @@ fn print(block: &[Tree], out: &mut String) {
                 print(body, out);
                 out.push_str(")\n");
             }
+            Tree::Share(lock, body) => {
+                out.push_str(&format!("(share {lock}\n"));
+                print(body, out);
+                out.push_str(")\n");
+            }
             Tree::Loop(body) => {
                 out.push_str("(loop\n");
                 print(body, out);
@@ -105,6 +112,7 @@ fn with_calls(block: &[Tree], statement: &dyn Fn(usize) -> Tree) -> Vec<Tree> {
         Tree::Skip => Skip,
         Tree::Call(callee) => statement(*callee),
         Tree::Hold(lock, body) => Hold(*lock, with_calls(body, statement)),
+        Tree::Share(lock, body) => Share(*lock, with_calls(body, statement)),
         Tree::Loop(body) => Tree::Loop(with_calls(body, statement)),
         Tree::Either(one, two) => Tree::Either(with_calls(one, statement), with_calls(two, statement)),
     };
@@ -114,6 +122,11 @@ fn with_calls(block: &[Tree], statement: &dyn Fn(usize) -> Tree) -> Vec<Tree> {
 /// A hold around a block; an empty block becomes a skip.
 pub fn hold(lock: usize, body: Vec<Tree>) -> Tree {
     Hold(lock, if body.is_empty() { vec![Skip] } else { body })
+}
+
+/// A share around a block, likewise.
+pub fn share(lock: usize, body: Vec<Tree>) -> Tree {
+    Share(lock, if body.is_empty() { vec![Skip] } else { body })
 }
 
 /// Holds inside each other, the first outermost, around a block.
@@ -482,7 +495,7 @@ fn rings_of_lists() -> Vec<(String, Draft, bool)> {
 /// Writes the text of each family to `<name>.plan` in a folder.
 pub fn write_all(folder: &Path) -> std::io::Result<()> {
     std::fs::create_dir_all(folder)?;
-    for (name, draft, _) in all() {
+    for (name, draft, _) in all().into_iter().chain(shares::all()) {
         std::fs::write(folder.join(name + ".plan"), draft.text())?;
     }
     Ok(())

@@ -2,6 +2,7 @@
 
 use std::collections::HashMap;
 
+use crate::locks::Locks;
 use crate::reference::{BlockId, Plan, Stmt};
 
 /// A part of a thread's remainder.
@@ -9,45 +10,47 @@ use crate::reference::{BlockId, Plan, Stmt};
 enum Part {
     /// The statements of a block from a place on.
     Rest(BlockId, usize),
-    /// The end of a hold.
-    End(u32),
+    /// The end of a hold, and that of a share.
+    EndHold(u32),
+    EndShare(u32),
 }
 
-/// A thread: its remainder, the next part last, and its count of each lock.
+/// A thread: its remainder, the next part last, and its two counts of each lock.
 #[derive(Clone, Debug, PartialEq, Eq, Hash)]
 pub struct Thread {
     remainder: Vec<Part>,
-    count: [u32; 32],
+    holds: [u32; 32],
+    shares: [u32; 32],
 }
 
 impl Thread {
     pub fn new(plan: &Plan, proc: usize) -> Thread {
-        Thread { remainder: vec![Part::Rest(plan.procs[proc].body, 0)], count: [0; 32] }
+        let remainder = vec![Part::Rest(plan.procs[proc].body, 0)];
+        Thread { remainder, holds: [0; 32], shares: [0; 32] }
     }
 
     pub fn finished(&self) -> bool {
         self.remainder.is_empty()
     }
 
-    /// The locks with a positive count.
-    pub fn held(&self) -> u32 {
-        (0..32).filter(|lock| self.count[*lock] > 0).map(|lock| 1 << lock).sum()
+    /// The locks with a positive count, of holds and of shares.
+    pub fn had(&self) -> Locks {
+        let set = |counts: &[u32; 32]| (0..32).filter(|lock| counts[*lock] > 0).map(|lock| 1 << lock).sum();
+        Locks { held: set(&self.holds), shared: set(&self.shares) }
     }
 
-    pub fn counts(&self) -> &[u32; 32] {
-        &self.count
+    /// The counts of holds, then those of shares.
+    pub fn counts(&self) -> [&[u32; 32]; 2] {
+        [&self.holds, &self.shares]
     }
 
     /// One step by itself; nothing where the remainder does not offer the choice.
     pub fn step(&self, plan: &Plan, choice: u16) -> Option<Thread> {
         let mut next = self.clone();
         match next.remainder.pop()? {
-            Part::End(lock) => {
-                if choice != 0 {
-                    return None;
-                }
-                next.count[lock as usize] -= 1;
-            }
+            Part::EndHold(_) | Part::EndShare(_) if choice != 0 => return None,
+            Part::EndHold(lock) => next.holds[lock as usize] -= 1,
+            Part::EndShare(lock) => next.shares[lock as usize] -= 1,
             Part::Rest(block, place) => {
                 let behind = Part::Rest(block, place + 1);
                 match (plan.blocks[block][place], choice) {
@@ -56,8 +59,12 @@ impl Thread {
                         next.remainder.extend([behind, Part::Rest(plan.procs[proc].body, 0)]);
                     }
                     (Stmt::Hold(lock, body), 0) => {
-                        next.remainder.extend([behind, Part::End(lock), Part::Rest(body, 0)]);
-                        next.count[lock as usize] += 1;
+                        next.remainder.extend([behind, Part::EndHold(lock), Part::Rest(body, 0)]);
+                        next.holds[lock as usize] += 1;
+                    }
+                    (Stmt::Share(lock, body), 0) => {
+                        next.remainder.extend([behind, Part::EndShare(lock), Part::Rest(body, 0)]);
+                        next.shares[lock as usize] += 1;
                     }
                     (Stmt::Either(one, _), 1) => next.remainder.extend([behind, Part::Rest(one, 0)]),
                     (Stmt::Either(_, two), 2) => next.remainder.extend([behind, Part::Rest(two, 0)]),
@@ -85,9 +92,13 @@ impl Thread {
     }
 }
 
-/// No lock has a positive count in two threads.
+/// No lock has a positive count of holds in one thread and any positive count in another.
 fn agree<'a>(threads: impl Iterator<Item = &'a Thread> + Clone) -> bool {
-    (0..32).all(|lock| threads.clone().filter(|thread| thread.count[lock] > 0).count() < 2)
+    (0..32).all(|lock| {
+        let holds = threads.clone().any(|thread| thread.holds[lock] > 0);
+        let having = threads.clone().filter(|thread| thread.holds[lock] > 0 || thread.shares[lock] > 0);
+        !holds || having.count() < 2
+    })
 }
 
 /// All threads.
@@ -166,7 +177,7 @@ pub fn replay(plan: &Plan, schedule: &[u16]) -> Result<State, usize> {
 
 /// A state of one thread by itself.
 pub struct Local {
-    pub held: u32,
+    pub had: Locks,
     /// Choice and next state.
     pub moves: Vec<(u16, usize)>,
 }
@@ -192,7 +203,7 @@ impl Automaton {
                 });
                 moves.push((choice, number));
             }
-            states.push(Local { held: thread.held(), moves });
+            states.push(Local { had: thread.had(), moves });
         }
         Automaton { states }
     }

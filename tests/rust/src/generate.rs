@@ -8,6 +8,7 @@ use crate::indent::{self, indent, over, padded};
 use crate::opposed::about_crossings;
 use crate::random::Random;
 use crate::reference::{read, MAX_BYTES, MAX_PROCS, MAX_SIZE, MAX_THREADS, MOST_PAIRS};
+use crate::shares::about_shares;
 
 /// A generated text with the name of its kind.
 pub struct Case {
@@ -71,7 +72,9 @@ pub fn size(block: &[Tree], sizes: &[u64]) -> u64 {
         sum.saturating_add(match tree {
             Tree::Skip => 1,
             Tree::Call(proc) => sizes.get(*proc).map_or(1, |size| size.saturating_add(1)),
-            Tree::Hold(_, body) | Tree::Loop(body) => size(body, sizes).saturating_add(2),
+            Tree::Hold(_, body) | Tree::Share(_, body) | Tree::Loop(body) => {
+                size(body, sizes).saturating_add(2)
+            }
             Tree::Either(one, two) => size(one, sizes).saturating_add(size(two, sizes)).saturating_add(1),
         })
     })
@@ -83,7 +86,7 @@ pub fn statements(block: &[Tree]) -> usize {
         .iter()
         .map(|tree| match tree {
             Tree::Skip | Tree::Call(_) => 1,
-            Tree::Hold(_, body) | Tree::Loop(body) => 1 + statements(body),
+            Tree::Hold(_, body) | Tree::Share(_, body) | Tree::Loop(body) => 1 + statements(body),
             Tree::Either(one, two) => 1 + statements(one) + statements(two),
         })
         .sum()
@@ -197,7 +200,9 @@ pub fn put_call(block: &mut Vec<Tree>, callee: usize, random: &mut Random) {
     let at = random.below(block.len());
     let deeper = random.chance(70);
     match &mut block[at] {
-        Tree::Hold(_, inner) | Tree::Loop(inner) if deeper => put_call(inner, callee, random),
+        Tree::Hold(_, inner) | Tree::Share(_, inner) | Tree::Loop(inner) if deeper => {
+            put_call(inner, callee, random)
+        }
         Tree::Either(one, two) if deeper => {
             put_call(if random.chance(50) { one } else { two }, callee, random);
         }
@@ -851,7 +856,7 @@ const ODD_LINES: [&[u8]; 58] = [
 ];
 
 /// Damages a text once.
-fn damage(text: Vec<u8>, random: &mut Random) -> Vec<u8> {
+pub fn damage(text: Vec<u8>, random: &mut Random) -> Vec<u8> {
     let mut all = lines(&text);
     if all.is_empty() {
         return random.pick(&[b"\n".to_vec(), b"(plan\n".to_vec(), b"(".to_vec()]).clone();
@@ -1039,6 +1044,7 @@ pub fn beginnings(lines: usize) -> Vec<Vec<u8>> {
         "(skip)",
         "(call 0)",
         "(hold 1",
+        "(share 1",
         "(loop",
         "(either",
         "(one",
@@ -1196,8 +1202,16 @@ pub fn enough_accepted(accepted: u64, generated: u64) -> bool {
     generated < 1_000 || 3 * accepted > generated
 }
 
-/// One text of a seed.
+/// One text of a seed, in three of four with shares.
 pub fn generate(random: &mut Random) -> Case {
+    match random.chance(75) {
+        true => about_shares(random),
+        false => without_share(random),
+    }
+}
+
+/// One text of a seed without a share: a library from before shares answers it alike.
+pub fn without_share(random: &mut Random) -> Case {
     match random.weighted(&[55, 25, 7, 5, 4, 3, 1]) {
         0 => plain(random),
         1 => Case { kind: "indented", text: indent(&plain(random).text, random).text },

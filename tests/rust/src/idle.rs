@@ -17,7 +17,7 @@ fn callees(block: &[Tree], all: &mut BTreeSet<usize>) {
         match tree {
             Tree::Skip => {}
             Tree::Call(callee) => drop(all.insert(*callee)),
-            Tree::Hold(_, body) | Tree::Loop(body) => callees(body, all),
+            Tree::Hold(_, body) | Tree::Share(_, body) | Tree::Loop(body) => callees(body, all),
             Tree::Either(one, two) => {
                 callees(one, all);
                 callees(two, all);

@@ -17,14 +17,17 @@ pub mod indent;
 pub mod lengths;
 #[cfg(feature = "library")]
 pub mod library;
+pub mod locks;
 pub mod miscross;
 pub mod misread;
 pub mod opposed;
 pub mod pairs;
 pub mod promela;
 pub mod random;
+pub mod recode;
 pub mod reference;
 pub mod report;
+pub mod shares;
 pub mod shelf;
 pub mod slip;
 pub mod standin;

@@ -1,6 +1,7 @@
 //! The foreign functions of the library.
 
 use crate::compare::Calls;
+use crate::recode;
 
 extern "C" {
     fn lockplan_verdict(text: *const u8, text_len: usize, out: *mut u8, out_len: usize) -> u64;
@@ -49,3 +50,10 @@ pub fn crossings(text: &[u8], first: u64, second: u64, out: &mut [u8]) -> u64 {
 }
 
 pub const CALLS: Calls = Calls { verdict, pairs, tidy, straight, space, crossings };
+
+/// The calls of a library from before shares, their pairs written as records.
+pub const RECODED: Calls = Calls {
+    pairs: |text, proc, out| recode::pairs(pairs, text, proc, out),
+    crossings: |text, first, second, out| recode::crossings(crossings, text, first, second, out),
+    ..CALLS
+};

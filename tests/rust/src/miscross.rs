@@ -10,39 +10,85 @@ fn pairs(plan: &Plan, thread: usize) -> &Pairs {
 }
 
 /// All couples that pass a test, in order.
-fn that(plan: &Plan, first: usize, second: usize, crosses: fn(Pair, Pair) -> bool) -> Vec<Couple> {
+fn that(plan: &Plan, first: usize, second: usize, crosses: impl Fn(Pair, Pair) -> bool) -> Vec<Couple> {
     let others = pairs(plan, second);
     let with = |one: &Pair| others.iter().map(move |two| (*one, *two)).collect::<Vec<_>>();
     pairs(plan, first).iter().flat_map(with).filter(|(one, two)| crosses(*one, *two)).collect()
 }
 
-fn holds(pair: Pair, lock: u32) -> bool {
-    pair.held >> lock & 1 == 1
+/// Whether each waits for the other.
+fn both_wait(one: Pair, two: Pair) -> bool {
+    one.waits_for(two) && two.waits_for(one)
 }
 
-/// Locks that both hold are let through.
+/// The locks had in any way.
+fn any(pair: Pair) -> u32 {
+    pair.had().any()
+}
+
+/// Locks that may not stand together are let through.
 pub fn locks_in_common(plan: &Plan, first: usize, second: usize) -> Vec<Couple> {
-    that(plan, first, second, |one, two| holds(two, one.wanted) && holds(one, two.wanted))
+    that(plan, first, second, both_wait)
 }
 
-/// It is enough that the first wants a lock of the second.
+/// It is enough that the first waits for the second.
 pub fn first_wants_alone(plan: &Plan, first: usize, second: usize) -> Vec<Couple> {
-    that(plan, first, second, |one, two| one.held & two.held == 0 && holds(two, one.wanted))
+    that(plan, first, second, |one, two| one.beside(two) && one.waits_for(two))
 }
 
-/// It is enough that the second wants a lock of the first.
+/// It is enough that the second waits for the first.
 pub fn second_wants_alone(plan: &Plan, first: usize, second: usize) -> Vec<Couple> {
-    that(plan, first, second, |one, two| one.held & two.held == 0 && holds(one, two.wanted))
+    that(plan, first, second, |one, two| one.beside(two) && two.waits_for(one))
 }
 
 /// Both want the same lock.
 pub fn the_same_wanted(plan: &Plan, first: usize, second: usize) -> Vec<Couple> {
-    that(plan, first, second, |one, two| one.held & two.held == 0 && one.wanted == two.wanted)
+    that(plan, first, second, |one, two| one.beside(two) && one.wanted == two.wanted)
 }
 
-/// Each wants the only lock that the other holds.
+/// Each wants the only lock that the other has.
 pub fn one_lock_alone(plan: &Plan, first: usize, second: usize) -> Vec<Couple> {
-    that(plan, first, second, |one, two| one.held == 1 << two.wanted && two.held == 1 << one.wanted)
+    that(plan, first, second, |one, two| {
+        both_wait(one, two) && any(one) == 1 << two.wanted && any(two) == 1 << one.wanted
+    })
+}
+
+/// Two that share a lock do not stand together.
+pub fn shares_in_common(plan: &Plan, first: usize, second: usize) -> Vec<Couple> {
+    that(plan, first, second, |one, two| both_wait(one, two) && any(one) & any(two) == 0)
+}
+
+/// Only the held locks are looked at for what may stand together.
+pub fn held_locks_alone(plan: &Plan, first: usize, second: usize) -> Vec<Couple> {
+    that(plan, first, second, |one, two| both_wait(one, two) && one.held & two.held == 0)
+}
+
+/// A lock that is had in any way is waited for by a share, too.
+pub fn shares_wait_for_shares(plan: &Plan, first: usize, second: usize) -> Vec<Couple> {
+    let wants = |one: Pair, two: Pair| any(two) >> one.wanted & 1 == 1;
+    that(plan, first, second, |one, two| one.beside(two) && wants(one, two) && wants(two, one))
+}
+
+/// Only held locks are waited for.
+pub fn held_locks_wanted_alone(plan: &Plan, first: usize, second: usize) -> Vec<Couple> {
+    let wants = |one: Pair, two: Pair| two.held >> one.wanted & 1 == 1;
+    that(plan, first, second, |one, two| one.beside(two) && wants(one, two) && wants(two, one))
+}
+
+/// A wish of a lock that the thread has already waits for nothing.
+pub fn no_upgrades(plan: &Plan, first: usize, second: usize) -> Vec<Couple> {
+    let mut all = right(plan, first, second);
+    let upgrades = |pair: Pair| any(pair) >> pair.wanted & 1 == 1;
+    all.retain(|(one, two)| !upgrades(*one) && !upgrades(*two));
+    all
+}
+
+/// In the order of the shared sets, then of the held ones.
+pub fn shared_word_first(plan: &Plan, first: usize, second: usize) -> Vec<Couple> {
+    let mut all = right(plan, first, second);
+    let key = |pair: Pair| (pair.shared, pair.held, pair.wanted, pair.by_hold);
+    all.sort_by_key(|(one, two)| (key(*one), key(*two)));
+    all
 }
 
 /// The right couples of two threads.

@@ -1,11 +1,12 @@
-//! Readings of a text with a fault each in the rules about calls and idle procedures,
+//! Readings of a text with a fault each in the rules about calls, idle procedures and shares,
 //! and sums of sizes with a fault each.
 
 use std::collections::BTreeSet;
 
-use crate::pairs::compositional;
+use crate::pairs::{compositional, compositional_by, Fresh};
 use crate::reference::{
-    bare, lines, named, read, sizes, structure, Form, Plan, Refusal, Stmt, MAX_PAIRS, MAX_PROCS, MAX_SIZE,
+    bare, lines, named, read, sizes, structure, BlockId, Form, Line, Plan, Refusal, Stmt, MAX_BRACKETS,
+    MAX_LOCK, MAX_PAIRS, MAX_PROCS, MAX_SIZE, MAX_STATEMENTS, MAX_THREADS,
 };
 
 type Reading = Result<Plan, Refusal>;
@@ -15,18 +16,11 @@ fn plan(text: &[u8]) -> Reading {
     structure(&lines(text)?)
 }
 
-/// A text of right structure with other callees, by caller and callee, or skips where
-/// there are none. Its lines stay where they are.
-fn with_callees(text: &[u8], other: impl Fn(usize, usize) -> Option<usize>) -> Vec<u8> {
-    let (mut changed, mut begun) = (Vec::new(), 0);
-    let mut kept = 0;
+/// A text with other forms on some of its lines, which stay where they are.
+fn with_forms(text: &[u8], mut other: impl FnMut(Line) -> Option<String>) -> Vec<u8> {
+    let (mut changed, mut kept) = (Vec::new(), 0);
     for line in lines(text).expect("lines that are read").forms {
-        begun += usize::from(line.form == Form::Proc);
-        if let Form::Call(callee) = line.form {
-            let form = match other(begun - 1, callee as usize) {
-                Some(callee) => format!("(call {callee})\n"),
-                None => "(skip)\n".into(),
-            };
+        if let Some(form) = other(line) {
             changed.extend_from_slice(&text[kept..line.end - bare(&text[line.start..line.end]).len()]);
             changed.extend(form.into_bytes());
             kept = line.end;
@@ -34,6 +28,22 @@ fn with_callees(text: &[u8], other: impl Fn(usize, usize) -> Option<usize>) -> V
     }
     changed.extend_from_slice(&text[kept..]);
     changed
+}
+
+/// A text of right structure with other callees, by caller and callee, or skips where
+/// there are none.
+fn with_callees(text: &[u8], other: impl Fn(usize, usize) -> Option<usize>) -> Vec<u8> {
+    let mut begun = 0;
+    with_forms(text, |line| {
+        begun += usize::from(line.form == Form::Proc);
+        let Form::Call(callee) = line.form else {
+            return None;
+        };
+        Some(match other(begun - 1, callee as usize) {
+            Some(callee) => format!("(call {callee})\n"),
+            None => "(skip)\n".into(),
+        })
+    })
 }
 
 /// A text without the calls that are told.
@@ -67,7 +77,11 @@ fn too_large(sizes: &[u64], mut procs: impl Iterator<Item = usize>) -> Option<us
 
 /// The reading of a text by another rule 13, which tells the procedure that it names.
 fn by_idle(text: &[u8], idle: impl FnOnce(&Plan) -> Option<usize>) -> Reading {
-    let plan = named(text)?;
+    judged(named(text)?, idle)
+}
+
+/// Rules 12, 13 by another one, and 9.
+fn judged(plan: Plan, idle: impl FnOnce(&Plan) -> Option<usize>) -> Reading {
     if let Some(proc) = plan.recursive().first() {
         return refused(12, &plan, *proc);
     }
@@ -376,6 +390,132 @@ pub fn pairs_in_text_order(text: &[u8]) -> Reading {
     let plan = read(text)?;
     let pairs = idle_let_through(&without(text, |caller, callee| callee > caller))?.pairs;
     Ok(Plan { pairs, ..plan })
+}
+
+/// Pairs by another reading of what is fresh.
+fn by_fresh(text: &[u8], fresh: Fresh) -> Reading {
+    let plan = read(text)?;
+    Ok(Plan { pairs: compositional_by(&plan, fresh), ..plan })
+}
+
+/// A hold inside a share of its lock is not fresh.
+pub fn no_upgrades(text: &[u8]) -> Reading {
+    by_fresh(text, |_, _| false)
+}
+
+/// A share inside a hold of its lock is fresh.
+pub fn shares_fresh_under_holds(text: &[u8]) -> Reading {
+    by_fresh(text, |inside_hold, by_hold| inside_hold != by_hold)
+}
+
+/// A share inside a share of its lock is fresh.
+pub fn shares_fresh_under_shares(text: &[u8]) -> Reading {
+    by_fresh(text, |inside_hold, _| !inside_hold)
+}
+
+/// A text with its shares made holds, where it is read at all.
+fn with_holds(text: &[u8]) -> Result<Vec<u8>, Refusal> {
+    named(text)?;
+    Ok(with_forms(text, |line| match line.form {
+        Form::Share(lock) => Some(format!("(hold {lock}\n")),
+        _ => None,
+    }))
+}
+
+/// Shares are read as holds.
+pub fn shares_as_holds(text: &[u8]) -> Reading {
+    read(&with_holds(text)?)
+}
+
+/// Rule 6 for holds alone: a share of a lock above 31 is one of another.
+pub fn locks_of_shares_let_through(text: &[u8]) -> Reading {
+    instead(text, 6, |_| {
+        Some(read(&with_forms(text, |line| match line.form {
+            Form::Share(lock) if lock > MAX_LOCK => Some(format!("(share {}\n", lock % (MAX_LOCK + 1))),
+            _ => None,
+        })))
+    })
+}
+
+/// Rule 6 for shares behind rule 6 for holds.
+pub fn locks_of_holds_first(text: &[u8]) -> Reading {
+    instead(text, 6, |_| {
+        let forms = lines(text).ok()?.forms;
+        let hold = forms.iter().find(|line| matches!(line.form, Form::Hold(lock) if lock > MAX_LOCK))?;
+        Some(Err(Refusal { rule: 6, line: hold.number }))
+    })
+}
+
+/// Statements of a block, and brackets open together, by what is counted of a share.
+fn counted(plan: &Plan, block: BlockId, of_share: [usize; 2]) -> [usize; 2] {
+    let inside = |block: &BlockId| counted(plan, *block, of_share);
+    let one = |stmt: &Stmt| match stmt {
+        Stmt::Skip | Stmt::Call(_) => [1, 0],
+        Stmt::Hold(_, body) | Stmt::Loop(body) => [1 + inside(body)[0], 1 + inside(body)[1]],
+        Stmt::Share(_, body) => [of_share[0] + inside(body)[0], of_share[1] + inside(body)[1]],
+        Stmt::Either(one, two) => {
+            [1 + inside(one)[0] + inside(two)[0], 2 + inside(one)[1].max(inside(two)[1])]
+        }
+    };
+    let add =
+        |[all, most]: [usize; 2], [statements, brackets]: [usize; 2]| [all + statements, most.max(brackets)];
+    plan.blocks[block].iter().map(one).fold([0, 0], add)
+}
+
+/// Rule 5 by what is counted of a share: its statement and its bracket.
+fn by_counts(text: &[u8], of_share: [usize; 2]) -> Reading {
+    instead(text, 5, |plan| {
+        let counts = plan.procs.iter().map(|proc| counted(&plan, proc.body, of_share));
+        let [all, most] = counts.fold([0, 0], |[all, most], [some, open]| [all + some, most.max(open)]);
+        let small = plan.procs.len() <= MAX_PROCS && plan.threads.len() <= MAX_THREADS;
+        let present = |proc: usize| plan.callees(proc).all(|callee| callee < plan.procs.len());
+        let names =
+            (0..plan.procs.len()).all(present) && plan.threads.iter().all(|proc| *proc < plan.procs.len());
+        let fits = all <= MAX_STATEMENTS && most <= MAX_BRACKETS && small && names;
+        fits.then(|| judged(plan, |plan| plan.idle().first().copied()))
+    })
+}
+
+/// A share is no bracket.
+pub fn shares_are_no_brackets(text: &[u8]) -> Reading {
+    by_counts(text, [1, 0])
+}
+
+/// A share is no statement.
+pub fn shares_are_no_statements(text: &[u8]) -> Reading {
+    by_counts(text, [0, 1])
+}
+
+/// An empty share is let through, as if it had a skip inside.
+pub fn empty_shares_let_through(text: &[u8]) -> Reading {
+    let right = read(text);
+    let Err(Refusal { rule: 4, line }) = right else {
+        return right;
+    };
+    let forms = lines(text)?.forms;
+    let at = forms.iter().position(|form| form.number == line && form.form == Form::Close);
+    match at.filter(|at| *at > 0 && matches!(forms[at - 1].form, Form::Share(_))) {
+        Some(at) => {
+            let filled = with_forms(text, |form| (form == forms[at]).then(|| "(skip)\n)\n".into()));
+            empty_shares_let_through(&filled)
+        }
+        None => right,
+    }
+}
+
+/// The sum with a share of size 1 plus its block.
+pub fn shares_of_size_one(plan: &Plan) -> u64 {
+    fn size(plan: &Plan, block: BlockId) -> u64 {
+        let one = |stmt: &Stmt| match stmt {
+            Stmt::Skip => 1,
+            Stmt::Call(callee) => 1 + size(plan, plan.procs[*callee].body),
+            Stmt::Hold(_, body) | Stmt::Loop(body) => 2 + size(plan, *body),
+            Stmt::Share(_, body) => 1 + size(plan, *body),
+            Stmt::Either(one, two) => 1 + size(plan, *one) + size(plan, *two),
+        };
+        plan.blocks[block].iter().map(one).sum()
+    }
+    plan.threads.iter().map(|proc| size(plan, plan.procs[*proc].body)).sum()
 }
 
 /// The sum of the threads' sizes, one too small.

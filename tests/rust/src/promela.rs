@@ -2,14 +2,15 @@
 //!
 //! One process for each thread, with the bodies of its calls written out. A
 //! step of a thread is a step of its process; the begin of a hold waits until
-//! no thread owns the lock. A hold inside a hold of the same lock only counts up
-//! and down, and no other thread sees it: its begin and its end are plain steps.
+//! no thread owns the lock and no other shares it, that of a share until no other
+//! owns it. A hold inside a hold of the same lock only counts up and down, and no other
+//! thread sees it: its begin and its end are plain steps; a share inside a share likewise.
 //!
 //! SPIN looks for invalid end states: no process can step, and one has not come
 //! to its end. A stuck set is a set of some threads, while others may go on.
 //! Yet a plan reaches the one exactly when it reaches the other:
 //! - Where no process can step, each that has not ended waits for a lock that
-//!   another owns. The owner has not ended either, since holds are balanced. So
+//!   another has. That one has not ended either, since holds and shares are balanced. So
 //!   the processes that have not ended are a stuck set, of two or more.
 //! - Where a set is stuck, its members keep their locks and wait for each other
 //!   whatever the others do. Let these go on, and leave each loop that they
@@ -21,6 +22,7 @@
 
 use std::fmt::Write;
 
+use crate::locks::Locks;
 use crate::reference::{BlockId, Plan, Stmt};
 
 /// The locks' owners: 0 for none, thread + 1 otherwise.
@@ -29,22 +31,37 @@ inline take(lock, thread) { d_step { owner[lock] == 0 -> owner[lock] = thread } 
 inline release(lock) { owner[lock] = 0 }
 ";
 
+/// The same where locks are shared, and how many threads do. A thread takes a lock where the
+/// others share it not at all: `own` is 1 where it does itself.
+const SHARED_HEAD: &str = "byte owner[32];
+byte readers[32];
+inline take(lock, thread, own) { d_step { owner[lock] == 0 && readers[lock] == own -> owner[lock] = thread } }
+inline release(lock) { owner[lock] = 0 }
+inline share(lock) { d_step { owner[lock] == 0 -> readers[lock] = readers[lock] + 1 } }
+inline share_own(lock) { readers[lock] = readers[lock] + 1 }
+inline unshare(lock) { readers[lock] = readers[lock] - 1 }
+";
+
 /// The model of a plan.
 pub fn model(plan: &Plan) -> String {
-    let mut out = String::from(HEAD);
+    let shares = plan.blocks.iter().flatten().any(|stmt| matches!(stmt, Stmt::Share(..)));
+    let mut out = String::from(if shares { SHARED_HEAD } else { HEAD });
     for (thread, proc) in plan.threads.iter().enumerate() {
         writeln!(out, "active proctype thread_{thread}() {{").unwrap();
-        Process { plan, owner: thread + 1, held: 0, out: &mut out }.block(plan.procs[*proc].body);
+        Process { plan, shares, owner: thread + 1, had: Locks::NONE, out: &mut out }
+            .block(plan.procs[*proc].body);
         out.push_str("}\n");
     }
     out
 }
 
-/// What is written of a process, and the locks held there.
+/// What is written of a process, and the locks had there.
 struct Process<'a> {
     plan: &'a Plan,
+    /// Whether the plan has shares.
+    shares: bool,
     owner: usize,
-    held: u32,
+    had: Locks,
     out: &'a mut String,
 }
 
@@ -58,6 +75,7 @@ impl Process<'_> {
                     self.block(self.plan.procs[proc].body);
                 }
                 Stmt::Hold(lock, body) => self.hold(lock, body),
+                Stmt::Share(lock, body) => self.share(lock, body),
                 Stmt::Loop(body) => {
                     self.line("do :: true ->");
                     self.block(body);
@@ -75,17 +93,29 @@ impl Process<'_> {
     }
 
     fn hold(&mut self, lock: u32, body: BlockId) {
-        if self.held >> lock & 1 == 1 {
-            self.line("skip;");
-            self.block(body);
-            self.line("skip;");
-            return;
-        }
-        self.line(&format!("take({lock}, {});", self.owner));
-        self.held |= 1 << lock;
+        let (had, own) = (self.had, self.had.shared >> lock & 1);
+        let begin = match self.shares {
+            true => format!("take({lock}, {}, {own});", self.owner),
+            false => format!("take({lock}, {});", self.owner),
+        };
+        self.had = had.with(Locks::one(lock, true));
+        self.around(had, body, &begin, &format!("release({lock});"));
+    }
+
+    fn share(&mut self, lock: u32, body: BlockId) {
+        let had = self.had;
+        let begin = if had.held >> lock & 1 == 1 { "share_own" } else { "share" };
+        self.had = had.with(Locks::one(lock, false));
+        self.around(had, body, &format!("{begin}({lock});"), &format!("unshare({lock});"));
+    }
+
+    /// A block between two steps, which are plain where nothing more is had inside.
+    fn around(&mut self, before: Locks, body: BlockId, begin: &str, end: &str) {
+        let again = self.had == before;
+        self.line(if again { "skip;" } else { begin });
         self.block(body);
-        self.held &= !(1 << lock);
-        self.line(&format!("release({lock});"));
+        self.line(if again { "skip;" } else { end });
+        self.had = before;
     }
 
     fn line(&mut self, text: &str) {

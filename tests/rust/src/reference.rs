@@ -11,11 +11,14 @@ pub const MAX_THREADS: usize = 6;
 pub const MAX_BRACKETS: usize = 16;
 pub const MAX_LOCK: u32 = 31;
 pub const MAX_SIZE: u64 = 1_024;
-/// The words of a pair buffer. A plan that keeps rule 9 has no more pairs in a procedure:
-/// each has a hold of its own, of size 2, and something is inside.
+/// A plan that keeps rule 9 has no more pairs in a procedure: each has a hold or a share of
+/// its own, of size 2, and something is inside.
 pub const MAX_PAIRS: usize = (MAX_SIZE as usize - 1) / 2;
-/// The most pairs that a procedure can have: a hold for each, and for each sixteen of
-/// them a statement inside.
+/// The words of a pair, and those of a pair buffer.
+pub const PAIR_WORDS: usize = 3;
+pub const MAX_WORDS: usize = PAIR_WORDS * MAX_PAIRS;
+/// The most pairs that a procedure can have: a hold or a share for each, and for each
+/// sixteen of them a statement inside.
 pub const MOST_PAIRS: usize = MAX_SIZE as usize / (2 * MAX_BRACKETS + 1) * MAX_BRACKETS;
 /// The largest sum of threads' sizes: so many entries are enough for every schedule.
 pub const MAX_SUM: usize = MAX_THREADS * MAX_SIZE as usize;
@@ -53,6 +56,7 @@ pub enum Form {
     Skip,
     Call(u32),
     Hold(u32),
+    Share(u32),
     Loop,
     Either,
     One,
@@ -99,6 +103,9 @@ pub fn form(line: &[u8]) -> Option<Form> {
     if let Some(rest) = line.strip_prefix(b"(hold ") {
         return number(rest).map(Form::Hold);
     }
+    if let Some(rest) = line.strip_prefix(b"(share ") {
+        return number(rest).map(Form::Share);
+    }
     if let Some(rest) = line.strip_prefix(b"(call ") {
         return number(rest.strip_suffix(b")")?).map(Form::Call);
     }
@@ -117,6 +124,7 @@ pub enum Stmt {
     Skip,
     Call(usize),
     Hold(u32, BlockId),
+    Share(u32, BlockId),
     Loop(BlockId),
     Either(BlockId, BlockId),
 }
@@ -362,6 +370,11 @@ fn place(plan: &mut Plan, open: &mut Vec<Open>, line: Line) -> bool {
                     open.push(Open::Block(body));
                     Stmt::Hold(lock, body)
                 }
+                Form::Share(lock) => {
+                    let body = new_block(plan);
+                    open.push(Open::Block(body));
+                    Stmt::Share(lock, body)
+                }
                 Form::Loop => {
                     let body = new_block(plan);
                     open.push(Open::Block(body));
@@ -398,7 +411,7 @@ fn limits(lines: &[Line]) -> Result<(), Refusal> {
             // The closing lines of procedures and of the plan end no bracket.
             Form::Close => brackets = brackets.saturating_sub(1),
             Form::Skip | Form::Call(_) => statements += 1,
-            Form::Hold(_) | Form::Loop | Form::Either => {
+            Form::Hold(_) | Form::Share(_) | Form::Loop | Form::Either => {
                 statements += 1;
                 brackets += 1;
             }
@@ -418,7 +431,8 @@ fn limits(lines: &[Line]) -> Result<(), Refusal> {
 /// Rules 6, 7 and 8.
 fn names(lines: &[Line], procs: usize) -> Result<(), Refusal> {
     let first = |bad: &dyn Fn(Form) -> bool| lines.iter().find(|line| bad(line.form));
-    if let Some(line) = first(&|form| matches!(form, Form::Hold(lock) if lock > MAX_LOCK)) {
+    if let Some(line) = first(&|form| matches!(form, Form::Hold(lock) | Form::Share(lock) if lock > MAX_LOCK))
+    {
         return refuse(6, line.number);
     }
     if let Some(line) = first(&|form| matches!(form, Form::Call(proc) if proc as usize >= procs)) {
@@ -441,7 +455,9 @@ pub fn sizes(plan: &Plan) -> Vec<u64> {
                 sum.saturating_add(match stmt {
                     Stmt::Skip => 1,
                     Stmt::Call(callee) => procs[*callee].saturating_add(1),
-                    Stmt::Hold(_, body) | Stmt::Loop(body) => blocks[*body].saturating_add(2),
+                    Stmt::Hold(_, body) | Stmt::Share(_, body) | Stmt::Loop(body) => {
+                        blocks[*body].saturating_add(2)
+                    }
                     Stmt::Either(one, two) => blocks[*one].saturating_add(blocks[*two]).saturating_add(1),
                 })
             });

@@ -3,13 +3,14 @@
 use std::path::PathBuf;
 
 use crate::branches::{choices, eithers, rounds};
-use crate::families::{detours, hold, nest, philosophers, skips, Draft, Tree};
+use crate::families::{detours, hold, nest, philosophers, share, skips, Draft, Tree};
 use crate::full::around;
 use crate::generate::doubling;
 use crate::indent::{indent, Padding};
 use crate::opposed::{both_around, MOST_COUPLES};
 use crate::random::Random;
-use crate::reference::MAX_BYTES;
+use crate::recode::records;
+use crate::reference::{MAX_BYTES, PAIR_WORDS};
 
 /// What a text gives.
 #[derive(Clone, Debug, PartialEq, Eq)]
@@ -26,7 +27,7 @@ pub struct Entry {
     pub text: Vec<u8>,
     pub gives: Gives,
     /// Pair words by procedure, where they are stated.
-    pub words: Vec<Vec<u64>>,
+    pub words: Vec<Vec<[u64; PAIR_WORDS]>>,
     /// A right schedule, where one is stated.
     pub schedule: Option<Vec<u16>>,
     /// Sizes by thread, where they are stated.
@@ -52,7 +53,7 @@ impl Entry {
 
 /// All fixed texts.
 pub fn all() -> Vec<Entry> {
-    let small = [shelf(), crossings(), others(), calls(), idle_procedures(), remarked(), spaces()];
+    let small = [shelf(), shares(), crossings(), others(), calls(), idle_procedures(), remarked(), spaces()];
     let large = [many_pairs(), many_couples(), branching()];
     small.into_iter().chain(large).flatten().collect()
 }
@@ -110,20 +111,20 @@ pub fn shelf() -> Vec<Entry> {
     use Gives::{Deadlock, Free, Refused};
     let mut all = vec![
         Entry {
-            words: vec![vec![0, 33], vec![1, 64]],
+            words: vec![records(&[0, 33]), records(&[1, 64])],
             schedule: Some(vec![0, 1]),
             sizes: vec![5, 5],
             couples: vec![(0, 1, 1)],
             ..entry("A", Draft::each(vec![chain(&[0, 1]), chain(&[1, 0])]), Deadlock(3))
         },
         Entry {
-            words: vec![vec![2, 128, 161], vec![2, 129, 192]],
+            words: vec![records(&[2, 128, 161]), records(&[2, 129, 192])],
             sizes: vec![7, 7],
             couples: vec![(0, 1, 0)],
             ..entry("B", Draft::each(vec![chain(&[2, 0, 1]), chain(&[2, 1, 0])]), Free)
         },
         Entry {
-            words: vec![vec![0]],
+            words: vec![records(&[0])],
             sizes: vec![5, 5],
             couples: vec![(0, 1, 0)],
             ..entry("C", Draft { procs: vec![chain(&[0, 0])], threads: vec![0, 0] }, Free)
@@ -183,6 +184,220 @@ pub fn shelf() -> Vec<Entry> {
     all.push(entry("6 threads", threads(6), Free));
     all.push(entry("7 threads", threads(7), Refused(5, 11)));
     all
+}
+
+/// Fixed texts with shares.
+pub fn shares() -> Vec<Entry> {
+    let mut all = judged_shares();
+    all.extend(paired_shares());
+    all.extend(nearly_shares());
+    all.extend(limits_of_shares());
+    all
+}
+
+/// A lock by a number, shared, and held inside; or a lock shared or held around another.
+fn upgrade(lock: usize) -> Vec<Tree> {
+    vec![share(lock, vec![hold(lock, vec![])])]
+}
+
+fn share_hold(outer: usize, inner: usize) -> Vec<Tree> {
+    vec![share(outer, vec![hold(inner, vec![])])]
+}
+
+fn share_share(outer: usize, inner: usize) -> Vec<Tree> {
+    vec![share(outer, vec![share(inner, vec![])])]
+}
+
+fn hold_share(outer: usize, inner: usize) -> Vec<Tree> {
+    vec![hold(outer, vec![share(inner, vec![])])]
+}
+
+/// Plans with shares, free and with a deadlock.
+fn judged_shares() -> Vec<Entry> {
+    use Gives::{Deadlock, Free};
+    let one = |name, procs: Vec<Vec<Tree>>, gives, couples: usize| {
+        couples_of(name, Draft::each(procs), gives, &[(0, 1, couples), (1, 0, couples)])
+    };
+    let around = |guard: usize, body: Vec<Tree>| vec![share(guard, body)];
+    let both_ways = |own, next: Tree| vec![hold(own, vec![share(own, vec![next])])];
+    let three = || vec![vec![hold(2, upgrade(0))], share_hold(0, 1), chain(&[1, 2])];
+    let mut two_of_three = three();
+    two_of_three[2] = vec![hold(1, vec![share(2, vec![])])];
+    vec![
+        Entry {
+            schedule: Some(vec![0, 1]),
+            ..one("two upgraders", vec![upgrade(0), upgrade(0)], Deadlock(3), 1)
+        },
+        entry("one upgrader alone", Draft::each(vec![upgrade(0)]), Free),
+        one("upgraders of two locks", vec![upgrade(0), upgrade(1)], Free, 0),
+        entry("six upgraders", Draft { procs: vec![upgrade(31)], threads: vec![0; 6] }, Deadlock(0b11)),
+        one("an upgrader beside a reader", vec![upgrade(0), vec![share(0, vec![])]], Free, 0),
+        one("an upgrader beside a writer", vec![upgrade(0), chain(&[0])], Free, 0),
+        one("readers in both orders", vec![share_share(0, 1), share_share(1, 0)], Free, 0),
+        one("a share around a hold, crossed", vec![share_hold(0, 1), chain(&[1, 0])], Deadlock(3), 1),
+        one("a share around a hold beside a wanted share", vec![share_hold(0, 1), hold_share(1, 0)], Free, 0),
+        one("wanted shares of held locks", vec![hold_share(0, 1), hold_share(1, 0)], Deadlock(3), 1),
+        one("wanted shares, one of them held", vec![share_share(0, 1), chain(&[1, 0])], Deadlock(3), 1),
+        one(
+            "shares that want to hold each other's",
+            vec![share_hold(0, 1), share_hold(1, 0)],
+            Deadlock(3),
+            1,
+        ),
+        one(
+            "a shared guard is none",
+            vec![around(2, chain(&[0, 1])), around(2, chain(&[1, 0]))],
+            Deadlock(3),
+            1,
+        ),
+        one("a guard held by one", vec![chain(&[2, 0, 1]), around(2, chain(&[1, 0]))], Free, 0),
+        one(
+            "locks had both ways, crossed",
+            vec![both_ways(0, hold(1, vec![])), both_ways(1, share(0, vec![]))],
+            Deadlock(3),
+            1,
+        ),
+        one("an upgrader inside a held guard", vec![vec![hold(1, upgrade(0))]; 2], Free, 0),
+        one("an upgrader inside a shared guard", vec![vec![share(1, upgrade(0))]; 2], Deadlock(3), 1),
+        one("an upgrader behind its share", vec![vec![share(0, vec![]), hold(0, vec![])]; 2], Free, 0),
+        entry("an upgrader in a cycle of three", Draft::each(three()), Deadlock(0b111)),
+        entry("the same with a share at the end", Draft::each(two_of_three), Deadlock(0b111)),
+        entry(
+            "an upgrader that a reader waits for",
+            Draft::each(vec![upgrade(0), share_hold(0, 1), chain(&[1, 0])]),
+            Deadlock(0b110),
+        ),
+        entry(
+            "an upgrader by a call",
+            Draft { procs: vec![vec![share(7, vec![Tree::Call(1)])], chain(&[7])], threads: vec![0, 0] },
+            Deadlock(3),
+        ),
+        Entry {
+            straight: vec![vec![share(3, vec![hold(3, vec![]), Tree::Skip, share(4, vec![])])]],
+            ..entry(
+                "shares in eithers and loops",
+                Draft::each(vec![vec![share(
+                    3,
+                    vec![Tree::Either(vec![hold(3, vec![])], skips(1)), Tree::Loop(vec![share(4, vec![])])],
+                )]]),
+                Free,
+            )
+        },
+    ]
+}
+
+/// Plans with shares whose pairs are stated: held set, shared set, wanted lock times 2 plus 1
+/// for a hold.
+fn paired_shares() -> Vec<Entry> {
+    let one = |name, body: Vec<Tree>, words: &[[u64; PAIR_WORDS]]| Entry {
+        words: vec![words.to_vec()],
+        ..entry(name, Draft::each(vec![body]), Gives::Free)
+    };
+    let top = 1 << 31;
+    let all_shared: Vec<[u64; PAIR_WORDS]> = (0..32).map(|lock| [0, 0, 2 * lock]).collect();
+    vec![
+        one("a share", vec![share(5, vec![])], &[[0, 0, 10]]),
+        one("an upgrade", upgrade(5), &[[0, 0, 10], [0, 32, 11]]),
+        one("the highest lock upgraded", upgrade(31), &[[0, 0, 62], [0, top, 63]]),
+        one(
+            "the highest lock had both ways",
+            vec![hold(31, share_share(31, 30))],
+            &[[0, 0, 63], [top, top, 60]],
+        ),
+        one("a share in a hold of its lock", hold_share(2, 2), &[[0, 0, 5]]),
+        one("a share in a share of its lock", share_share(2, 2), &[[0, 0, 4]]),
+        one("a hold in a hold in a share", vec![share(2, chain(&[2, 2]))], &[[0, 0, 4], [0, 4, 5]]),
+        one(
+            "a lock had both ways",
+            vec![share(2, vec![hold(2, vec![hold(0, vec![share(1, vec![share(3, vec![])])])])])],
+            &[[0, 0, 4], [0, 4, 5], [4, 4, 1], [5, 4, 2], [5, 6, 6]],
+        ),
+        one(
+            "order by held set, shared set, wish",
+            vec![share(31, vec![]), share(0, vec![hold(0, vec![])]), hold(5, vec![]), share(5, vec![])],
+            &[[0, 0, 0], [0, 0, 10], [0, 0, 11], [0, 0, 62], [0, 1, 1]],
+        ),
+        one("every lock shared", (0..32).map(|lock| share(lock, vec![])).collect(), &all_shared),
+    ]
+}
+
+/// A plan of one body that has these lines.
+fn plan_of(lines: &str) -> Vec<u8> {
+    format!("(plan\n(proc\n{lines})\n(thread 0)\n)\n").into_bytes()
+}
+
+/// Lines that are nearly shares, and shares of no right place.
+fn nearly_shares() -> Vec<Entry> {
+    let around = |line: &str| plan_of(&format!("{line}\n(skip)\n)\n"));
+    let odd = [
+        ("a share without a number", "(share"),
+        ("a share and a blank", "(share "),
+        ("a share with a capital", "(Share 0"),
+        ("a share in capitals", "(SHARE 0"),
+        ("a share with a leading zero", "(share 031"),
+        ("a share of two zeros", "(share 00"),
+        ("a share of four digits", "(share 1000"),
+        ("a share with two blanks", "(share  1"),
+        ("a share with a tab", "(share\t1"),
+        ("a share with a blank behind", "(share 1 "),
+        ("a share with a bracket behind", "(share 1)"),
+        ("a share with an s", "(share 1s"),
+        ("a hold with an s", "(hold 1s"),
+        ("a shared", "(shared 1"),
+        ("a sharing", "(sharing"),
+        ("a shar", "(shar 1"),
+        ("a share without a blank", "(share1"),
+    ];
+    let mut all: Vec<Entry> = odd.iter().map(|(name, line)| text(name, &around(line), 3, 3)).collect();
+    all.extend([
+        text("an empty share", &plan_of("(share 0\n)\n"), 4, 4),
+        text("an empty share in a share", &plan_of("(share 0\n(share 1\n)\n)\n"), 4, 5),
+        text("a share that is not closed", &plan_of("(share 0\n(skip)\n"), 4, 6),
+        text("a share in an either", &plan_of("(either\n(share 0\n(skip)\n)\n)\n"), 4, 4),
+        text("a share in the plan", b"(plan\n(share 0\n(skip)\n)\n)\n", 4, 2),
+        text("a share first", b"(share 0\n", 4, 1),
+        free("a share", &around("(share 31")),
+        text("a share of lock 32", &around("(share 32"), 6, 3),
+        text("a share of lock 63", &around("(share 63"), 6, 3),
+        text("a share of lock 64", &around("(share 64"), 6, 3),
+        text("a share of lock 999", &around("(share 999"), 6, 3),
+        text("a share of lock 32 before a hold", &plan_of("(share 32\n(hold 32\n(skip)\n)\n)\n"), 6, 3),
+        text("a share of lock 32 behind a hold", &plan_of("(hold 32\n(share 32\n(skip)\n)\n)\n"), 6, 3),
+        text("a share of lock 32 before a call", &plan_of("(call 9)\n(share 32\n(skip)\n)\n"), 6, 4),
+    ]);
+    all
+}
+
+/// Shares as many, as deep and as large as allowed, and more.
+fn limits_of_shares() -> Vec<Entry> {
+    use Gives::{Free, Refused};
+    let deep = |count: usize, by_hold: fn(usize) -> bool| {
+        let around = |body, lock| vec![if by_hold(lock) { hold(lock, body) } else { share(lock, body) }];
+        Draft::each(vec![(0..count).fold(skips(1), around)])
+    };
+    let many = |count: usize, skip: usize| {
+        Draft::each(vec![[(0..count).map(|lock| share(lock % 32, vec![])).collect(), skips(skip)].concat()])
+    };
+    // Sixteen shares, each of which stands inside those of the chain before it.
+    let chains = |count: usize| {
+        let chain = |first: usize| {
+            let locks = (0..16).rev().map(|at| (first + at) % 32);
+            locks.fold(skips(1), |body, lock| vec![share(lock, body)]).remove(0)
+        };
+        Draft::each(vec![(0..count).map(chain).collect()])
+    };
+    vec![
+        entry("16 shares", deep(16, |_| false), Free),
+        entry("17 shares", deep(17, |_| false), Refused(5, 19)),
+        entry("16 shares and holds", deep(16, |lock| lock % 2 == 0), Free),
+        entry("17 shares and holds", deep(17, |lock| lock % 2 == 0), Refused(5, 19)),
+        Entry { sizes: vec![1_023], ..entry("341 shares", many(341, 0), Free) },
+        Entry { sizes: vec![1_024], ..entry("341 shares and a skip", many(341, 1), Free) },
+        entry("341 shares and two skips", many(341, 2), Refused(9, 2)),
+        entry("513 shares", many(513, 0), Refused(5, 2 + 3 * 512 + 1)),
+        Entry { sizes: vec![1_023], ..entry("496 pairs of shares", chains(31), Free) },
+        entry("512 pairs of shares", chains(32), Refused(9, 2)),
+    ]
 }
 
 /// Fixed texts beside the shelf.
@@ -307,9 +522,12 @@ pub fn others() -> Vec<Entry> {
 /// is in a word. A second thread has 0 around 31, which crosses the last.
 fn every_lock() -> Entry {
     let wanted = |held: u32| u64::from((held + 1) % 32);
-    let words = (0..32).chain((0..32).map(|held| 2_u64.pow(held) * 32 + wanted(held))).collect();
+    let words: Vec<u64> = (0..32).chain((0..32).map(|held| 2_u64.pow(held) * 32 + wanted(held))).collect();
     let draft = Draft::each(vec![couples(32), chain(&[0, 31])]);
-    Entry { words: vec![words, vec![0, 63]], ..entry("every lock", draft, Gives::Deadlock(3)) }
+    Entry {
+        words: vec![records(&words), records(&[0, 63])],
+        ..entry("every lock", draft, Gives::Deadlock(3))
+    }
 }
 
 /// Fixed texts of calls.
@@ -381,18 +599,18 @@ fn later_calls() -> Vec<Entry> {
     vec![
         entry("a call of a later one", Draft::each(vec![skips(1), vec![Tree::Call(2)], skips(1)]), Free),
         Entry {
-            words: vec![vec![0, 33], vec![1, 64], vec![1], vec![0]],
+            words: vec![records(&[0, 33]), records(&[1, 64]), records(&[1]), records(&[0])],
             schedule: Some(vec![0, 0, 1, 1]),
             ..entry("A by later calls", a.clone(), Deadlock(3))
         },
         Entry {
-            words: vec![vec![0], vec![1], vec![1, 64], vec![0, 33]],
+            words: vec![records(&[0]), records(&[1]), records(&[1, 64]), records(&[0, 33])],
             schedule: Some(vec![0, 0, 1, 1]),
             ..entry("A by earlier calls", a.reversed(), Deadlock(3))
         },
         Entry {
             // With 4 held, 16 × 32 more than with nothing held.
-            words: vec![vec![5], vec![6], vec![4, 517, 518], vec![6]],
+            words: vec![records(&[5]), records(&[6]), records(&[4, 517, 518]), records(&[6])],
             ..entry("calls of an earlier and a later one", Draft::each(both_ways), Free)
         },
         entry("two ways to one procedure", calling(&[&[1, 2], &[3], &[3]], &[skips(1)]), Free),
@@ -400,7 +618,7 @@ fn later_calls() -> Vec<Entry> {
         entry("64 procedures, each calls the next", calls_forward(64, skips(1)), Free),
         entry("64 procedures, each calls the one before", calls_forward(64, skips(1)).reversed(), Free),
         Entry {
-            words: vec![vec![31]; 64],
+            words: vec![records(&[31]); 64],
             ..entry("64 procedures, the last with a hold", calls_forward(64, chain(&[31])), Free)
         },
         entry("10 procedures, calls of all behind", calls_of_all_behind(10), Free),
@@ -764,7 +982,7 @@ fn accepted_remarked() -> Vec<Entry> {
     vec![
         Entry {
             text: indented.into(),
-            words: vec![vec![0, 33], vec![1, 64]],
+            words: vec![records(&[0, 33]), records(&[1, 64])],
             schedule: Some(vec![0, 1]),
             ..entry("A indented", a, Gives::Deadlock(3))
         },
@@ -980,7 +1198,7 @@ pub fn many_pairs() -> Vec<Entry> {
             Draft { procs: vec![ascending_couples(181)], threads: vec![0; 3] },
             Free,
         ),
-        Entry { words: vec![pairs(31)], ..entry("496 pairs", skip_more(31, 0), Free) },
+        Entry { words: vec![records(&pairs(31))], ..entry("496 pairs", skip_more(31, 0), Free) },
         entry("496 pairs, size 1,024", skip_more(31, 1), Free),
         entry("496 pairs, size 1,025", skip_more(31, 2), Refused(9, 2)),
         entry("512 pairs", skip_more(32, 0), Refused(9, 2)),

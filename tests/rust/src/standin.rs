@@ -5,14 +5,18 @@ use crate::answer::{Answer, COPIED, CROSSED, DEADLOCK, FREE, PAIRS, SPACE};
 use crate::compare::{Calls, CopyCall, CrossingsCall, PairsCall, SpaceCall, VerdictCall};
 use crate::crossings::{self, crossed, Couple, COUPLE_BYTES};
 use crate::families::Draft;
+use crate::pairs::{Pair, Pairs};
 use crate::reference::{
     bare, lines, named, passed_over, read, sized, sizes, structure, Plan, Refusal, MAX_BYTES, MAX_PAIRS,
-    MAX_SIZE, MAX_SUM,
+    MAX_SIZE, MAX_SUM, MAX_WORDS, PAIR_WORDS,
 };
 use crate::straight;
 use crate::tidy::{self, tree, COPY_BYTES};
 use crate::verdict::{conflict, judge, pairs_of_threads, schedule, Verdict};
 use crate::{askew, miscross, misread};
+
+/// The bytes of a pair in a buffer.
+const PAIR_BYTES: usize = 8 * PAIR_WORDS;
 
 /// The calls over a reading of texts.
 macro_rules! calls_over {
@@ -71,7 +75,7 @@ fn short() -> u64 {
 }
 
 fn pairs_of(plan: Result<Plan, Refusal>, proc: u64, out: &mut [u8]) -> u64 {
-    if out.len() / 8 < MAX_PAIRS {
+    if out.len() / 8 < MAX_WORDS {
         return short();
     }
     let plan = match plan {
@@ -81,10 +85,14 @@ fn pairs_of(plan: Result<Plan, Refusal>, proc: u64, out: &mut [u8]) -> u64 {
     let Some(pairs) = usize::try_from(proc).ok().and_then(|proc| plan.pairs.get(proc)) else {
         return Answer::refused(Refusal { rule: 11, line: 0 }).number();
     };
-    for (pair, place) in pairs.iter().zip(out.chunks_exact_mut(8)) {
-        place.copy_from_slice(&pair.word().to_le_bytes());
-    }
+    put_words(pairs, out);
     Answer { kind: PAIRS, a: 0, b: pairs.len() as u64 }.number()
+}
+
+/// Writes the words of pairs.
+fn put_words<'a>(pairs: impl IntoIterator<Item = &'a Pair>, out: &mut [u8]) {
+    let bytes = pairs.into_iter().flat_map(|pair| pair.bytes());
+    out.iter_mut().zip(bytes).for_each(|(place, byte)| *place = byte);
 }
 
 fn verdict_of(plan: Result<Plan, Refusal>, out: &mut [u8]) -> u64 {
@@ -136,9 +144,8 @@ fn crossings_of(plan: Result<Plan, Refusal>, first: u64, second: u64, out: &mut 
 
 /// Writes the couples that fit whole, and counts all.
 fn put_couples(couples: &[Couple], out: &mut [u8]) -> u64 {
-    for ((one, two), place) in couples.iter().zip(out.chunks_exact_mut(COUPLE_BYTES)) {
-        place[..8].copy_from_slice(&one.word().to_le_bytes());
-        place[8..].copy_from_slice(&two.word().to_le_bytes());
+    for (couple, place) in couples.iter().zip(out.chunks_exact_mut(COUPLE_BYTES)) {
+        place.copy_from_slice(&crossings::bytes(std::slice::from_ref(couple)));
     }
     Answer { kind: CROSSED, a: 0, b: couples.len() as u64 }.number()
 }
@@ -164,6 +171,11 @@ pub fn copy_by(text: &[u8], line: fn(&[u8]) -> Option<&[u8]>) -> Vec<u8> {
 /// The tidy call with a copy made from the lines.
 fn tidy_by(text: &[u8], out: &mut [u8], line: fn(&[u8]) -> Option<&[u8]>) -> u64 {
     copy_of(read(text), out, |_| copy_by(text, line))
+}
+
+/// The tidy call with the lines of the copy changed.
+fn tidy_lines(text: &[u8], out: &mut [u8], line: fn(&[u8]) -> Vec<u8>) -> u64 {
+    copy_of(read(text), out, |plan| lines_by(&tidy::tidy(plan), line))
 }
 
 /// A text whose lines, with their ends, are changed before it is read.
@@ -245,7 +257,7 @@ fn found(number: u64) -> bool {
 }
 
 /// A pair list with a fault each.
-pub const FAULTY_PAIRS: [(&str, PairsCall); 25] = [
+pub const FAULTY_PAIRS: [(&str, PairsCall); 39] = [
     ("one more than there are", |text, proc, out| {
         let number = pairs(text, proc, out);
         if refused(number) {
@@ -274,22 +286,22 @@ pub const FAULTY_PAIRS: [(&str, PairsCall); 25] = [
     ("the first two changed about", |text, proc, out| {
         let number = pairs(text, proc, out);
         if !refused(number) && number >> 16 >= 2 {
-            out[..16].rotate_left(8);
+            out[..2 * PAIR_BYTES].rotate_left(PAIR_BYTES);
         }
         number
     }),
     ("highest byte first", |text, proc, out| {
         let number = pairs(text, proc, out);
         if !refused(number) {
-            let count = (number >> 16) as usize;
-            out.chunks_exact_mut(8).take(count).for_each(<[u8]>::reverse);
+            let words = PAIR_WORDS * (number >> 16) as usize;
+            out.chunks_exact_mut(8).take(words).for_each(<[u8]>::reverse);
         }
         number
     }),
     ("the rest cleared", |text, proc, out| {
         let number = pairs(text, proc, out);
         if !refused(number) {
-            out[(number >> 16) as usize * 8..].fill(0);
+            out[(number >> 16) as usize * PAIR_BYTES..].fill(0);
         }
         number
     }),
@@ -318,17 +330,17 @@ pub const FAULTY_PAIRS: [(&str, PairsCall); 25] = [
         number
     }),
     ("lengths in bytes", |text, proc, out| {
-        if out.len() < MAX_PAIRS {
+        if out.len() < MAX_WORDS {
             return pairs(text, proc, out);
         }
-        let mut copy = vec![0; 8 * MAX_PAIRS];
+        let mut copy = vec![0; 8 * MAX_WORDS];
         let number = pairs(text, proc, &mut copy);
-        let len = if refused(number) { 0 } else { ((number >> 16) as usize * 8).min(out.len()) };
+        let len = if refused(number) { 0 } else { ((number >> 16) as usize * PAIR_BYTES).min(out.len()) };
         out[..len].copy_from_slice(&copy[..len]);
         number
     }),
     ("rule 1 behind the others", |text, proc, out| {
-        let number = pairs(text, proc, &mut [0; 8 * MAX_PAIRS]);
+        let number = pairs(text, proc, &mut [0; 8 * MAX_WORDS]);
         if refused(number) {
             number
         } else {
@@ -347,14 +359,67 @@ pub const FAULTY_PAIRS: [(&str, PairsCall); 25] = [
     ("forms counted for lines", |text, proc, out| forms_for_lines(text, pairs(text, proc, out))),
     ("too early behind the last form", |text, proc, out| behind_the_last_form(text, pairs(text, proc, out))),
     ("nothing passed over before the plan", |text, proc, out| match first_line_read(text) {
-        Some(number) if out.len() / 8 >= MAX_PAIRS => number,
+        Some(number) if out.len() / 8 >= MAX_WORDS => number,
         _ => pairs(text, proc, out),
     }),
     ("129 pairs refused", |text, proc, out| pairs_of(misread::more_than_128_pairs_refused(text), proc, out)),
     ("idle procedures let through", |text, proc, out| pairs_of(misread::idle_let_through(text), proc, out)),
-    ("128 words are enough", |text, proc, out| pairs_lent(text, proc, out, 128)),
-    ("510 words are enough", |text, proc, out| pairs_lent(text, proc, out, MAX_PAIRS - 1)),
-    ("512 words are needed", |text, proc, out| pairs_lent(text, proc, out, MAX_PAIRS + 1)),
+    ("511 words are enough", |text, proc, out| pairs_lent(text, proc, out, MAX_PAIRS)),
+    ("1,532 words are enough", |text, proc, out| pairs_lent(text, proc, out, MAX_WORDS - 1)),
+    ("1,534 words are needed", |text, proc, out| pairs_lent(text, proc, out, MAX_WORDS + 1)),
+    ("12,263 bytes are enough", |text, proc, out| match out.len() + 1 == 8 * MAX_WORDS {
+        true => pairs_lent(text, proc, out, 0),
+        false => pairs(text, proc, out),
+    }),
+    ("a count of words", |text, proc, out| {
+        let number = pairs(text, proc, out);
+        if refused(number) {
+            number
+        } else {
+            PAIR_WORDS as u64 * number
+        }
+    }),
+    ("held and shared sets exchanged", |text, proc, out| {
+        pairs_by(text, proc, out, |pair| Pair { held: pair.shared, shared: pair.held, ..pair })
+    }),
+    ("shared sets among the held", |text, proc, out| {
+        pairs_by(text, proc, out, |pair| Pair { held: pair.held | pair.shared, shared: 0, ..pair })
+    }),
+    ("shared sets left out", |text, proc, out| pairs_by(text, proc, out, |pair| Pair { shared: 0, ..pair })),
+    ("a lock had both ways but held", |text, proc, out| {
+        pairs_by(text, proc, out, |pair| Pair { shared: pair.shared & !pair.held, ..pair })
+    }),
+    ("every wish by a hold", |text, proc, out| {
+        pairs_by(text, proc, out, |pair| Pair { by_hold: true, ..pair })
+    }),
+    ("held sets times 32", |text, proc, out| {
+        let number = pairs(text, proc, out);
+        if !refused(number) {
+            for pair in out.chunks_exact_mut(PAIR_BYTES).take((number >> 16) as usize) {
+                let held = u64::from_le_bytes(pair[..8].try_into().expect("a word"));
+                pair[..8].copy_from_slice(&(32 * held).to_le_bytes());
+            }
+        }
+        number
+    }),
+    ("by the shared set first", |text, proc, out| {
+        pairs_sorted(text, proc, out, |pair| (pair.shared, pair.held, pair.wanted, pair.by_hold))
+    }),
+    ("by the wanted lock first", |text, proc, out| {
+        pairs_sorted(text, proc, out, |pair| {
+            (pair.wanted, u32::from(pair.by_hold), pair.held, pair.shared != 0)
+        })
+    }),
+    ("holds before shares", |text, proc, out| {
+        pairs_sorted(text, proc, out, |pair| (pair.held, pair.shared, pair.wanted, !pair.by_hold))
+    }),
+    ("no hold under a share of its lock", |text, proc, out| pairs_of(misread::no_upgrades(text), proc, out)),
+    ("a share under a hold of its lock", |text, proc, out| {
+        pairs_of(misread::shares_fresh_under_holds(text), proc, out)
+    }),
+    ("a share under a share of its lock", |text, proc, out| {
+        pairs_of(misread::shares_fresh_under_shares(text), proc, out)
+    }),
     ("a list cut at 128", |text, proc, out| {
         let mut copy = out.to_vec();
         let number = pairs(text, proc, &mut copy);
@@ -362,7 +427,8 @@ pub const FAULTY_PAIRS: [(&str, PairsCall); 25] = [
             return number;
         }
         let count = (number >> 16).min(128);
-        out[..8 * count as usize].copy_from_slice(&copy[..8 * count as usize]);
+        let length = PAIR_BYTES * count as usize;
+        out[..length].copy_from_slice(&copy[..length]);
         Answer { kind: PAIRS, a: 0, b: count }.number()
     }),
     ("eight bits of the count", |text, proc, out| {
@@ -381,14 +447,38 @@ fn pairs_lent(text: &[u8], proc: u64, out: &mut [u8], words: usize) -> u64 {
         return short();
     }
     let mut longer = out.to_vec();
-    longer.resize(out.len().max(8 * MAX_PAIRS), 0);
+    longer.resize(out.len().max(8 * MAX_WORDS), 0);
     let number = pairs(text, proc, &mut longer);
     out.copy_from_slice(&longer[..out.len()]);
     number
 }
 
+/// The pair list with other pairs, each in the place of a right one.
+fn pairs_by(text: &[u8], proc: u64, out: &mut [u8], other: fn(Pair) -> Pair) -> u64 {
+    listed_by(text, proc, out, |pairs| pairs.iter().copied().map(other).collect())
+}
+
+/// The pair list in another order.
+fn pairs_sorted<K: Ord>(text: &[u8], proc: u64, out: &mut [u8], key: fn(&Pair) -> K) -> u64 {
+    listed_by(text, proc, out, |pairs| {
+        let mut all: Vec<Pair> = pairs.iter().copied().collect();
+        all.sort_by_key(key);
+        all
+    })
+}
+
+/// The pair list with others in the place of those of a procedure.
+fn listed_by(text: &[u8], proc: u64, out: &mut [u8], other: impl Fn(&Pairs) -> Vec<Pair>) -> u64 {
+    let number = pairs(text, proc, out);
+    if !refused(number) {
+        let plan = read(text).expect("an accepted plan");
+        put_words(&other(&plan.pairs[proc as usize]), out);
+    }
+    number
+}
+
 /// A verdict with a fault each.
-pub const FAULTY_VERDICTS: [(&str, VerdictCall); 29] = [
+pub const FAULTY_VERDICTS: [(&str, VerdictCall); 34] = [
     ("always free", |text, out| {
         let number = verdict(text, &mut out.to_vec());
         if found(number) {
@@ -519,6 +609,20 @@ pub const FAULTY_VERDICTS: [(&str, VerdictCall); 29] = [
             _ => number,
         }
     }),
+    ("shares exclude each other", |text, out| {
+        judged_by(text, out, |pair| Some(Pair { held: pair.held | pair.shared, shared: 0, ..pair }))
+    }),
+    ("shares exclude nothing", |text, out| judged_by(text, out, |pair| Some(Pair { shared: 0, ..pair }))),
+    ("wanted shares never wait", |text, out| judged_by(text, out, |pair| pair.by_hold.then_some(pair))),
+    ("no upgrades", |text, out| judged_by(text, out, |pair| (!upgrades(&pair)).then_some(pair))),
+    ("an upgrader alone is stuck", |text, out| {
+        let number = verdict(text, out);
+        let stuck = |plan: Plan| plan.threads.iter().position(|proc| plan.pairs[*proc].iter().any(upgrades));
+        match read(text).ok().and_then(stuck) {
+            Some(thread) if number == FREE => DEADLOCK + 256 * (1 << thread),
+            _ => number,
+        }
+    }),
     ("no entry refused first", |text, out| if out.len() < 2 { short() } else { verdict(text, out) }),
     ("written as far as it fits, and then refused", |text, out| {
         let number = verdict(text, out);
@@ -565,6 +669,26 @@ pub const FAULTY_VERDICTS: [(&str, VerdictCall); 29] = [
         Answer { kind: DEADLOCK, a, b: entries.len() as u64 }.number()
     }),
 ];
+
+/// Whether a thread wants to hold what it shares.
+fn upgrades(pair: &Pair) -> bool {
+    pair.shared >> pair.wanted & 1 == 1
+}
+
+/// Free where no deadlock is found among other pairs, each in the place of a right one.
+fn judged_by(text: &[u8], out: &mut [u8], other: fn(Pair) -> Option<Pair>) -> u64 {
+    let number = verdict(text, &mut out.to_vec());
+    let Ok(plan) = read(text) else {
+        return number;
+    };
+    let pairs = pairs_of_threads(&plan);
+    let others: Vec<Vec<Pair>> =
+        pairs.into_iter().map(|own| own.into_iter().filter_map(other).collect()).collect();
+    match found(number) && conflict(&others).is_none() {
+        true => FREE,
+        false => verdict(text, out),
+    }
+}
 
 /// The verdict with rule 1 before another rule, by the sizes that the threads would have.
 fn short_before(rule: u64, text: &[u8], out: &mut [u8]) -> u64 {
@@ -740,7 +864,7 @@ pub fn faulty_copies<C: Copying>() -> [(&'static str, CopyCall); 28] {
 }
 
 /// A tidy copy with a fault each that it alone can have.
-pub const FAULTY_TIDIES: [(&str, CopyCall); 6] = [
+pub const FAULTY_TIDIES: [(&str, CopyCall); 8] = [
     ("the text as it stands", |text, out| tidy_by(text, out, |line| Some(line))),
     ("indentation kept", |text, out| tidy_by(text, out, |line| tidy_line(line).map(|_| line))),
     ("empty lines kept", |text, out| {
@@ -750,15 +874,22 @@ pub const FAULTY_TIDIES: [(&str, CopyCall); 6] = [
         tidy_by(text, out, |line| if line.starts_with(b";") { Some(line) } else { tidy_line(line) })
     }),
     ("numbers cut to two digits", |text, out| {
-        let number = tidy(text, &mut out.to_vec());
-        if refused(number) {
-            return number;
-        }
-        let line = |line: &[u8]| match line {
+        tidy_lines(text, out, |line| match line {
             [b'(', b'h', .., a, _, 10] if a.is_ascii_digit() => [&line[..line.len() - 2], b"\n"].concat(),
             _ => line.to_vec(),
-        };
-        put_copy(&lines_by(&copy_by(text, tidy_line), line), out)
+        })
+    }),
+    ("shares written as holds", |text, out| {
+        tidy_lines(text, out, |line| match line.strip_prefix(b"(share ") {
+            Some(rest) => [b"(hold ", rest].concat(),
+            None => line.to_vec(),
+        })
+    }),
+    ("a share's lock lost", |text, out| {
+        tidy_lines(text, out, |line| match line.starts_with(b"(share ") {
+            true => b"(share 0\n".to_vec(),
+            false => line.to_vec(),
+        })
     }),
     ("an either's second block for the first", |text, out| {
         let number = tidy(text, out);
@@ -795,7 +926,7 @@ fn straight_despite(rule: u8, text: &[u8], out: &mut [u8]) -> u64 {
 }
 
 /// A straightened copy with a fault each that it alone can have.
-pub const FAULTY_STRAIGHTS: [(&str, CopyCall); 40] = [
+pub const FAULTY_STRAIGHTS: [(&str, CopyCall); 43] = [
     ("nothing straightened", |text, out| straight_by(text, out, askew::nothing)),
     ("the first block alone", |text, out| straight_by(text, out, askew::first_block_alone)),
     ("the second block alone", |text, out| straight_by(text, out, askew::second_block_alone)),
@@ -812,6 +943,9 @@ pub const FAULTY_STRAIGHTS: [(&str, CopyCall); 40] = [
     ("eithers as they stand", |text, out| straight_by(text, out, askew::eithers_as_they_stand)),
     ("second blocks as they stand", |text, out| straight_by(text, out, askew::second_block_as_it_stands)),
     ("holds as they stand", |text, out| straight_by(text, out, askew::holds_as_they_stand)),
+    ("shares as they stand", |text, out| straight_by(text, out, askew::shares_as_they_stand)),
+    ("holds for shares", |text, out| straight_by(text, out, askew::holds_for_shares)),
+    ("shares lost", |text, out| straight_by(text, out, askew::shares_lost)),
     ("eithers in loops kept", |text, out| straight_by(text, out, askew::eithers_of_loops_kept)),
     ("holds lost", |text, out| straight_by(text, out, askew::holds_lost)),
     ("holds in eithers and loops lost", |text, out| straight_by(text, out, askew::holds_of_branches_lost)),
@@ -941,12 +1075,24 @@ fn recounted(text: &[u8], threads: [u64; 2], out: &mut [u8], count: impl Fn(u64,
 }
 
 /// Crossings with a fault each.
-pub const FAULTY_CROSSINGS: [(&str, CrossingsCall); 55] = [
+pub const FAULTY_CROSSINGS: [(&str, CrossingsCall); 62] = [
     ("locks in common", |text, a, b, out| crossed_by(text, (a, b), out, miscross::locks_in_common)),
     ("the first wants alone", |text, a, b, out| crossed_by(text, (a, b), out, miscross::first_wants_alone)),
     ("the second wants alone", |text, a, b, out| crossed_by(text, (a, b), out, miscross::second_wants_alone)),
     ("the same lock wanted", |text, a, b, out| crossed_by(text, (a, b), out, miscross::the_same_wanted)),
     ("one lock held alone", |text, a, b, out| crossed_by(text, (a, b), out, miscross::one_lock_alone)),
+    ("shares in common", |text, a, b, out| crossed_by(text, (a, b), out, miscross::shares_in_common)),
+    ("held locks alone", |text, a, b, out| crossed_by(text, (a, b), out, miscross::held_locks_alone)),
+    ("shares wait for shares", |text, a, b, out| {
+        crossed_by(text, (a, b), out, miscross::shares_wait_for_shares)
+    }),
+    ("held locks wanted alone", |text, a, b, out| {
+        crossed_by(text, (a, b), out, miscross::held_locks_wanted_alone)
+    }),
+    ("no upgrades", |text, a, b, out| crossed_by(text, (a, b), out, miscross::no_upgrades)),
+    ("by the shared word first", |text, a, b, out| {
+        crossed_by(text, (a, b), out, miscross::shared_word_first)
+    }),
     ("by the second word first", |text, a, b, out| {
         crossed_by(text, (a, b), out, miscross::second_word_first)
     }),
@@ -969,7 +1115,7 @@ pub const FAULTY_CROSSINGS: [(&str, CrossingsCall); 55] = [
     ("a count of what fits", |text, a, b, out| {
         recounted(text, [a, b], out, |count, length| count.min((length / COUPLE_BYTES) as u64))
     }),
-    ("a count of words", |text, a, b, out| recounted(text, [a, b], out, |count, _| 2 * count)),
+    ("a count of words", |text, a, b, out| recounted(text, [a, b], out, |count, _| 6 * count)),
     ("one more than there are", |text, a, b, out| recounted(text, [a, b], out, |count, _| count + 1)),
     ("one less", |text, a, b, out| recounted(text, [a, b], out, |count, _| count.saturating_sub(1))),
     ("whether there are any", |text, a, b, out| recounted(text, [a, b], out, |count, _| count.min(1))),
@@ -978,9 +1124,10 @@ pub const FAULTY_CROSSINGS: [(&str, CrossingsCall); 55] = [
     ("511 couples at most", |text, a, b, out| {
         recounted(text, [a, b], out, |count, _| count.min(MAX_PAIRS as u64))
     }),
-    ("half a couple written", |text, a, b, out| crossings_in(8, text, (a, b), out)),
+    ("half a couple written", |text, a, b, out| crossings_in(PAIR_BYTES, text, (a, b), out)),
+    ("words of a couple written", |text, a, b, out| crossings_in(8, text, (a, b), out)),
     ("bytes of a couple written", |text, a, b, out| crossings_in(1, text, (a, b), out)),
-    ("couples two by two", |text, a, b, out| crossings_in(32, text, (a, b), out)),
+    ("couples two by two", |text, a, b, out| crossings_in(2 * COUPLE_BYTES, text, (a, b), out)),
     ("nothing written where not all fit", |text, a, b, out| {
         let fit = couples_of(text, a, b).len() <= out.len();
         crossings(text, a, b, if fit { out } else { &mut [] })
@@ -989,8 +1136,8 @@ pub const FAULTY_CROSSINGS: [(&str, CrossingsCall); 55] = [
         let length = out.len().saturating_sub(1);
         crossings(text, a, b, &mut out[..length])
     }),
-    ("511 words at most", |text, a, b, out| {
-        let length = out.len().min(8 * MAX_PAIRS);
+    ("1,533 words at most", |text, a, b, out| {
+        let length = out.len().min(8 * MAX_WORDS);
         crossings(text, a, b, &mut out[..length])
     }),
     ("an untouched buffer", |text, a, b, _| crossings(text, a, b, &mut [])),
@@ -1018,7 +1165,7 @@ pub const FAULTY_CROSSINGS: [(&str, CrossingsCall); 55] = [
     ("highest byte first", |text, a, b, out| {
         let number = crossings(text, a, b, out);
         if !refused(number) {
-            let words = 2 * Answer::new(number).b as usize;
+            let words = 2 * PAIR_WORDS * Answer::new(number).b as usize;
             let length = out.len() / COUPLE_BYTES * COUPLE_BYTES;
             out[..length].chunks_exact_mut(8).take(words).for_each(<[u8]>::reverse);
         }
@@ -1119,7 +1266,7 @@ pub const FAULTY_CROSSINGS: [(&str, CrossingsCall); 55] = [
 ];
 
 /// The calls that go by the sum, over sums with a fault each.
-pub const FAULTY_SUMS: [(&str, Calls); 7] = [
+pub const FAULTY_SUMS: [(&str, Calls); 8] = [
     ("one too small", calls_by_sum!(misread::one_too_small)),
     ("one too large", calls_by_sum!(misread::one_too_large)),
     ("of all procedures", calls_by_sum!(misread::sum_of_all_procedures)),
@@ -1127,6 +1274,7 @@ pub const FAULTY_SUMS: [(&str, Calls); 7] = [
     ("procedures by the threads' numbers", calls_by_sum!(misread::procedures_by_thread_numbers)),
     ("the largest thread alone", calls_by_sum!(misread::largest_thread_alone)),
     ("twelve bits of the sum", calls_by_sum!(misread::twelve_bits_of_the_sum)),
+    ("shares of size one", calls_by_sum!(misread::shares_of_size_one)),
 ];
 
 /// The calls over readings with a fault each.
@@ -1165,4 +1313,17 @@ pub const FAULTY_READINGS: [(&str, Calls); 34] = [
     ("more than 511 pairs before rule 12", calls_over!(misread::pairs_before_recursion)),
     ("sizes in text order", calls_over!(misread::sizes_in_text_order)),
     ("pairs in text order", calls_over!(misread::pairs_in_text_order)),
+];
+
+/// The calls over readings of shares with a fault each.
+pub const FAULTY_SHARES: [(&str, Calls); 9] = [
+    ("no upgrades", calls_over!(misread::no_upgrades)),
+    ("shares fresh under holds", calls_over!(misread::shares_fresh_under_holds)),
+    ("shares fresh under shares", calls_over!(misread::shares_fresh_under_shares)),
+    ("shares as holds", calls_over!(misread::shares_as_holds)),
+    ("rule 6 for holds alone", calls_over!(misread::locks_of_shares_let_through)),
+    ("rule 6 for holds first", calls_over!(misread::locks_of_holds_first)),
+    ("shares are no brackets", calls_over!(misread::shares_are_no_brackets)),
+    ("shares are no statements", calls_over!(misread::shares_are_no_statements)),
+    ("empty shares let through", calls_over!(misread::empty_shares_let_through)),
 ];

@@ -12,6 +12,7 @@ fn statement(tree: &Tree) -> Vec<Tree> {
         Tree::Skip => vec![Tree::Skip],
         Tree::Call(proc) => vec![Tree::Call(*proc)],
         Tree::Hold(lock, body) => vec![Tree::Hold(*lock, block(body))],
+        Tree::Share(lock, body) => vec![Tree::Share(*lock, block(body))],
         Tree::Loop(body) => block(body),
         Tree::Either(one, two) => [block(one), block(two)].concat(),
     }

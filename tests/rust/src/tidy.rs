@@ -20,6 +20,7 @@ fn block(plan: &Plan, id: BlockId) -> Vec<Tree> {
         Stmt::Skip => Tree::Skip,
         Stmt::Call(proc) => Tree::Call(proc),
         Stmt::Hold(lock, body) => Tree::Hold(lock as usize, block(plan, body)),
+        Stmt::Share(lock, body) => Tree::Share(lock as usize, block(plan, body)),
         Stmt::Loop(body) => Tree::Loop(block(plan, body)),
         Stmt::Either(one, two) => Tree::Either(block(plan, one), block(plan, two)),
     };

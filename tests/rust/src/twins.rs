@@ -7,13 +7,13 @@
 use crate::answer::{Answer, COPIED, CROSSED, DEADLOCK, FREE, REFUSED, SPACE};
 use crate::branches::bent;
 use crate::compare::{not_two, two_threads, Calls, CopyCall};
-use crate::crossings::alone;
+use crate::crossings::{alone, COUPLE_BYTES};
 use crate::families::Draft;
 use crate::gateway::replay;
 use crate::generate::neighbour;
 use crate::indent::indent;
 use crate::random::Random;
-use crate::reference::{named, read, Plan, Refusal, MAX_PAIRS, MAX_SUM};
+use crate::reference::{named, read, Plan, Refusal, MAX_SUM, MAX_WORDS};
 use crate::straight::straightened;
 use crate::tidy::{tree, COPY_BYTES};
 
@@ -44,7 +44,7 @@ impl Left {
 }
 
 /// The bytes lent for couples: for some of them, and half a one.
-const COUPLES: usize = 16 * 40 + 8;
+const COUPLES: usize = COUPLE_BYTES * 40 + COUPLE_BYTES / 2;
 
 /// All that the calls of a library say of a text.
 struct Told {
@@ -67,7 +67,7 @@ fn tell(calls: Calls, text: &[u8], threads: &[(u64, u64)]) -> Told {
     let mut pairs: Vec<Left> = Vec::new();
     while pairs.last().is_none_or(|last| last.answer.kind != REFUSED) && pairs.len() < 70 {
         let proc = pairs.len() as u64;
-        pairs.push(left(8 * MAX_PAIRS, |out| (calls.pairs)(text, proc, out)));
+        pairs.push(left(8 * MAX_WORDS, |out| (calls.pairs)(text, proc, out)));
     }
     let crossed =
         |(first, second): &(u64, u64)| left(COUPLES, |out| (calls.crossings)(text, *first, *second, out));

@@ -2,11 +2,14 @@
 //!
 //!   cargo test --features library --test differential -- [--texts N] [--seed S]
 //!                       [--stack BYTES] [--only NUMBER] [--file PLAN] [--without-large]
+//!                       [--without-share] [--recode]
 //!
 //! LOCKPLAN_TEXTS and LOCKPLAN_SEED stand for the first two. A text that fails
 //! is made shorter and written to a file. Ends with 1 after a difference, and where no
 //! more than a third of a thousand generated texts or more are accepted. The last option
-//! leaves out the large families, on some of which the stand-in does not end.
+//! but two leaves out the large families, on some of which the stand-in does not end. With
+//! `--without-share` no text has a share, and with `--recode` the library is one from before
+//! shares, whose pairs are written as records.
 
 fn main() {
     let options = differential::options();
@@ -22,13 +25,16 @@ mod differential {
     use std::rc::Rc;
     use std::time::Instant;
 
-    use lockplan_tests::compare::{outcome, shorten, Bench, Outcome};
+    use lockplan_tests::compare::{outcome, shorten, Bench, Calls, Outcome};
     use lockplan_tests::families::Draft;
-    use lockplan_tests::generate::{beginnings, beginnings_indented, enough_accepted, generate, Case};
-    use lockplan_tests::library::CALLS;
+    use lockplan_tests::generate::{
+        beginnings, beginnings_indented, enough_accepted, generate, without_share, Case,
+    };
+    use lockplan_tests::library::{CALLS, RECODED};
     use lockplan_tests::random::Random;
+    use lockplan_tests::shares::has_share;
     use lockplan_tests::twins::Twins;
-    use lockplan_tests::{families, full, guard, lengths, shelf};
+    use lockplan_tests::{families, full, guard, lengths, shares, shelf};
 
     /// Buffers are lent to a fixed text this often.
     const LENT: usize = 4;
@@ -48,6 +54,8 @@ mod differential {
         only: Option<u64>,
         file: Option<PathBuf>,
         large: bool,
+        shares: bool,
+        calls: Calls,
     }
 
     pub fn options() -> Options {
@@ -59,6 +67,8 @@ mod differential {
             only: None,
             file: None,
             large: true,
+            shares: true,
+            calls: CALLS,
         };
         let mut arguments = std::env::args().skip(1);
         while let Some(name) = arguments.next() {
@@ -70,6 +80,8 @@ mod differential {
                 "--only" => options.only = Some(number(&name, &value())),
                 "--file" => options.file = Some(value().into()),
                 "--without-large" => options.large = false,
+                "--without-share" => options.shares = false,
+                "--recode" => options.calls = RECODED,
                 // What cargo hands to every test program.
                 _ => {}
             }
@@ -96,16 +108,16 @@ mod differential {
     }
 
     /// The text of a file, or the fixed ones; each several times, but for large plans.
-    fn fixed(file: &Option<PathBuf>, large: bool) -> Vec<Compared> {
+    fn fixed(options: &Options) -> Vec<Compared> {
         let mut all = Vec::new();
         let mut push = |one: Compared| all.extend(vec![one; LENT]);
-        if let Some(path) = file {
+        if let Some(path) = &options.file {
             push(Compared::new("file", std::fs::read(path).expect("a readable file")));
             return all;
         }
         let entries = shelf::all().into_iter().chain(shelf::all_indented());
         entries.for_each(|entry| push(Compared::new("fixed", entry.text)));
-        let families = families::small().into_iter();
+        let families = families::small().into_iter().chain(shares::small_families());
         families.for_each(|(_, draft, _)| push(Compared::new("family", draft.text())));
         lengths::all().into_iter().for_each(|long| push(Compared::new("long", long.text)));
         let short = beginnings(SHORT).into_iter().chain(beginnings_indented(SHORT_INDENTED));
@@ -114,17 +126,18 @@ mod differential {
             known: Some(deadlock),
             ..Compared::new("large family", draft.text())
         };
-        if large {
-            all.extend(full::all().into_iter().map(known));
+        if options.large {
+            all.extend(full::all().into_iter().chain(shares::full_families()).map(known));
         }
+        all.retain(|one| options.shares || !has_share(&one.text));
         all
     }
 
     /// Fixed texts first, then generated ones.
-    fn compared(fixed: &[Compared], seed: u64, index: u64, random: &mut Random) -> Compared {
-        *random = Random::of_text(seed, index);
+    fn compared(fixed: &[Compared], options: &Options, index: u64, random: &mut Random) -> Compared {
+        *random = Random::of_text(options.seed, index);
         fixed.get(index as usize).cloned().unwrap_or_else(|| {
-            let Case { kind, text } = generate(random);
+            let Case { kind, text } = if options.shares { generate(random) } else { without_share(random) };
             Compared::new(kind, text)
         })
     }
@@ -163,7 +176,7 @@ mod differential {
     /// Whether there were no differences, and enough accepted texts.
     pub fn run(options: &Options) -> bool {
         let start = Instant::now();
-        let fixed = fixed(&options.file, options.large);
+        let fixed = fixed(options);
         let numbers = match (&options.file, options.only) {
             (_, Some(only)) => only..only + 1,
             (Some(_), None) => 0..fixed.len() as u64,
@@ -176,12 +189,12 @@ mod differential {
         let (mut texts, mut bytes, mut differences) = (0_u64, 0_usize, 0);
         let mut generated = Generated::default();
         for index in numbers {
-            let case = compared(&fixed, options.seed, index, &mut random);
+            let case = compared(&fixed, options, index, &mut random);
             guard::now(options.seed, index);
             texts += 1;
             bytes += case.text.len();
             *kinds.entry(case.kind).or_insert(0_u64) += 1;
-            let outcome = bench.check_known(CALLS, &case.text, case.known, &mut random);
+            let outcome = bench.check_known(options.calls, &case.text, case.known, &mut random);
             if index >= fixed.len() as u64 {
                 generated.count(outcome.as_ref().ok().copied());
             }
@@ -195,7 +208,7 @@ mod differential {
                     );
                     keep(&case.text, &format!("{}-{index}.plan", options.seed));
                     if case.known.is_none() {
-                        let shorter = shorter(&case.text, &mut bench);
+                        let shorter = shorter(&case.text, options.calls, &mut bench);
                         keep(&shorter, &format!("{}-{index}-short.plan", options.seed));
                     }
                     if differences == ENOUGH {
@@ -250,10 +263,10 @@ mod differential {
     }
 
     /// A text with the outcome of one that fails, made shorter while it fails.
-    fn shorter(text: &[u8], bench: &mut Bench) -> Vec<u8> {
+    fn shorter(text: &[u8], calls: Calls, bench: &mut Bench) -> Vec<u8> {
         let found = outcome(text);
         let mut fails = |text: &[u8]| {
-            outcome(text) == found && (0..4).any(|k| bench.check(CALLS, text, &mut Random::new(k)).is_err())
+            outcome(text) == found && (0..4).any(|k| bench.check(calls, text, &mut Random::new(k)).is_err())
         };
         if fails(text) {
             shorten(text, &mut fails)

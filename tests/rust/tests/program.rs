@@ -20,7 +20,7 @@ use lockplan_tests::random::Random;
 use lockplan_tests::reference::read;
 use lockplan_tests::report::{check_known, same};
 use lockplan_tests::shelf::{all, all_indented, plans_in};
-use lockplan_tests::{crossings, families, slip, straight, tidy};
+use lockplan_tests::{crossings, families, shares, slip, straight, tidy};
 
 /// A run of a program on a text.
 fn run(program: &str, arguments: &[&str], text: &[u8]) -> Result<Output, String> {
@@ -206,7 +206,7 @@ fn cases(texts: u64, seed: u64) -> Vec<Case> {
     let fixed = all().into_iter().chain(all_indented());
     let mut cases: Vec<Case> = fixed.map(|entry| (entry.name.to_string(), entry.text, None)).collect();
     cases.extend(plans_in("../../examples").into_iter().map(|(name, text)| (name, text, None)));
-    let families = families::all().into_iter();
+    let families = families::all().into_iter().chain(shares::all());
     cases.extend(families.map(|(name, draft, deadlock)| (name, draft.text(), Some(deadlock))));
     for index in 0..texts {
         let case = generate(&mut Random::of_text(seed, index));

@@ -12,13 +12,15 @@ use lockplan_tests::gateway::{replay, Automaton, State};
 use lockplan_tests::generate::{self, enough_accepted, generate};
 use lockplan_tests::idle::{employed, idle};
 use lockplan_tests::indent::{self, indent, over, padded, Padding};
+use lockplan_tests::locks::Locks;
 use lockplan_tests::pairs::{by_execution, compositional, Pair};
 use lockplan_tests::random::Random;
 use lockplan_tests::reference::{
     bare, form, lines, named, passed_over, proc_text, read, sized, sizes, structure, Form, Lines, Plan,
-    Refusal, Stmt, MAX_BYTES, MAX_PAIRS, MAX_SIZE, MAX_SUM, MOST_PAIRS,
+    Refusal, Stmt, MAX_BYTES, MAX_PAIRS, MAX_SIZE, MAX_SUM, MAX_WORDS, MOST_PAIRS,
 };
 use lockplan_tests::report::{check, report};
+use lockplan_tests::shares::{self, small_shares};
 use lockplan_tests::shelf::{self, all, all_indented, shelf, Gives};
 use lockplan_tests::standin::{faulty_copies, Straight, Tidy};
 use lockplan_tests::tidy::{printed, tidy, tree};
@@ -31,6 +33,8 @@ use lockplan_tests::{guard, lengths, slip, standin};
 
 #[path = "selftest/crossings.rs"]
 mod crossings;
+#[path = "selftest/shares.rs"]
+mod shared;
 #[path = "selftest/straight.rs"]
 mod straight;
 
@@ -48,6 +52,9 @@ fn right(plan: &Plan, schedule: &[u16], stuck: u32) {
 }
 
 fn small_plan(random: &mut Random) -> Draft {
+    if random.chance(50) {
+        return small_shares(random);
+    }
     match random.below(9) {
         0 | 1 => generate::plan(random, &generate::TINY),
         2 => generate::plan(random, &generate::SMALL),
@@ -93,7 +100,7 @@ fn shelf_gives_what_is_stated() {
         }
         if let Ok(plan) = read(&entry.text) {
             for (proc, words) in entry.words.iter().enumerate() {
-                let found: Vec<u64> = plan.pairs[proc].iter().map(|pair| pair.word()).collect();
+                let found: Vec<[u64; 3]> = plan.pairs[proc].iter().map(|pair| pair.words()).collect();
                 assert_eq!(&found, words, "{name}");
             }
         }
@@ -140,7 +147,7 @@ fn shelf_sizes_and_counts() {
     let pairs_of = |body: Vec<Tree>| read(&Draft::each(vec![body]).text()).unwrap().pairs[0].len();
     assert_eq!([96, 97].map(|count| pairs_of(shelf::couples(count))), [128, 129]);
     assert_eq!((pairs_of(full::around(31)), sizes_of(most_pairs())[0]), (MOST_PAIRS, 1_023));
-    assert_eq!((MAX_PAIRS, MOST_PAIRS), (511, 496));
+    assert_eq!((MAX_PAIRS, MOST_PAIRS, MAX_WORDS), (511, 496, 1_533));
     let plan = read(&shelf::calls_all_different(1_023).text()).unwrap();
     let calls = |plan: &Plan| -> Vec<(usize, usize)> {
         (0..64).flat_map(|caller| plan.callees(caller).map(move |callee| (caller, callee))).collect()
@@ -222,9 +229,9 @@ fn report_of_the_highest_locks() {
         (proc 1\n)\n(free)\n)\n";
     assert_eq!(String::from_utf8(report(&draft.text())).unwrap(), expected);
     let plan = read(&draft.text()).unwrap();
-    let words: Vec<u64> = plan.pairs[0].iter().map(|pair| pair.word()).collect();
-    let (top, next) = (1 << 36, 1 << 35);
-    assert_eq!(words, [31, top, top + 32 + 30, top + next + 32 + 9]);
+    let words: Vec<[u64; 3]> = plan.pairs[0].iter().map(|pair| pair.words()).collect();
+    let (top, next) = (1 << 31, 1 << 30);
+    assert_eq!(words, [[0, 0, 63], [top, 0, 1], [top + 1, 0, 61], [top + next + 1, 0, 19]]);
 }
 
 #[test]
@@ -445,9 +452,11 @@ fn forms_are_the_listed_lines() {
         .collect();
     for n in 0..1_000 {
         all.insert(format!("(hold {n}").into_bytes());
+        all.insert(format!("(share {n}").into_bytes());
         all.insert(format!("(call {n})").into_bytes());
         all.insert(format!("(thread {n})").into_bytes());
         assert_eq!(form(format!("(hold {n}").as_bytes()), Some(Form::Hold(n)));
+        assert_eq!(form(format!("(share {n}").as_bytes()), Some(Form::Share(n)));
         assert_eq!(form(format!("(call {n})").as_bytes()), Some(Form::Call(n)));
         assert_eq!(form(format!("(thread {n})").as_bytes()), Some(Form::Thread(n)));
     }
@@ -459,9 +468,9 @@ fn forms_are_the_listed_lines() {
         for _ in 0..random.below(3) {
             let at = random.below(line.len() + 1);
             match random.below(3) {
-                0 => line.insert(at, *random.pick(b"() 0123456789holdcatr\r\0")),
+                0 => line.insert(at, *random.pick(b"() 0123456789holdcatrse\r\0")),
                 1 if at < line.len() => drop(line.remove(at)),
-                _ if at < line.len() => line[at] = *random.pick(b"() 0123456789holdcatr\t\xff"),
+                _ if at < line.len() => line[at] = *random.pick(b"() 0123456789holdcatrse\t\xff"),
                 _ => {}
             }
         }
@@ -491,6 +500,7 @@ fn by_grammar(lines: &Lines) -> Option<usize> {
         Form::Skip => "skip",
         Form::Call(_) => "call",
         Form::Hold(_) => "hold",
+        Form::Share(_) => "share",
         Form::Loop => "loop",
         Form::Either => "either",
         Form::One => "one",
@@ -510,7 +520,7 @@ fn by_grammar(lines: &Lines) -> Option<usize> {
                 Procs => stack.extend([MoreProcs, Line("close"), block[0], block[1], Line("proc")]),
                 MoreProcs if line == "proc" => stack.push(Procs),
                 MoreThreads if line == "thread" => stack.extend([MoreThreads, Line("thread")]),
-                MoreStmts if matches!(line, "skip" | "call" | "hold" | "loop" | "either") => {
+                MoreStmts if matches!(line, "skip" | "call" | "hold" | "share" | "loop" | "either") => {
                     stack.extend(block);
                 }
                 MoreProcs | MoreThreads | MoreStmts => {}
@@ -518,6 +528,7 @@ fn by_grammar(lines: &Lines) -> Option<usize> {
                     "skip" => stack.push(Line("skip")),
                     "call" => stack.push(Line("call")),
                     "hold" => stack.extend([Line("close"), block[0], block[1], Line("hold")]),
+                    "share" => stack.extend([Line("close"), block[0], block[1], Line("share")]),
                     "loop" => stack.extend([Line("close"), block[0], block[1], Line("loop")]),
                     "either" => {
                         stack.extend([Line("close"), Line("close"), block[0], block[1], Line("two")]);
@@ -572,7 +583,7 @@ fn written_out(draft: &Draft, block: &[Tree]) -> u64 {
     let size = |tree: &Tree| match tree {
         Tree::Skip => 1,
         Tree::Call(callee) => 1 + written_out(draft, &draft.procs[*callee]),
-        Tree::Hold(_, body) | Tree::Loop(body) => 2 + written_out(draft, body),
+        Tree::Hold(_, body) | Tree::Share(_, body) | Tree::Loop(body) => 2 + written_out(draft, body),
         Tree::Either(one, two) => 1 + written_out(draft, one) + written_out(draft, two),
     };
     block.iter().map(size).sum()
@@ -622,7 +633,7 @@ fn reading_is_the_inverse_of_printing() {
                     assert_eq!(written_out(&draft, block), *size);
                 }
             }
-            Err(refusal) => assert_eq!(refusal.rule, 9, "{refusal:?}"),
+            Err(refusal) => assert!([5, 9].contains(&refusal.rule), "{refusal:?}"),
         }
     }
 }
@@ -674,7 +685,7 @@ fn by_callers(lines: &Lines) -> Vec<usize> {
 #[test]
 fn idle_procedures_are_those_without_a_thread_behind() {
     let (mut none, mut some, mut named_first) = (0, 0, 0);
-    for index in 0..texts(20_000) {
+    for index in 0..texts(30_000) {
         let case = generate(&mut Random::of_text(37, index));
         let Ok(plan) = named(&case.text) else {
             continue;
@@ -720,7 +731,7 @@ fn fixed_texts_have_no_idle_procedures() {
     let texts: Vec<(String, Vec<u8>)> = shelf.chain(long).chain(files).collect();
     let draft_of = |text: &[u8]| lines(text).and_then(|lines| structure(&lines)).map(|plan| tree(&plan)).ok();
     let drafts = texts.into_iter().filter_map(|(name, text)| Some((name, draft_of(&text)?)));
-    let families = families::all().into_iter().map(|(name, draft, _)| (name, draft));
+    let families = families::all().into_iter().chain(shares::all()).map(|(name, draft, _)| (name, draft));
     let (met, checked): (Vec<_>, Vec<_>) =
         drafts.chain(families).partition(|(name, _)| about.contains(name.as_str()));
     checked.iter().for_each(|(name, draft)| assert_eq!(idle(draft), [], "{name}"));
@@ -869,10 +880,15 @@ fn a_procedure_has_no_more_states_than_its_size_and_one() {
 fn words_ascend_with_the_order_of_pairs() {
     let mut random = Random::new(61);
     for _ in 0..10_000 {
-        let mut pair =
-            || Pair { held: (random.next() >> random.below(64)) as u32, wanted: random.below(32) as u32 };
-        let (a, b) = (pair(), pair());
-        assert_eq!(a.cmp(&b), a.word().cmp(&b.word()));
+        let mut set = || (random.next() >> random.below(64)) as u32 & (random.next() as u32 | 1);
+        let (held, shared) = ([set(), set()], [set(), set()]);
+        let any = random.chance(50);
+        let mut pair = |at: usize| {
+            let (held, shared) = if any { (held[at], shared[at]) } else { (held[0], shared[at]) };
+            Pair { held, shared, wanted: random.below(32) as u32, by_hold: random.chance(50) }
+        };
+        let (a, b) = (pair(0), pair(1));
+        assert_eq!(a.cmp(&b), a.words().cmp(&b.words()));
     }
 }
 
@@ -930,13 +946,15 @@ fn cycles_are_enough() {
     let count = texts(20_000);
     for index in 0..count {
         let random = &mut Random::of_text(81, index);
-        let locks = random.between(2, 5);
+        let (locks, shares) = (random.between(2, 5), random.chance(70));
         let threads: Vec<Vec<Pair>> = (0..random.between(1, 5))
             .map(|_| {
                 let pair = |random: &mut Random| {
-                    let held = random.below(1 << locks) as u32 & random.below(1 << locks) as u32;
-                    let wanted = random.below(locks) as u32;
-                    (held >> wanted & 1 == 0).then_some(Pair { held, wanted })
+                    let mut set = || random.below(1 << locks) as u32 & random.below(1 << locks) as u32;
+                    let (held, shared) = (set(), if shares { set() } else { 0 });
+                    let (wanted, by_hold) = (random.below(locks) as u32, !shares || random.chance(60));
+                    let had = if by_hold { held } else { held | shared };
+                    (had >> wanted & 1 == 0).then_some(Pair { held, shared, wanted, by_hold })
                 };
                 (0..random.between(1, 5)).filter_map(|_| pair(random)).collect()
             })
@@ -962,11 +980,11 @@ fn largest_stuck_set_is_what_remains() {
         };
         let mut state = State::new(&plan);
         for _ in 0..60 {
-            let held: Vec<u32> = state.threads.iter().map(|thread| thread.held()).collect();
-            let mut set: Vec<usize> = (0..held.len()).filter(|t| !state.threads[*t].finished()).collect();
+            let had: Vec<Locks> = state.threads.iter().map(|thread| thread.had()).collect();
+            let mut set: Vec<usize> = (0..had.len()).filter(|t| !state.threads[*t].finished()).collect();
             while let Some(place) = set.iter().position(|t| {
-                let others = set.iter().filter(|o| *o != t).fold(0, |all, o| all | held[*o]);
-                state.threads[*t].steps(&plan).any(|(_, next)| next.held() & others == 0)
+                let others = Locks::joined(set.iter().filter(|o| *o != t).map(|o| had[*o]));
+                state.threads[*t].steps(&plan).any(|(_, next)| next.had().beside(others))
             }) {
                 set.remove(place);
             }
@@ -1003,7 +1021,7 @@ fn families_give_what_they_say() {
     // Where more pairs are tried, the verdict is known by how the plan is made alone.
     const TRIES: u64 = 8_000_000;
     let mut given_up = Vec::new();
-    for (name, draft, deadlock) in families::all() {
+    for (name, draft, deadlock) in families::all().into_iter().chain(shares::all()) {
         let plan = read(&draft.text()).unwrap_or_else(|refusal| panic!("{name}: {refusal:?}"));
         let pairs: Vec<usize> = plan.threads.iter().map(|proc| plan.pairs[*proc].len()).collect();
         println!("{name}: pairs {pairs:?}, sizes {}", plan.size_of_threads());
@@ -1019,7 +1037,7 @@ fn families_give_what_they_say() {
         }
     }
     println!("given up: {given_up:?}");
-    assert!(given_up.len() <= 2);
+    assert!(given_up.len() <= 3);
     let late = read(&families::late(6).text()).unwrap();
     let Verdict::Deadlock { schedule, .. } = judge(&late) else { panic!() };
     assert_eq!((late.size_of_threads(), schedule.len()), (6_144, 6_120));
@@ -1092,12 +1110,13 @@ fn every_deadlock_has_a_schedule() {
 /// Every rule is met, every kind generated, often enough.
 #[test]
 fn generator_meets_everything() {
-    const TEXTS: usize = 20_000;
+    const TEXTS: usize = 40_000;
     let mut outcomes = BTreeMap::new();
     let mut kinds = BTreeMap::new();
     let (mut over, mut called, mut summed) = (Over::default(), Called::default(), Summed::default());
     let (mut paired, mut unused) = (Paired::default(), Unused::default());
     let (mut crossings, mut branches) = (crossings::Crossings::default(), straight::Branches::default());
+    let mut shared = shared::Shared::default();
     for index in 0..TEXTS {
         let case = generate(&mut Random::of_text(1, index as u64));
         let outcome = match read(&case.text) {
@@ -1114,10 +1133,11 @@ fn generator_meets_everything() {
         unused.count(&case.text);
         crossings.count(&case.text);
         branches.count(&case.text);
+        shared.count(&case.text);
     }
     let accepted = outcomes[&Outcome::Free] + outcomes[&Outcome::Deadlock];
     println!("{outcomes:?}\n{kinds:?}\n{over:?}\n{called:?}\n{summed:?}\n{paired:?}\n{unused:?}");
-    println!("{crossings:?}\n{branches:?}");
+    println!("{crossings:?}\n{branches:?}\n{shared:?}");
     println!("{accepted} of {TEXTS} accepted, {} refused by rule 13", outcomes[&Outcome::Refused(13)]);
     over.enough();
     called.enough();
@@ -1126,6 +1146,7 @@ fn generator_meets_everything() {
     unused.enough();
     crossings.enough();
     branches.enough();
+    shared.enough();
     for rule in RULES {
         assert!(outcomes[&Outcome::Refused(rule)] >= 30, "rule {rule}");
     }
@@ -1196,7 +1217,7 @@ impl Called {
         }
     }
 
-    /// Of 20,000 texts.
+    /// Of 40,000 texts.
     fn enough(&self) {
         assert!(self.later > 3_000 && self.both > 2_000);
         assert!([1, 2, 3].iter().all(|length| self.circles[length] >= 50));
@@ -1231,7 +1252,7 @@ impl Summed {
         self.large += usize::from(plan.size_of_threads() as usize > MAX_SUM - 20);
     }
 
-    /// Of 20,000 texts.
+    /// Of 40,000 texts.
     fn enough(&self) {
         assert!(self.one_thread >= 300 && self.shared >= 1_000 && self.only_called >= 1_000);
         assert!(self.large >= 50);
@@ -1312,7 +1333,7 @@ impl Unused {
         self.inside += usize::from(!idle(&Draft { procs, ..draft }).is_empty());
     }
 
-    /// Of 20,000 texts.
+    /// Of 40,000 texts.
     fn enough(&self) {
         assert!([self.one, self.several, self.all_but_one].iter().all(|count| *count >= 50));
         assert!([self.first, self.last, self.called_by_idle, self.calls_used]
@@ -1365,7 +1386,7 @@ impl Paired {
         }
     }
 
-    /// Of 20,000 texts.
+    /// Of 40,000 texts.
     fn enough(&self) {
         assert!(self.from_129 >= 150 && self.from_256 >= 150 && self.most >= 30);
         assert!(self.free >= 50 && self.deadlock >= 100 && self.refused >= 50);
@@ -1378,7 +1399,7 @@ impl Paired {
 fn pairs_are_fewer_than_half_the_size() {
     let (mut procs, mut most, mut equal) = (0, 0, 0);
     let fixed = all().into_iter().map(|entry| entry.text);
-    let plans = families::all().into_iter().map(|(_, draft, _)| draft.text());
+    let plans = families::all().into_iter().chain(shares::all()).map(|(_, draft, _)| draft.text());
     let generated = (0..texts(20_000)).map(|index| generate(&mut Random::of_text(131, index)).text);
     for text in fixed.chain(plans).chain(generated) {
         let Ok(plan) = read(&text) else {
@@ -1445,7 +1466,7 @@ impl Over {
         }
     }
 
-    /// Of 20,000 texts.
+    /// Of 40,000 texts.
     fn enough(&self) {
         assert!(self.texts > 6_700 && self.accepted > 3_000);
         assert!(RULES[1..].iter().all(|rule| self.before[*rule as usize] >= 30));
@@ -1518,7 +1539,7 @@ fn comparison_finds_every_fault() {
         found("verdict by a sum", name, Calls { verdict, ..standin::CALLS });
         found("space by a sum", name, Calls { space, ..standin::CALLS });
     }
-    for (name, calls) in standin::FAULTY_READINGS {
+    for (name, calls) in standin::FAULTY_READINGS.into_iter().chain(standin::FAULTY_SHARES) {
         found("reading", name, calls);
     }
 }

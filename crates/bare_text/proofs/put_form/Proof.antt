@@ -1,5 +1,5 @@
 -- The bytes of each arm are the form's line.
-use Rattle.bare_text.proofs.Lines.{lines, line-room, line-wrote, thread-room, call-room, hold-room}
+use Rattle.bare_text.proofs.Lines.{lines, line-room, line-wrote, thread-room, call-room, hold-room, share-room}
 use borrow.Author.Needs.{needs}
 use Rattle.bare_text.proofs.put_form.Statement.{statement}
 use Rattle.bare_text.proofs.put_form.Tie as tie
@@ -112,6 +112,18 @@ slice-aggregate-put-text-8 c = search needs
 put-text-requires-8 : tie.Need-put-text-requires-8
 put-text-requires-8 c κs = search (line-room, lines, needs)
 
+enum-known-form-4 : tie.Need-enum-known-form-4
+enum-known-form-4 c = search needs
+
+slice-aggregate-put-number-line-7 : tie.Need-slice-aggregate-put-number-line-7
+slice-aggregate-put-number-line-7 c = search needs
+
+slice-aggregate-put-number-line-8 : tie.Need-slice-aggregate-put-number-line-8
+slice-aggregate-put-number-line-8 c = search needs
+
+put-number-line-requires-4 : tie.Need-put-number-line-requires-4
+put-number-line-requires-4 c κs = search (share-room, needs)
+
 same-length : tie.Need-same-length
 same-length c = search needs
 
@@ -178,6 +190,12 @@ same-length-11 c = search needs
 returns-11 : tie.Need-returns-11
 returns-11 c = search (line-wrote, lines, needs)
 
+same-length-12 : tie.Need-same-length-12
+same-length-12 c = search needs
+
+returns-12 : tie.Need-returns-12
+returns-12 c = search (line-wrote, lines, needs)
+
 pub put-form-spec : {M : Type 1} → statement M
 put-form-spec =
     tie.close
@@ -218,6 +236,10 @@ put-form-spec =
     enum-told-8
     slice-aggregate-put-text-8
     put-text-requires-8
+    enum-known-form-4
+    slice-aggregate-put-number-line-7
+    slice-aggregate-put-number-line-8
+    put-number-line-requires-4
     same-length
     returns
     same-length-2
@@ -239,4 +261,6 @@ put-form-spec =
     same-length-10
     returns-10
     same-length-11
-    returns-11)
+    returns-11
+    same-length-12
+    returns-12)

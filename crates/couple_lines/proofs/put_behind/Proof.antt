@@ -1,7 +1,6 @@
--- The bytes are written first, and the pair at the place behind them. A pair has at most 201 bytes.
-use native.Mathlib.Omega.{arith}
+-- The bytes are written first, and the pair at the place behind them. A pair has at most 234 bytes.
 use Rattle.laws.proofs.Wrote.{wrote-more}
-use Rattle.report_lines.proofs.Joined.{form-short}
+use Rattle.couple_lines.proofs.Lines.{behind-short}
 use borrow.Author.Needs.{needs}
 use Rattle.couple_lines.proofs.put_behind.Statement.{statement}
 use Rattle.couple_lines.proofs.put_behind.Tie as tie
@@ -16,7 +15,7 @@ same-length : tie.Need-same-length
 same-length c = search needs
 
 returns : tie.Need-returns
-returns c = (search (wrote-more, needs), omega (arith, form-short))
+returns c = (search (wrote-more, needs), search (behind-short, needs))
 
 pub put-behind-spec : {M : Type 1} → statement M
 put-behind-spec = tie.close (tie.spec put-text-requires put-pair-form-requires same-length returns)

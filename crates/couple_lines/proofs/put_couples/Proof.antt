@@ -1,9 +1,10 @@
 -- After k turns the lines of the couples with the first k pairs of the list are written, each within its room; a turn writes the next behind them.
-use Prim.Native.Nat.{_-_, _*_, _≤_}
+use Prim.Native.Nat.{_-_, _*_, _/_, _≤_}
 use mathlib.Core.Path.{_≡_}
 use lib.ListN.{length, take}
-use Rattle.limits.specs.Limits.{maxPairs}
+use Rattle.limits.specs.Limits.{maxPairWords}
 use Rattle.laws.specs.Wrote.{Wrote}
+use Rattle.couples.specs.Records.{pairsFrom, pairIn}
 use Rattle.couple_lines.specs.CoupleLines.{couplesPart, coupleLineRoom, couplesPartRoom}
 use borrow.Author.Needs.{needs}
 use Rattle.couple_lines.proofs.Parts.{part-none, part-more, part-done}
@@ -12,20 +13,17 @@ use Rattle.couple_lines.proofs.put_couples.Tie as tie
 
 abbrev Inv-loop : tie.InvT-loop
 Inv-loop v others out₀ i₀ k₀ out i k =
-    (k ≤ length others) × (length others ≤ maxPairs) × (length out ≡ length out₀) × (couplesPartRoom ≤ length out₀) × (i ≤ k * coupleLineRoom)
-    × Wrote out₀ out 0 i (couplesPart (take k others) v)
+    (length others ≤ maxPairWords) × (k ≤ length others / 3) × (i ≤ k * coupleLineRoom) × (couplesPartRoom ≤ length out) × (length out ≡ length out₀)
+    × Wrote out₀ out 0 i (couplesPart (take k (pairsFrom others)) (pairIn v))
 
 abbrev μ-loop : tie.MeasureT-loop
-μ-loop v others out₀ i₀ k₀ out i k = length others - k
+μ-loop v others out₀ i₀ k₀ out i k = length others / 3 - k
 
 loop-holds : tie.Need-loop-holds Inv-loop μ-loop
 loop-holds c = search (part-none, needs)
 
-mul-put-crossing : tie.Need-mul-put-crossing Inv-loop μ-loop
-mul-put-crossing c = search needs
-
-shared-slice-read-put-crossing : tie.Need-shared-slice-read-put-crossing Inv-loop μ-loop
-shared-slice-read-put-crossing c = search needs
+pair-at-requires : tie.Need-pair-at-requires Inv-loop μ-loop
+pair-at-requires c κs = search needs
 
 put-crossing-requires : tie.Need-put-crossing-requires Inv-loop μ-loop
 put-crossing-requires c κs = search needs
@@ -52,8 +50,7 @@ put-couples-spec =
     Inv-loop
     μ-loop
     loop-holds
-    mul-put-crossing
-    shared-slice-read-put-crossing
+    pair-at-requires
     put-crossing-requires
     add-k
     loop-less

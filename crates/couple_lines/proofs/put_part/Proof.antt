@@ -16,14 +16,11 @@ same-length c = search needs
 returns : tie.Need-returns
 returns c = search (place-open, needs)
 
-sub-put-couples : tie.Need-sub-put-couples
-sub-put-couples c = search needs
+sub-pair-at : tie.Need-sub-pair-at
+sub-pair-at c = search needs
 
-mul-put-couples : tie.Need-mul-put-couples
-mul-put-couples c = search needs
-
-shared-slice-read-put-couples : tie.Need-shared-slice-read-put-couples
-shared-slice-read-put-couples c = search needs
+pair-at-requires : tie.Need-pair-at-requires
+pair-at-requires c κs = search needs
 
 put-couples-requires : tie.Need-put-couples-requires
 put-couples-requires c κs = search needs
@@ -60,9 +57,8 @@ put-part-spec =
     put-open-requires
     same-length
     returns
-    sub-put-couples
-    mul-put-couples
-    shared-slice-read-put-couples
+    sub-pair-at
+    pair-at-requires
     put-couples-requires
     same-length-2
     returns-2

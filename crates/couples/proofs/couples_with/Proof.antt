@@ -1,9 +1,10 @@
 -- What is counted and put, and the couples with the pairs that are left, are together all of them (`Onward`).
-use Prim.Native.Nat.{_+_, _-_, _*_, _≤_}
+use Prim.Native.Nat.{_+_, _-_, _*_, _/_, _≤_}
 use mathlib.Core.Path.{_≡_}
 use lib.ListN.{length, drop}
-use Rattle.limits.specs.Limits.{maxPairs}
+use Rattle.limits.specs.Limits.{maxPairs, maxPairWords}
 use Rattle.couples.specs.Couples.{couplesWith}
+use Rattle.couples.specs.Records.{pairsFrom, pairIn}
 use Rattle.couples.proofs.Loops.{Onward, onward-start, with-crossing, with-other, with-done}
 use borrow.Author.Needs.{needs}
 use Rattle.couples.proofs.couples_with.Statement.{statement}
@@ -11,20 +12,17 @@ use Rattle.couples.proofs.couples_with.Tie as tie
 
 abbrev Inv-loop : tie.InvT-loop
 Inv-loop v others words₀ bytes₀ n count₀ j₀ words bytes count j =
-    (length others ≤ maxPairs) × (n ≤ maxPairs * maxPairs) × (j ≤ length others) × (count ≤ n + j) × (length words ≡ length words₀) × (length bytes ≡ length bytes₀)
-    × Onward (couplesWith v others) n words₀ bytes₀ (couplesWith v (drop j others)) count words bytes
+    (length others ≤ maxPairWords) × (n ≤ maxPairs * maxPairs) × (j ≤ length others / 3) × (count ≤ n + j) × (length words ≡ length words₀) × (length bytes ≡ length bytes₀)
+    × Onward (couplesWith (pairIn v) (pairsFrom others)) n words₀ bytes₀ (couplesWith (pairIn v) (drop j (pairsFrom others))) count words bytes
 
 abbrev μ-loop : tie.MeasureT-loop
-μ-loop v others words₀ bytes₀ n count₀ j₀ words bytes count j = length others - j
+μ-loop v others words₀ bytes₀ n count₀ j₀ words bytes count j = length others / 3 - j
 
 loop-holds : tie.Need-loop-holds Inv-loop μ-loop
 loop-holds c = search (onward-start, needs)
 
-mul-w : tie.Need-mul-w Inv-loop μ-loop
-mul-w c = search needs
-
-shared-slice-read-w : tie.Need-shared-slice-read-w Inv-loop μ-loop
-shared-slice-read-w c = search needs
+pair-at-requires : tie.Need-pair-at-requires Inv-loop μ-loop
+pair-at-requires c κs = search needs
 
 add-j : tie.Need-add-j Inv-loop μ-loop
 add-j c = search needs
@@ -69,8 +67,7 @@ couples-with-spec =
     Inv-loop
     μ-loop
     loop-holds
-    mul-w
-    shared-slice-read-w
+    pair-at-requires
     add-j
     cross-requires
     put-words-requires

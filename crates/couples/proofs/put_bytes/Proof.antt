@@ -1,8 +1,26 @@
--- The two words as bytes in the part of the buffer from the place on, where the couple fits (`bytes-put`).
+-- The six words as bytes in the part of the buffer from the place on, where the couple fits (`bytes-put`).
 use Rattle.couples.proofs.Loops.{bytes-put, bytes-full}
 use borrow.Author.Needs.{needs}
 use Rattle.couples.proofs.put_bytes.Statement.{statement}
 use Rattle.couples.proofs.put_bytes.Tie as tie
+
+held-set-requires : tie.Need-held-set-requires
+held-set-requires c κs = search needs
+
+shared-set-requires : tie.Need-shared-set-requires
+shared-set-requires c κs = search needs
+
+word-in-requires : tie.Need-word-in-requires
+word-in-requires c κs = search needs
+
+held-set-requires-2 : tie.Need-held-set-requires-2
+held-set-requires-2 c κs = search needs
+
+shared-set-requires-2 : tie.Need-shared-set-requires-2
+shared-set-requires-2 c κs = search needs
+
+word-in-requires-2 : tie.Need-word-in-requires-2
+word-in-requires-2 c κs = search needs
 
 slice-aggregate-put-pairs : tie.Need-slice-aggregate-put-pairs
 slice-aggregate-put-pairs c = search needs
@@ -35,6 +53,12 @@ pub put-bytes-spec : {M : Type 1} → statement M
 put-bytes-spec =
     tie.close
     (tie.spec
+    held-set-requires
+    shared-set-requires
+    word-in-requires
+    held-set-requires-2
+    shared-set-requires-2
+    word-in-requires-2
     slice-aggregate-put-pairs
     mul-put-pairs
     sub-put-pairs

@@ -1,31 +1,24 @@
 -- Two writes, one behind the other, where the couple fits (`words-put`).
 use native.Mathlib.Omega.{arith}
-use lib.ListN.{length-set}
 use Rattle.couples.proofs.Loops.{words-put, words-full}
 use borrow.Author.Needs.{needs}
 use Rattle.couples.proofs.put_words.Statement.{statement}
 use Rattle.couples.proofs.put_words.Tie as tie
 
-mul-words : tie.Need-mul-words
-mul-words c = search needs
+mul-put-pair : tie.Need-mul-put-pair
+mul-put-pair c = search needs
 
-mul-words-2 : tie.Need-mul-words-2
-mul-words-2 c = search needs
+put-pair-requires : tie.Need-put-pair-requires
+put-pair-requires c κs = search needs
 
-slice-write-words : tie.Need-slice-write-words
-slice-write-words c = search needs
+mul-put-pair-2 : tie.Need-mul-put-pair-2
+mul-put-pair-2 c = search needs
 
-mul-words-3 : tie.Need-mul-words-3
-mul-words-3 c = search needs
+add-put-pair : tie.Need-add-put-pair
+add-put-pair c = search needs
 
-add-words : tie.Need-add-words
-add-words c = search needs
-
-mul-words-4 : tie.Need-mul-words-4
-mul-words-4 c = search needs
-
-slice-write-words-2 : tie.Need-slice-write-words-2
-slice-write-words-2 c = simp length-set (omega arith)
+put-pair-requires-2 : tie.Need-put-pair-requires-2
+put-pair-requires-2 c κs = search needs
 
 same-length : tie.Need-same-length
 same-length c = search needs
@@ -40,13 +33,11 @@ pub put-words-spec : {M : Type 1} → statement M
 put-words-spec =
     tie.close
     (tie.spec
-    mul-words
-    mul-words-2
-    slice-write-words
-    mul-words-3
-    add-words
-    mul-words-4
-    slice-write-words-2
+    mul-put-pair
+    put-pair-requires
+    mul-put-pair-2
+    add-put-pair
+    put-pair-requires-2
     same-length
     returns
     returns-2)

@@ -1,5 +1,5 @@
 -- The couples of the two lists are those of the threads.
-use Rattle.crossing.proofs.ThreadCouples.{first-within, second-within, first-few, second-few, couples-counted, couples-refused}
+use Rattle.crossing.proofs.ThreadCouples.{first-fits, second-fits, first-within, second-within, first-few, second-few, couples-counted, couples-refused}
 use borrow.Author.Needs.{needs}
 use Rattle.crossing.proofs.find_crossings.Statement.{statement}
 use Rattle.crossing.proofs.find_crossings.Tie as tie
@@ -10,6 +10,9 @@ two-lists-requires c κs = search needs
 enum-known-lists : tie.Need-enum-known-lists
 enum-known-lists c = search needs
 
+mul-find-couples : tie.Need-mul-find-couples
+mul-find-couples c = search (first-fits, needs)
+
 sub-find-couples : tie.Need-sub-find-couples
 sub-find-couples c = search needs
 
@@ -18,6 +21,9 @@ part-find-couples-start c = search needs
 
 part-find-couples-end : tie.Need-part-find-couples-end
 part-find-couples-end c = search (first-within, needs)
+
+mul-find-couples-2 : tie.Need-mul-find-couples-2
+mul-find-couples-2 c = search (second-fits, needs)
 
 sub-find-couples-2 : tie.Need-sub-find-couples-2
 sub-find-couples-2 c = search needs
@@ -64,9 +70,11 @@ find-crossings-spec =
     (tie.spec
     two-lists-requires
     enum-known-lists
+    mul-find-couples
     sub-find-couples
     part-find-couples-start
     part-find-couples-end
+    mul-find-couples-2
     sub-find-couples-2
     part-find-couples-start-2
     part-find-couples-end-2

@@ -10,8 +10,8 @@ mul-p c = search needs
 array-read-p : tie.Need-array-read-p
 array-read-p c = search needs
 
-collect-pairs-requires : tie.Need-collect-pairs-requires
-collect-pairs-requires c κs = search (proc-there, needs)
+collect-words-requires : tie.Need-collect-words-requires
+collect-words-requires c κs = search (proc-there, needs)
 
 same-length : tie.Need-same-length
 same-length c = search needs
@@ -21,4 +21,4 @@ returns c = search (pairs-of-thread, needs)
 
 pub thread-pairs-spec : {M : Type 1} → statement M
 thread-pairs-spec =
-    tie.close (tie.spec mul-p array-read-p collect-pairs-requires same-length returns)
+    tie.close (tie.spec mul-p array-read-p collect-words-requires same-length returns)

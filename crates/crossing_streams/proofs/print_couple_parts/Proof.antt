@@ -1,8 +1,9 @@
 -- A turn prints the next part, which lies within the buffer; the buffer keeps its length. The loop ends behind the last part.
 use borrow.Author.Needs.{needs}
-use Prim.Native.Nat.{_+_, _*_, _-_, _≤_}
+use Prim.Native.Nat.{_+_, _*_, _/_, _-_, _≤_}
 use mathlib.Core.Path.{_≡_}
 use lib.ListN.{length}
+use Rattle.couples.specs.Records.{pairsFrom}
 use Rattle.couple_lines.specs.CoupleLines.{couplesParts, couplesPartRoom}
 use Rattle.streams.proofs.Printing.{PrintedTo, part-printed}
 use Rattle.crossing_streams.proofs.Printing.{couples-printed}
@@ -11,10 +12,10 @@ use Rattle.crossing_streams.proofs.print_couple_parts.Tie as tie
 
 abbrev Inv-loop : tie.InvT-loop
 Inv-loop first second one two out₀ bytes₀ k₀ out bytes k =
-    (k ≤ length one + 2) × (length out ≡ length out₀) × (bytes ≤ k * couplesPartRoom) × PrintedTo (couplesParts first second one two) k bytes
+    (k ≤ length one / 3 + 2) × (length out ≡ length out₀) × (bytes ≤ k * couplesPartRoom) × PrintedTo (couplesParts first second (pairsFrom one) (pairsFrom two)) k bytes
 
 abbrev μ-loop : tie.MeasureT-loop
-μ-loop first second one two out₀ bytes₀ k₀ out bytes k = length one + 2 - k
+μ-loop first second one two out₀ bytes₀ k₀ out bytes k = length one / 3 + 2 - k
 
 loop-holds : tie.Need-loop-holds Inv-loop μ-loop
 loop-holds c = search needs

@@ -1,5 +1,5 @@
 -- The pairs of both threads lie within the lists that were lent, and are few.
-use Rattle.crossing.proofs.ThreadCouples.{first-within, second-within, first-few, second-few}
+use Rattle.crossing.proofs.ThreadCouples.{first-fits, second-fits, first-within, second-within, first-few, second-few}
 use Rattle.crossing_streams.proofs.Printing.{lists-printed, refusal-printed}
 use borrow.Author.Needs.{needs}
 use Rattle.crossing_streams.proofs.print_lists.Statement.{statement}
@@ -11,6 +11,9 @@ two-lists-requires c κs = search needs
 enum-known-lists : tie.Need-enum-known-lists
 enum-known-lists c = search needs
 
+mul-print-couple-parts : tie.Need-mul-print-couple-parts
+mul-print-couple-parts c = search (first-fits, needs)
+
 sub-print-couple-parts : tie.Need-sub-print-couple-parts
 sub-print-couple-parts c = search needs
 
@@ -19,6 +22,9 @@ part-print-couple-parts-start c = search needs
 
 part-print-couple-parts-end : tie.Need-part-print-couple-parts-end
 part-print-couple-parts-end c = search (first-within, needs)
+
+mul-print-couple-parts-2 : tie.Need-mul-print-couple-parts-2
+mul-print-couple-parts-2 c = search (second-fits, needs)
 
 sub-print-couple-parts-2 : tie.Need-sub-print-couple-parts-2
 sub-print-couple-parts-2 c = search needs
@@ -68,9 +74,11 @@ print-lists-spec =
     (tie.spec
     two-lists-requires
     enum-known-lists
+    mul-print-couple-parts
     sub-print-couple-parts
     part-print-couple-parts-start
     part-print-couple-parts-end
+    mul-print-couple-parts-2
     sub-print-couple-parts-2
     part-print-couple-parts-start-2
     part-print-couple-parts-end-2

@@ -1,5 +1,5 @@
 -- The pairs found are put into the buffer as bytes, and the answer as a number is that of the rules and of the count.
-use Rattle.listing.proofs.ListedPairs.{found-within, found-carried, pairs-carried, bytes-room, bytes-listed, bytes-refused}
+use Rattle.listing.proofs.ListedPairs.{found-fits, found-within, found-carried, pairs-carried, bytes-room, bytes-listed, bytes-refused}
 use borrow.Author.Needs.{needs}
 use Rattle.listing.proofs.list_bytes.Statement.{statement}
 use Rattle.listing.proofs.list_bytes.Tie as tie
@@ -21,6 +21,9 @@ same-length c = search needs
 
 returns : tie.Need-returns
 returns c = search (bytes-refused, needs)
+
+mul-put-pairs : tie.Need-mul-put-pairs
+mul-put-pairs c = search (found-fits, needs)
 
 sub-put-pairs : tie.Need-sub-put-pairs
 sub-put-pairs c = search needs
@@ -56,6 +59,7 @@ list-bytes-spec =
     counted-number-requires
     same-length
     returns
+    mul-put-pairs
     sub-put-pairs
     part-put-pairs-start
     part-put-pairs-end

@@ -7,8 +7,8 @@ use Rattle.listing.proofs.table_pairs.Tie as tie
 returns : tie.Need-returns
 returns c = search (table-absent, needs)
 
-collect-pairs-requires : tie.Need-collect-pairs-requires
-collect-pairs-requires c κs = search needs
+collect-words-requires : tie.Need-collect-words-requires
+collect-words-requires c κs = search needs
 
 same-length : tie.Need-same-length
 same-length c = search needs
@@ -17,4 +17,4 @@ returns-2 : tie.Need-returns-2
 returns-2 c = search (table-listed, needs)
 
 pub table-pairs-spec : {M : Type 1} → statement M
-table-pairs-spec = tie.close (tie.spec returns collect-pairs-requires same-length returns-2)
+table-pairs-spec = tie.close (tie.spec returns collect-words-requires same-length returns-2)

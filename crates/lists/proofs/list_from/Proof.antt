@@ -1,26 +1,41 @@
--- The pairs are those of the part that was lent, put back into the lists (`listed-from`).
+-- The pairs are those of the parts that were lent, put back into the columns (`listed-from`).
 use Rattle.lists.proofs.Pairs.{listed-from}
 use borrow.Author.Needs.{needs}
 use Rattle.lists.proofs.list_from.Statement.{statement}
 use Rattle.lists.proofs.list_from.Tie as tie
 
-mul-collect-pairs : tie.Need-mul-collect-pairs
-mul-collect-pairs c = search needs
+mul-collect-columns : tie.Need-mul-collect-columns
+mul-collect-columns c = search needs
 
-sub-collect-pairs : tie.Need-sub-collect-pairs
-sub-collect-pairs c = search needs
+sub-collect-columns : tie.Need-sub-collect-columns
+sub-collect-columns c = search needs
 
-part-collect-pairs-start : tie.Need-part-collect-pairs-start
-part-collect-pairs-start c = search needs
+part-collect-columns-start : tie.Need-part-collect-columns-start
+part-collect-columns-start c = search needs
 
-part-collect-pairs-end : tie.Need-part-collect-pairs-end
-part-collect-pairs-end c = search needs
+part-collect-columns-end : tie.Need-part-collect-columns-end
+part-collect-columns-end c = search needs
 
-collect-pairs-requires : tie.Need-collect-pairs-requires
-collect-pairs-requires c κs = search needs
+mul-collect-columns-2 : tie.Need-mul-collect-columns-2
+mul-collect-columns-2 c = search needs
+
+sub-collect-columns-2 : tie.Need-sub-collect-columns-2
+sub-collect-columns-2 c = search needs
+
+part-collect-columns-start-2 : tie.Need-part-collect-columns-start-2
+part-collect-columns-start-2 c = search needs
+
+part-collect-columns-end-2 : tie.Need-part-collect-columns-end-2
+part-collect-columns-end-2 c = search needs
+
+collect-columns-requires : tie.Need-collect-columns-requires
+collect-columns-requires c κs = search needs
 
 same-length : tie.Need-same-length
 same-length c = search needs
+
+same-length-2 : tie.Need-same-length-2
+same-length-2 c = search needs
 
 returns : tie.Need-returns
 returns c = search (listed-from, needs)
@@ -29,10 +44,15 @@ pub list-from-spec : {M : Type 1} → statement M
 list-from-spec =
     tie.close
     (tie.spec
-    mul-collect-pairs
-    sub-collect-pairs
-    part-collect-pairs-start
-    part-collect-pairs-end
-    collect-pairs-requires
+    mul-collect-columns
+    sub-collect-columns
+    part-collect-columns-start
+    part-collect-columns-end
+    mul-collect-columns-2
+    sub-collect-columns-2
+    part-collect-columns-start-2
+    part-collect-columns-end-2
+    collect-columns-requires
     same-length
+    same-length-2
     returns)

@@ -1,17 +1,18 @@
 -- Each turn fills the list of one thread more.
-use borrow.Author.Needs.{needs}
 use Prim.Native.Nat.{_-_}
 use mathlib.Core.Path.{_≡_}
-use Rattle.lists.proofs.Filling.{Filling, filling-none, thread-there, proc-there, list-fits, list-room, count-there, filling-more, filling-done}
+use lib.ListN.{length}
+use Rattle.columns.specs.Columns.{pairNumbers}
+use Rattle.lists.proofs.Filling.{Filling, filling-none, thread-there, proc-there, list-fits, masks-room, codes-room, count-there, columns-more, filling-done}
+use borrow.Author.Needs.{needs}
 use Rattle.lists.proofs.thread_lists.Statement.{statement}
 use Rattle.lists.proofs.thread_lists.Tie as tie
 
 abbrev Inv-loop : tie.InvT-loop
-Inv-loop table layout lists₀ counts₀ n runs t₀ lists counts t =
-    (n ≡ layout .threads) × (runs ≡ layout .runs) × Filling table layout lists₀ counts₀ lists counts t
+Inv-loop table layout masks₀ codes₀ counts₀ n runs t₀ masks codes counts t = (n ≡ layout .threads) × (runs ≡ layout .runs) × (length masks ≡ length masks₀) × (length codes ≡ length codes₀) × Filling table layout (pairNumbers masks₀ codes₀) counts₀ (pairNumbers masks codes) counts t
 
 abbrev μ-loop : tie.MeasureT-loop
-μ-loop table layout lists₀ counts₀ n runs t₀ lists counts t = n - t
+μ-loop table layout masks₀ codes₀ counts₀ n runs t₀ masks codes counts t = n - t
 
 loop-holds : tie.Need-loop-holds Inv-loop μ-loop
 loop-holds c = search (filling-none, needs)
@@ -26,7 +27,7 @@ mul-list-from : tie.Need-mul-list-from Inv-loop μ-loop
 mul-list-from c = search (list-fits, needs)
 
 list-from-requires : tie.Need-list-from-requires Inv-loop μ-loop
-list-from-requires c κs = search (proc-there, list-room, needs)
+list-from-requires c κs = search (proc-there, masks-room, codes-room, needs)
 
 mul-counts : tie.Need-mul-counts Inv-loop μ-loop
 mul-counts c = search needs
@@ -41,13 +42,16 @@ loop-less : tie.Need-loop-less Inv-loop μ-loop
 loop-less c = search needs
 
 loop-again : tie.Need-loop-again Inv-loop μ-loop
-loop-again c = search (filling-more, needs)
+loop-again c = search (columns-more, needs)
 
 same-length : tie.Need-same-length Inv-loop μ-loop
 same-length c = search needs
 
 same-length-2 : tie.Need-same-length-2 Inv-loop μ-loop
 same-length-2 c = search needs
+
+same-length-3 : tie.Need-same-length-3 Inv-loop μ-loop
+same-length-3 c = search needs
 
 returns : tie.Need-returns Inv-loop μ-loop
 returns c = search (filling-done, needs)
@@ -70,4 +74,5 @@ thread-lists-spec =
     loop-again
     same-length
     same-length-2
+    same-length-3
     returns)

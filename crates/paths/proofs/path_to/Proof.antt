@@ -10,8 +10,8 @@ mul-start c = search needs
 shared-slice-read-start : tie.Need-shared-slice-read-start
 shared-slice-read-start c = search needs
 
-sub-t10 : tie.Need-sub-t10
-sub-t10 c = search needs
+sub-t12 : tie.Need-sub-t12
+sub-t12 c = search needs
 
 walk-requires : tie.Need-walk-requires
 walk-requires c κs = search needs
@@ -19,10 +19,13 @@ walk-requires c κs = search needs
 same-length : tie.Need-same-length
 same-length c = search needs
 
+same-length-2 : tie.Need-same-length-2
+same-length-2 c = search needs
+
 returns : tie.Need-returns
 returns c = search (path-written, needs)
 
 pub path-to-spec : {M : Type 1} → statement M
 path-to-spec =
     tie.close
-    (tie.spec mul-start shared-slice-read-start sub-t10 walk-requires same-length returns)
+    (tie.spec mul-start shared-slice-read-start sub-t12 walk-requires same-length same-length-2 returns)

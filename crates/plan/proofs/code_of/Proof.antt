@@ -66,6 +66,18 @@ enum-told-7 c = search needs
 enum-told-8 : tie.Need-enum-told-8
 enum-told-8 c = search needs
 
+enum-known-form-4 : tie.Need-enum-known-form-4
+enum-known-form-4 c = search needs
+
+cast-result-4 : tie.Need-cast-result-4
+cast-result-4 c = search needs
+
+mul-result-4 : tie.Need-mul-result-4
+mul-result-4 c = search needs
+
+add-result-4 : tie.Need-add-result-4
+add-result-4 c = search needs
+
 returns : tie.Need-returns
 unfolding codeOf numberIn
 returns c = search (code-case, needs)
@@ -110,6 +122,10 @@ returns-11 : tie.Need-returns-11
 unfolding codeOf numberIn
 returns-11 c = search (code-case, needs)
 
+returns-12 : tie.Need-returns-12
+unfolding codeOf numberIn
+returns-12 c = search (code-case, needs)
+
 pub code-of-spec : {M : Type 1} → statement M
 code-of-spec =
     tie.close
@@ -134,6 +150,10 @@ code-of-spec =
     enum-told-6
     enum-told-7
     enum-told-8
+    enum-known-form-4
+    cast-result-4
+    mul-result-4
+    add-result-4
     returns
     returns-2
     returns-3
@@ -144,4 +164,5 @@ code-of-spec =
     returns-8
     returns-9
     returns-10
-    returns-11)
+    returns-11
+    returns-12)

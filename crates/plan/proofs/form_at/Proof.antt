@@ -50,7 +50,12 @@ returns-10 c = simp (c .match .keys10)
 
 returns-11 : tie.Need-returns-11
 unfolding formAt
-returns-11 c = simp (
+returns-11 c = simp (c .match .keys11)
+
+returns-12 : tie.Need-returns-12
+unfolding formAt
+returns-12 c = simp (
+  ne-eqb _ _ (c .match .rest .0 .0 .0 .0 .0 .0 .0 .0 .0 .0 .1),
   ne-eqb _ _ (c .match .rest .0 .0 .0 .0 .0 .0 .0 .0 .0 .1),
   ne-eqb _ _ (c .match .rest .0 .0 .0 .0 .0 .0 .0 .0 .1),
   ne-eqb _ _ (c .match .rest .0 .0 .0 .0 .0 .0 .0 .1),
@@ -78,4 +83,5 @@ form-at-spec =
     returns-8
     returns-9
     returns-10
-    returns-11)
+    returns-11
+    returns-12)

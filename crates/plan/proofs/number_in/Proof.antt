@@ -23,6 +23,12 @@ enum-known-form-3 c = search needs
 cast-result-3 : tie.Need-cast-result-3
 cast-result-3 c = search needs
 
+enum-known-form-4 : tie.Need-enum-known-form-4
+enum-known-form-4 c = search needs
+
+cast-result-4 : tie.Need-cast-result-4
+cast-result-4 c = search needs
+
 returns : tie.Need-returns
 unfolding numberIn
 returns c = search (number-case, needs)
@@ -36,7 +42,11 @@ unfolding numberIn
 returns-3 c = search (number-case, needs)
 
 returns-4 : tie.Need-returns-4
-returns-4 c = search (number-rest, needs)
+unfolding numberIn
+returns-4 c = search (number-case, needs)
+
+returns-5 : tie.Need-returns-5
+returns-5 c = search (number-rest, needs)
 
 pub number-in-spec : {M : Type 1} → statement M
 number-in-spec =
@@ -48,7 +58,10 @@ number-in-spec =
     cast-result-2
     enum-known-form-3
     cast-result-3
+    enum-known-form-4
+    cast-result-4
     returns
     returns-2
     returns-3
-    returns-4)
+    returns-4
+    returns-5)

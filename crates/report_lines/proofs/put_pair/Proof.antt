@@ -1,8 +1,7 @@
--- The form, then the line end. A form has at most 201 bytes.
+-- The form, then the line end. A form has at most 234 bytes.
 use borrow.Author.Needs.{needs}
-use native.Mathlib.Omega.{arith}
 use Rattle.laws.proofs.Wrote.{wrote-more}
-use Rattle.report_lines.proofs.Joined.{form-short}
+use Rattle.report_lines.proofs.Joined.{line-end-room}
 use Rattle.report_lines.specs.Lines.{pairLine}
 use Rattle.report_lines.proofs.put_pair.Statement.{statement}
 use Rattle.report_lines.proofs.put_pair.Tie as tie
@@ -14,7 +13,7 @@ slice-aggregate-put-text : tie.Need-slice-aggregate-put-text
 slice-aggregate-put-text c = search needs
 
 put-text-requires : tie.Need-put-text-requires
-put-text-requires c κs = omega (arith, form-short)
+put-text-requires c κs = search (line-end-room, needs)
 
 same-length : tie.Need-same-length
 same-length c = search needs

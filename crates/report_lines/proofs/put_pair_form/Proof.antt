@@ -1,29 +1,27 @@
--- The wanted lock with the bytes before it, the held locks, then the end. The wanted lock has at most 2 digits, the held ones have at most 192 bytes together.
+-- The wanted lock with the bytes before it, the locks had, then the end.
 use borrow.Author.Needs.{needs}
-use Rattle.report_lines.proofs.WholeLines.{wanted-room, held-room, pair-end-room, pair-whole}
+use Rattle.report_lines.proofs.WholeLines.{form-had-room, form-end-room, pair-whole}
 use Rattle.report_lines.proofs.put_pair_form.Statement.{statement}
 use Rattle.report_lines.proofs.put_pair_form.Tie as tie
 
-wanted-in-requires : tie.Need-wanted-in-requires
-wanted-in-requires c κs = search needs
+word-in-requires : tie.Need-word-in-requires
+word-in-requires c κs = search needs
 
-held-in-requires : tie.Need-held-in-requires
-held-in-requires c κs = search needs
+put-wanted-requires : tie.Need-put-wanted-requires
+put-wanted-requires c κs = search needs
 
-slice-aggregate-put-numbered : tie.Need-slice-aggregate-put-numbered
-slice-aggregate-put-numbered c = search needs
-
-put-numbered-requires : tie.Need-put-numbered-requires
-put-numbered-requires c κs = search (wanted-room, needs)
-
-put-members-requires : tie.Need-put-members-requires
-put-members-requires c κs = search (held-room, needs)
+put-had-requires : tie.Need-put-had-requires
+put-had-requires c κs = search (form-had-room, needs)
 
 slice-aggregate-put-text : tie.Need-slice-aggregate-put-text
 slice-aggregate-put-text c = search needs
 
 put-text-requires : tie.Need-put-text-requires
-put-text-requires c κs = search (pair-end-room, needs)
+put-text-requires c κs =
+    let had = c .before .before .before .before in
+    let wanted = had .before .before .before .before in
+    let word = wanted .before .before in
+    form-end-room _ _ _ (word .word-in .ensures .1) (word .before .before .pre) _ _ (wanted .put-wanted .ensures) _ _ _ (had .put-had .ensures)
 
 same-length : tie.Need-same-length
 same-length c = search needs
@@ -35,11 +33,9 @@ pub put-pair-form-spec : {M : Type 1} → statement M
 put-pair-form-spec =
     tie.close
     (tie.spec
-    held-in-requires
-    wanted-in-requires
-    slice-aggregate-put-numbered
-    put-numbered-requires
-    put-members-requires
+    word-in-requires
+    put-wanted-requires
+    put-had-requires
     slice-aggregate-put-text
     put-text-requires
     same-length

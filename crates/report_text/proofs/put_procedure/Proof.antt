@@ -16,6 +16,9 @@ part-put-pair-lines-end c = search needs
 slice-aggregate-put-pair-lines : tie.Need-slice-aggregate-put-pair-lines
 slice-aggregate-put-pair-lines c = search needs
 
+slice-aggregate-put-pair-lines-2 : tie.Need-slice-aggregate-put-pair-lines-2
+slice-aggregate-put-pair-lines-2 c = search needs
+
 put-pair-lines-requires : tie.Need-put-pair-lines-requires
 put-pair-lines-requires c κs = search (table-rules, table-laid, table-procs, needs)
 
@@ -33,6 +36,7 @@ put-procedure-spec =
     part-put-pair-lines-start
     part-put-pair-lines-end
     slice-aggregate-put-pair-lines
+    slice-aggregate-put-pair-lines-2
     put-pair-lines-requires
     same-length
     returns)

@@ -20,8 +20,8 @@ sub-mask-at c = search needs
 mask-at-requires : tie.Need-mask-at-requires
 mask-at-requires c κs = search (within-before, needs)
 
-others-hold-requires : tie.Need-others-hold-requires
-others-hold-requires c κs = search needs
+others-bar-requires : tie.Need-others-bar-requires
+others-bar-requires c κs = search needs
 
 returns-2 : tie.Need-returns-2
 returns-2 c = search (back-test, needs)
@@ -35,5 +35,5 @@ can-go-back-spec =
     returns
     sub-mask-at
     mask-at-requires
-    others-hold-requires
+    others-bar-requires
     returns-2)

@@ -10,12 +10,12 @@ use Rattle.retreat.proofs.fill_masks.Statement.{statement}
 use Rattle.retreat.proofs.fill_masks.Tie as tie
 
 abbrev Inv-loop : tie.InvT-loop
-Inv-loop steps positions masks₀ n t₀ masks t =
-    (t ≤ n) × (n ≤ maxThreads) × (maxEntries ≤ length steps) × (maxThreads ≤ length positions) × (maxThreads ≤ length masks₀) × (length masks ≡ length masks₀) × InRows steps positions n
-    × Holding steps positions masks t
+Inv-loop rows positions masks₀ n t₀ masks t =
+    (t ≤ n) × (n ≤ maxThreads) × (maxEntries ≤ length rows) × (maxThreads ≤ length positions) × (maxThreads ≤ length masks₀) × (length masks ≡ length masks₀) × InRows positions n
+    × Holding rows positions masks t
 
 abbrev μ-loop : tie.MeasureT-loop
-μ-loop steps positions masks₀ n t₀ masks t = n - t
+μ-loop rows positions masks₀ n t₀ masks t = n - t
 
 loop-holds : tie.Need-loop-holds Inv-loop μ-loop
 loop-holds c = search (holding-none, needs)

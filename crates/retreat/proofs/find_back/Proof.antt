@@ -8,10 +8,10 @@ use Rattle.retreat.proofs.find_back.Statement.{statement}
 use Rattle.retreat.proofs.find_back.Tie as tie
 
 abbrev Inv-loop : tie.InvT-loop
-Inv-loop steps positions masks n k₀ k = (k ≤ n) × Standing steps positions masks n × NoneBelow (mayGoBack steps positions n) k
+Inv-loop rows positions masks n k₀ k = (k ≤ n) × Standing rows positions masks n × NoneBelow (mayGoBack rows positions n) k
 
 abbrev μ-loop : tie.MeasureT-loop
-μ-loop steps positions masks n k₀ k = n - k
+μ-loop rows positions masks n k₀ k = n - k
 
 loop-holds : tie.Need-loop-holds Inv-loop μ-loop
 loop-holds c = search (first-start, needs)

@@ -10,13 +10,13 @@ use Rattle.retreat.proofs.go_back.Statement.{statement}
 use Rattle.retreat.proofs.go_back.Tie as tie
 
 abbrev Inv-loop : tie.InvT-loop
-Inv-loop steps begins n positions₀ wanted₀ masks₀ table₀ place₀ t₀ positions wanted masks table place t =
+Inv-loop choices rows positions₀ wanted₀ masks₀ table₀ n begins place₀ t₀ positions wanted masks table place t =
     (maxEntries ≤ length table₀) × (length table ≡ length table₀) × (length positions ≡ length positions₀) × (length wanted ≡ length wanted₀)
     × (length masks ≡ length masks₀) × (place ≤ length table) × FirstBelow (hasStepped positions) n t
-    × Going steps begins n (state positions₀ wanted₀ masks₀) (state positions wanted masks) (drop place table)
+    × Going choices rows begins n (state positions₀ wanted₀ masks₀) (state positions wanted masks) (drop place table)
 
 abbrev μ-loop : tie.MeasureT-loop
-μ-loop steps begins n positions₀ wanted₀ masks₀ table₀ place₀ t₀ positions wanted masks table place t = stepsLeft positions n
+μ-loop choices rows positions₀ wanted₀ masks₀ table₀ n begins place₀ t₀ positions wanted masks table place t = stepsLeft positions n
 
 find-stepped-requires : tie.Need-find-stepped-requires Inv-loop μ-loop
 find-stepped-requires c κs = search needs

@@ -6,17 +6,17 @@ use lib.ListN.{length, drop}
 use Rattle.limits.specs.Limits.{maxThreads}
 use Rattle.retreat.specs.Paths.{NoneMayGoBack, Standing}
 use Rattle.retreat.specs.Moves.{Landed}
-use Rattle.retreat.proofs.Landings.{jump-some, jump-within, jump-locks, jump-keep, landed-none, landed-more, landed-done}
+use Rattle.retreat.proofs.Landings.{jump-some, jump-within, jump-keep, landed-none, landed-more, landed-done}
 use Rattle.retreat.proofs.jump.Statement.{statement}
 use Rattle.retreat.proofs.jump.Tie as tie
 
 abbrev Inv-loop : tie.InvT-loop
-Inv-loop steps begins masks positions₀ wanted₀ n k₀ positions wanted k =
-    (k ≤ n) × Standing steps positions₀ masks n × (maxThreads ≤ length begins) × (maxThreads ≤ length wanted₀) × (length positions ≡ length positions₀) × (length wanted ≡ length wanted₀)
-    × NoneMayGoBack steps positions₀ n × (drop k positions ≡ drop k positions₀) × Landed steps begins n positions₀ positions wanted k
+Inv-loop rows begins masks positions₀ wanted₀ n k₀ positions wanted k =
+    (k ≤ n) × Standing rows positions₀ masks n × (maxThreads ≤ length begins) × (maxThreads ≤ length wanted₀) × (length positions ≡ length positions₀) × (length wanted ≡ length wanted₀)
+    × NoneMayGoBack rows positions₀ n × (drop k positions ≡ drop k positions₀) × Landed rows begins n positions₀ positions wanted k
 
 abbrev μ-loop : tie.MeasureT-loop
-μ-loop steps begins masks positions₀ wanted₀ n k₀ positions wanted k = n - k
+μ-loop rows begins masks positions₀ wanted₀ n k₀ positions wanted k = n - k
 
 loop-holds : tie.Need-loop-holds Inv-loop μ-loop
 loop-holds c = search (landed-none, needs)
@@ -28,7 +28,7 @@ slice-read-land : tie.Need-slice-read-land Inv-loop μ-loop
 slice-read-land c = search needs
 
 land-requires : tie.Need-land-requires Inv-loop μ-loop
-land-requires c κs = search (jump-some, jump-within, jump-locks, needs)
+land-requires c κs = search (jump-some, jump-within, needs)
 
 mul-positions : tie.Need-mul-positions Inv-loop μ-loop
 mul-positions c = search needs

@@ -1,5 +1,5 @@
 -- At its start the thread stays; else it goes before the hold of the lowest lock that it gave up and another holds.
-use Rattle.retreat.proofs.Landings.{land-still, land-some, land-small, land-back}
+use Rattle.retreat.proofs.Landings.{land-still, land-some, land-back}
 use borrow.Author.Needs.{needs}
 use Rattle.retreat.proofs.land.Statement.{statement}
 use Rattle.retreat.proofs.land.Tie as tie
@@ -19,11 +19,11 @@ sub-mask-at c = search needs
 mask-at-requires : tie.Need-mask-at-requires
 mask-at-requires c κs = search needs
 
-others-hold-requires : tie.Need-others-hold-requires
-others-hold-requires c κs = search needs
+others-bar-requires : tie.Need-others-bar-requires
+others-bar-requires c κs = search needs
 
 lowest-requires : tie.Need-lowest-requires
-lowest-requires c κs = search (land-some, land-small, needs)
+lowest-requires c κs = search (land-some, needs)
 
 cast-l : tie.Need-cast-l
 cast-l c = search needs
@@ -34,8 +34,8 @@ sub-scan-back c = search needs
 scan-back-requires : tie.Need-scan-back-requires
 scan-back-requires c κs = search needs
 
-lock-bit-requires : tie.Need-lock-bit-requires
-lock-bit-requires c κs = search needs
+claim-bit-requires : tie.Need-claim-bit-requires
+claim-bit-requires c κs = search needs
 
 returns-2 : tie.Need-returns-2
 returns-2 c = search (land-back, needs)
@@ -49,10 +49,10 @@ land-spec =
     returns
     sub-mask-at
     mask-at-requires
-    others-hold-requires
+    others-bar-requires
     lowest-requires
     cast-l
     sub-scan-back
     scan-back-requires
-    lock-bit-requires
+    claim-bit-requires
     returns-2)

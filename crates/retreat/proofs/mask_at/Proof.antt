@@ -7,23 +7,20 @@ use Rattle.retreat.proofs.mask_at.Tie as tie
 returns : tie.Need-returns
 returns c = search (mask-first, needs)
 
-mul-mask-in : tie.Need-mul-mask-in
-mul-mask-in c = search needs
+mul-result : tie.Need-mul-result
+mul-result c = search needs
 
-sub-mask-in : tie.Need-sub-mask-in
-sub-mask-in c = search needs
+sub-result : tie.Need-sub-result
+sub-result c = search needs
 
-add-mask-in : tie.Need-add-mask-in
-add-mask-in c = search needs
+add-result : tie.Need-add-result
+add-result c = search needs
 
-mul-mask-in-2 : tie.Need-mul-mask-in-2
-mul-mask-in-2 c = search needs
+mul-result-2 : tie.Need-mul-result-2
+mul-result-2 c = search needs
 
-shared-slice-read-mask-in : tie.Need-shared-slice-read-mask-in
-shared-slice-read-mask-in c = search needs
-
-mask-in-requires : tie.Need-mask-in-requires
-mask-in-requires c κs = search needs
+shared-slice-read-result : tie.Need-shared-slice-read-result
+shared-slice-read-result c = search needs
 
 returns-2 : tie.Need-returns-2
 returns-2 c = search (mask-next, needs)
@@ -33,10 +30,9 @@ mask-at-spec =
     tie.close
     (tie.spec
     returns
-    mul-mask-in
-    sub-mask-in
-    add-mask-in
-    mul-mask-in-2
-    shared-slice-read-mask-in
-    mask-in-requires
+    mul-result
+    sub-result
+    add-result
+    mul-result-2
+    shared-slice-read-result
     returns-2)

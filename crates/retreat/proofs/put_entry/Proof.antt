@@ -13,26 +13,20 @@ slice-read-j c = search needs
 sub-j : tie.Need-sub-j
 sub-j c = search needs
 
-mul-step : tie.Need-mul-step
-mul-step c = search needs
+mul-choice : tie.Need-mul-choice
+mul-choice c = search needs
 
-add-step : tie.Need-add-step
-add-step c = search needs
+add-choice : tie.Need-add-choice
+add-choice c = search needs
 
-mul-step-2 : tie.Need-mul-step-2
-mul-step-2 c = search needs
+shared-slice-read-choice : tie.Need-shared-slice-read-choice
+shared-slice-read-choice c = search needs
 
-shared-slice-read-step : tie.Need-shared-slice-read-step
-shared-slice-read-step c = search needs
+cast-entry : tie.Need-cast-entry
+cast-entry c = search needs
 
-choice-in-requires : tie.Need-choice-in-requires
-choice-in-requires c κs = search needs
-
-entry-of-requires : tie.Need-entry-of-requires
-entry-of-requires c κs = search needs
-
-cast-entries : tie.Need-cast-entries
-cast-entries c = search needs
+entry-requires : tie.Need-entry-requires
+entry-requires c κs = search needs
 
 mul-entries : tie.Need-mul-entries
 mul-entries c = search needs
@@ -62,13 +56,11 @@ put-entry-spec =
     mul-j
     slice-read-j
     sub-j
-    mul-step
-    add-step
-    mul-step-2
-    shared-slice-read-step
-    choice-in-requires
-    entry-of-requires
-    cast-entries
+    mul-choice
+    add-choice
+    shared-slice-read-choice
+    cast-entry
+    entry-requires
     mul-entries
     slice-write-entries
     mul-positions

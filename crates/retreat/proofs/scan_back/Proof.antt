@@ -3,7 +3,7 @@ use borrow.Author.Needs.{needs}
 use Prim.Native.Nat.{_≤_, _<_}
 use mathlib.Core.Path.{_≡_}
 use lib.ListN.{length}
-use Rattle.limits.specs.Limits.{maxThreads, lockCount, maxSize, maxEntries}
+use Rattle.limits.specs.Limits.{maxThreads, claimCount, maxSize, maxEntries}
 use Rattle.semantics.specs.Retreat.{scanBack}
 use Rattle.retreat.specs.Paths.{masksOf}
 use Rattle.retreat.proofs.Landings.{scan-more, scan-here, scan-out}
@@ -11,10 +11,10 @@ use Rattle.retreat.proofs.scan_back.Statement.{statement}
 use Rattle.retreat.proofs.scan_back.Tie as tie
 
 abbrev Inv-loop : tie.InvT-loop
-Inv-loop steps t l j a₀ a = (maxEntries ≤ length steps) × (t < maxThreads) × (l < lockCount) × (a ≤ maxSize) × (scanBack (masksOf steps t) l a ≡ scanBack (masksOf steps t) l j)
+Inv-loop rows t l j a₀ a = (maxEntries ≤ length rows) × (t < maxThreads) × (l < claimCount) × (a ≤ maxSize) × (scanBack (masksOf rows t) l a ≡ scanBack (masksOf rows t) l j)
 
 abbrev μ-loop : tie.MeasureT-loop
-μ-loop steps t l j a₀ a = a
+μ-loop rows t l j a₀ a = a
 
 loop-holds : tie.Need-loop-holds Inv-loop μ-loop
 loop-holds c = search needs
@@ -22,8 +22,8 @@ loop-holds c = search needs
 mask-at-requires : tie.Need-mask-at-requires Inv-loop μ-loop
 mask-at-requires c κs = search needs
 
-has-lock-requires : tie.Need-has-lock-requires Inv-loop μ-loop
-has-lock-requires c κs = search needs
+has-claim-requires : tie.Need-has-claim-requires Inv-loop μ-loop
+has-claim-requires c κs = search needs
 
 sub-a : tie.Need-sub-a Inv-loop μ-loop
 sub-a c = search needs
@@ -48,7 +48,7 @@ scan-back-spec =
     μ-loop
     loop-holds
     mask-at-requires
-    has-lock-requires
+    has-claim-requires
     sub-a
     loop-less
     loop-again

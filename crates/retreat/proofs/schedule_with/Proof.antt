@@ -22,13 +22,11 @@ slice-aggregate-go-back-2 c = search needs
 slice-aggregate-go-back-3 : tie.Need-slice-aggregate-go-back-3
 slice-aggregate-go-back-3 c = search needs
 
-slice-aggregate-go-back-4 : tie.Need-slice-aggregate-go-back-4
-slice-aggregate-go-back-4 c = search needs
-
 go-back-requires : tie.Need-go-back-requires
 go-back-requires c κs = (
   record {
     paths = search needs;
+    turns = search needs;
     beginnings = search needs;
     few = search needs;
     in-rows = search needs;
@@ -65,7 +63,6 @@ schedule-with-spec =
     slice-aggregate-go-back
     slice-aggregate-go-back-2
     slice-aggregate-go-back-3
-    slice-aggregate-go-back-4
     go-back-requires
     slice-aggregate-finish
     slice-aggregate-finish-2

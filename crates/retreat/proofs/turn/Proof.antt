@@ -26,6 +26,9 @@ same-length-2 c = search needs
 returns : tie.Need-returns
 returns c = search (turned-step, needs)
 
+slice-aggregate-jump-all : tie.Need-slice-aggregate-jump-all
+slice-aggregate-jump-all c = search needs
+
 jump-all-requires : tie.Need-jump-all-requires
 jump-all-requires c κs = (search needs, search needs, search needs, search needs, search needs, search needs, search needs, search (none-back, needs))
 
@@ -52,6 +55,7 @@ turn-spec =
     same-length
     same-length-2
     returns
+    slice-aggregate-jump-all
     jump-all-requires
     same-length-3
     same-length-4

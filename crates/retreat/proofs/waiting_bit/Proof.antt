@@ -13,8 +13,8 @@ mul-if2 c = search needs
 shared-slice-read-if2 : tie.Need-shared-slice-read-if2
 shared-slice-read-if2 c = search needs
 
-members-hold-requires : tie.Need-members-hold-requires
-members-hold-requires c κs = search needs
+members-bar-requires : tie.Need-members-bar-requires
+members-bar-requires c κs = search needs
 
 returns : tie.Need-returns
 returns c = search (waits-not, needs)
@@ -38,7 +38,7 @@ waiting-bit-spec =
     is-member-requires
     mul-if2
     shared-slice-read-if2
-    members-hold-requires
+    members-bar-requires
     returns
     cast-result
     shl-result

@@ -10,7 +10,7 @@ use native.Mathlib.Nat.{add-zero, zero-add, eq-or-lt-of-le}
 use native.Mathlib.Omega.{arith}
 use lib.ListN.{length, getD}
 use lib.Dec.{T, leb, ltb, eqb, leb→le, ltb→lt, eqb→eq, T-not}
-use Rattle.limits.specs.Limits.{lockCount}
+use Rattle.limits.specs.Limits.{claimCount}
 use Rattle.laws.specs.Bytes.{equal}
 use Rattle.laws.proofs.Tests.{same-test, T-and, T-or, T-true, lt-or-le}
 use Rattle.laws.proofs.Bytes.{equal-is}
@@ -38,7 +38,7 @@ unfoldable pub written : ℕ → Bool → Block → Bool
 written n empty done = empty
 written n empty (skip r) = written n true r
 written n empty (call q r) = ltb q n && written n true r
-written n empty (hold l b r) = ltb l lockCount && (written n false b && written n true r)
+written n empty (hold l b r) = ltb l claimCount && (written n false b && written n true r)
 written n empty (loop b r) = written n false b && written n true r
 written n empty (either a b r) = written n false a && (written n false b && written n true r)
 written n empty (end l r) = false
@@ -95,11 +95,11 @@ written-of n e (call q r) t =
     let (w, f) = written-of n true r y in
     ((ltb→lt q n x, w), f)
 written-of n e (hold l b r) t =
-    let (x, y) = T-and (ltb l lockCount) (written n false b && written n true r) t in
+    let (x, y) = T-and (ltb l claimCount) (written n false b && written n true r) t in
     let (y₁, y₂) = T-and (written n false b) (written n true r) y in
     let (w₁, f₁) = written-of n false b y₁ in
     let (w₂, f₂) = written-of n true r y₂ in
-    ((ltb→lt l lockCount x, w₁, w₂), (f₁, f₂))
+    ((ltb→lt l claimCount x, w₁, w₂), (f₁, f₂))
 written-of n e (loop b r) t =
     let (y₁, y₂) = T-and (written n false b) (written n true r) t in
     let (w₁, f₁) = written-of n false b y₁ in

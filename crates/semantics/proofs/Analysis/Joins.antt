@@ -1,4 +1,4 @@
--- The join of masks over the numbers below a bound that pass a test: a lock is in it just if it is in one of them.
+-- The join of masks over the numbers below a bound that pass a test: a number is in it just if it is in one of them.
 use Prim.Native.Nat.{ℕ, zero, suc, _<_}
 use mathlib.Core.Bool.{Bool, true, false, cond}
 use mathlib.Core.Logic.{⊎-elim, _≢_}

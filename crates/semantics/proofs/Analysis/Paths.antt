@@ -11,12 +11,12 @@ use native.Mathlib.Omega.{arith}
 use lib.ListN.{length, getD, length-append, length-map, List·getD-append}
 use lib.Seq.{getD-at}
 use lib.Dec.{T, eqb, eqb→eq, eqb-refl}
-use Rattle.limits.specs.Limits.{lockCount}
+use Rattle.limits.specs.Limits.{claimCount}
 use Rattle.laws.proofs.Tests.{only, T-and, and-T, T-true, T-false, T-dec}
 use Rattle.semantics.specs.Plan.{Block, done, skip, call, hold, loop, either, end, _⨾_, bodyIn, Written, Sound}
 use Rattle.semantics.specs.Sizes.{sizeWith, sizeAt}
 use Rattle.semantics.specs.Run.{ThreadState, thread, initial, unlocked, up, move}
-use Rattle.semantics.specs.Pairs.{pairOf, heldFrom, held, fresh, pairAt, pairsWith, pairsAt, pairs}
+use Rattle.semantics.specs.Pairs.{pairOf, hadFrom, had, fresh, pairAt, pairsWith, pairsAt, pairs}
 use Rattle.semantics.specs.Execution.{exec, stateAfter, Execution}
 use Rattle.semantics.specs.Paths.{freshIn, stepOf, choiceOf, maskIn, choices, maskAt, holding, put, gives, Walked, found, passed, andThen, walkWith, walkAt}
 use Rattle.semantics.specs.Paths.{pathTo, Stands, Finds, PathFound}
@@ -30,6 +30,9 @@ use Rattle.semantics.proofs.Gateway.Compatible.{fresh-held}
 pub length-put : (path : List ℕ) (c m : ℕ) → length (put path c m) ≡ suc (length path)
 length-put path c m = rw length-append (omega arith)
 
+pub choices-put : (path : List ℕ) (c m : ℕ) → c < 4 → choices (put path c m) ≡ choices path ++ (c ∷ [])
+choices-put path c m h = map-append choiceOf path (stepOf c m ∷ []) ∙ ap (λ k. choices path ++ (k ∷ [])) (omega arith)
+
 after-append : (ps : List Block) (x : ThreadState) (cs ds : List ℕ) (j : ℕ) → j ≤ length cs → stateAfter ps x (cs ++ ds) j ≡ stateAfter ps x cs j
 unfolding stateAfter
 after-append ps x cs ds zero h = refl
@@ -38,16 +41,13 @@ after-append ps x (c ∷ cs) ds (suc j) h = after-append ps _ cs ds j (omega ari
 
 module _ {ps : List Block} {x : ThreadState} {path : List ℕ} {m : ℕ} {cs : List ℕ} {b : Block} (st : Stands ps x path m cs b) where
   -- one step more is written
-  pub stands-put : (c m′ : ℕ) (cs′ : List ℕ) (b′ : Block) → c < 4 → move ps c b cs ≡ some (thread b′ cs′) → m′ ≡ held cs′ → length cs′ ≡ lockCount
+  pub stands-put : (c m′ : ℕ) (cs′ : List ℕ) (b′ : Block) → c < 4 → move ps c b cs ≡ some (thread b′ cs′) → m′ ≡ had cs′ → length cs′ ≡ claimCount
       → Stands ps x (put path c m′) m′ cs′ b′
   unfolding exec bind
   stands-put c m′ cs′ b′ small moved mask locks = record { leads = leads; masks = masks; mask = mask; locks = locks }
     where
-      back : choiceOf (stepOf c m′) ≡ c
-      back = omega arith
-
       chosen : choices (put path c m′) ≡ choices path ++ (c ∷ [])
-      chosen = map-append choiceOf path (stepOf c m′ ∷ []) ∙ ap (λ k. choices path ++ (k ∷ [])) back
+      chosen = choices-put path c m′ small
 
       leads : exec ps x (choices (put path c m′)) ≡ some (thread b′ cs′)
       leads = rw chosen (exec-append ps x (thread b cs) (thread b′ cs′) (choices path) (c ∷ []) (st .leads) (ap (λ o. bind o some) moved))
@@ -55,16 +55,16 @@ module _ {ps : List Block} {x : ThreadState} {path : List ℕ} {m : ℕ} {cs : L
       size : length (choices path) ≡ length path
       size = length-map path choiceOf
 
-      masks : (j : ℕ) → j < length (put path c m′) → maskIn (getD (put path c m′) j 0) ≡ held ((stateAfter ps x (choices (put path c m′)) (suc j)) .count)
+      masks : (j : ℕ) → j < length (put path c m′) → maskIn (getD (put path c m′) j 0) ≡ had ((stateAfter ps x (choices (put path c m′)) (suc j)) .count)
       masks j h = rw chosen
           (⊎-elim
           (λ (e : j ≡ length path).
           ap maskIn (getD-at path (stepOf c m′) [] 0 j (sym e)) ∙ omega arith ∙ mask
-          ∙ ap (λ (t : ThreadState). held (t .count)) (sym (exec-last ps x (thread b′ cs′) (choices path ++ (c ∷ [])) (rw chosen at leads)))
-          ∙ ap (λ k. held ((stateAfter ps x (choices path ++ (c ∷ [])) k) .count)) (rw (length-append, size, e) (omega arith)))
+          ∙ ap (λ (t : ThreadState). had (t .count)) (sym (exec-last ps x (thread b′ cs′) (choices path ++ (c ∷ [])) (rw chosen at leads)))
+          ∙ ap (λ k. had ((stateAfter ps x (choices path ++ (c ∷ [])) k) .count)) (rw (length-append, size, e) (omega arith)))
           (λ (l : j < length path).
           ap maskIn (List·getD-append path (stepOf c m′ ∷ []) 0 j l) ∙ st .masks j l
-          ∙ ap (λ (t : ThreadState). held (t .count)) (sym (after-append ps x (choices path) (c ∷ []) (suc j) (rw size l))))
+          ∙ ap (λ (t : ThreadState). had (t .count)) (sym (after-append ps x (choices path) (c ∷ []) (suc j) (rw size l))))
           (eq-or-lt-of-le (omega (arith, length-put path c m′))))
 
 -- what the walk writes at each form leads on
@@ -77,7 +77,7 @@ module _ {ps : List Block} {x : ThreadState} {path : List ℕ} {m : ℕ} {cs : L
   unfolding move
   enter-call {p} {r} st = stands-put st 0 m cs (bodyIn ps p ⨾ r) (omega arith) refl (st .mask) (st .locks)
 
-  pub begin-hold : {l : ℕ} {b r : Block} → l < lockCount → Stands ps x path m cs (hold l b r)
+  pub begin-hold : {l : ℕ} {b r : Block} → l < claimCount → Stands ps x path m cs (hold l b r)
       → Stands ps x (put path 0 (holding m l)) (holding m l) (up l cs) (b ⨾ end l r)
   unfolding move
   begin-hold {l} {b} {r} h st =
@@ -107,7 +107,7 @@ module _ {ps : List Block} {x : ThreadState} {path : List ℕ} {m : ℕ} {cs : L
 
 -- before the first step
 pub stands-first : (ps : List Block) (p : ℕ) → Stands ps (initial ps p) [] 0 unlocked (bodyIn ps p ⨾ done)
-unfolding exec heldFrom
+unfolding exec hadFrom
 stands-first ps p = rw (⨾-done (bodyIn ps p)) (record { leads = refl; masks = λ j h. absurd (omega arith); mask = refl; locks = refl })
 
 -- as `Retreat` has it: the states after each step, and their masks
@@ -121,14 +121,14 @@ stands-last {ps} {x} {path} {m} {cs} {b} st =
     rw (length-map path choiceOf) at (exec-last ps x (thread b cs) (choices path) (st .leads))
 
 pub stands-masks : (ps : List Block) (p : ℕ) {path : List ℕ} {m : ℕ} {cs : List ℕ} {b : Block} → Stands ps (initial ps p) path m cs b
-    → (j : ℕ) → j ≤ length path → maskAt path j ≡ held ((stateAfter ps (initial ps p) (choices path) j) .count)
-unfolding stateAfter heldFrom
+    → (j : ℕ) → j ≤ length path → maskAt path j ≡ had ((stateAfter ps (initial ps p) (choices path) j) .count)
+unfolding stateAfter hadFrom
 stands-masks ps p st zero h = refl
 stands-masks ps p st (suc j) h = st .masks j h
 
 -- ---- where the walk comes to
 
--- The walk of a block with the pairs ws, after which r follows, begun with the locks of m and counts cs: it comes to a hold that gives w, which is among the
+-- The walk of a block with the pairs ws, after which r follows, begun with the claims of m and counts cs: it comes to a hold that gives w, which is among the
 -- pairs, or w is not among them and the walk stands before r as it began. The path is at most n long.
 pub data Outcome (ps : List Block) (x : ThreadState) (w : ℕ) (ws : List ℕ) (m : ℕ) (cs : List ℕ) (r : Block) (n : ℕ) : Walked → Type 0 where
   finds : {path : List ℕ} → Finds ps x w path → List·Memᴰ w ws → length path ≤ n → Outcome ps x w ws m cs r n (found path)
@@ -151,13 +151,13 @@ module _ (ps : List Block) (x : ThreadState) (w : ℕ) (C : ℕ → Type 0) (s :
     (called : (p : ℕ) → C p → (r : Block) (m : ℕ) (cs path : List ℕ) (n : ℕ) → Stands ps x path m cs (bodyIn ps p ⨾ r) → length path + s p ≤ n
     → Outcome ps x w (f p cs) m cs r n (g p m path)) where
   abbrev Here : ℕ → List ℕ → ℕ → Type 0
-  Here m cs l = (gives w m l ≡ true) × T (fresh cs l) × (w ≡ pairOf (held cs) l)
+  Here m cs l = (gives w m l ≡ true) × T (fresh cs l) × (w ≡ pairOf (had cs) l)
 
   abbrev Elsewhere : ℕ → List ℕ → ℕ → Type 0
   Elsewhere m cs l = (gives w m l ≡ false) × (List·Memᴰ w (pairAt cs l) → ⊥)
 
   -- the hold of l gives w just if w is its pair
-  at-hold : (m : ℕ) (cs : List ℕ) (l : ℕ) → m ≡ held cs → Here m cs l ⊎ Elsewhere m cs l
+  at-hold : (m : ℕ) (cs : List ℕ) (l : ℕ) → m ≡ had cs → Here m cs l ⊎ Elsewhere m cs l
   at-hold m cs l e = ⊎-elim
       (λ (t : T (gives w m l)).
       let (u, v) = T-and (freshIn m l) (eqb (pairOf m l) w) t in
@@ -166,8 +166,8 @@ module _ (ps : List Block) (x : ThreadState) (w : ℕ) (C : ℕ → Type 0) (s :
       inr (
         T-false (gives w m l) t,
         λ i.
-            let (u, v) = only w (pairOf (held cs) l) (fresh cs l) i in
-            t (and-T (freshIn m l) (eqb (pairOf m l) w) (rw (e, fresh-held cs l) u) (rw (e, v) (eqb-refl (pairOf (held cs) l)))),
+            let (u, v) = only w (pairOf (had cs) l) (fresh cs l) i in
+            t (and-T (freshIn m l) (eqb (pairOf m l) w) (rw (e, fresh-held cs l) u) (rw (e, v) (eqb-refl (pairOf (had cs) l)))),
       ))
       (T-dec (gives w m l))
 
@@ -184,7 +184,7 @@ module _ (ps : List Block) (x : ThreadState) (w : ℕ) (C : ℕ → Type 0) (s :
       ⊎-elim
       (λ (t : Here m cs l).
       let place : Finds ps x w path =
-      record { lock = l; inside = b; following = r′ ⨾ r; count = cs; mask = m; stands = st; small = v .0; free = t .1; pair = t .2 } in
+      record { claim = l; inside = b; following = r′ ⨾ r; count = cs; mask = m; stands = st; small = v .0; free = t .1; pair = t .2 } in
       let member : List·Memᴰ w (pairAt cs l) = rw (T-true (fresh cs l) (t .1)) (List·Memᴰ·head (t .2)) in
       rw (t .0) (finds place (Memᴰ·append-left (pairsWith f (up l cs) b ++ pairsWith f cs r′) member) (omega arith)))
       (λ (t : Elsewhere m cs l).
@@ -253,7 +253,7 @@ module _ (ps : List Block) (rank : ℕ → ℕ) (s : Sound ps rank) where
 
 -- ---- every moment of a walk
 
--- The walk of block b, with calls less than d deep, the locks of m held and the path so far, comes at some moment to stand before block b′, with calls less
+-- The walk of block b, with calls less than d deep, the claims of m had and the path so far, comes at some moment to stand before block b′, with calls less
 -- than d′ deep, mask m′ and path′: into a block (in-) or past it (past-), where the walk of it passed.
 pub data Visits (ps : List Block) (w d′ m′ : ℕ) (path′ : List ℕ) (b′ : Block) : ℕ → ℕ → List ℕ → Block → Type 0 where
   here : Visits ps w d′ m′ path′ b′ d′ m′ path′ b′

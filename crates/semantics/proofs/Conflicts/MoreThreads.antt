@@ -12,7 +12,7 @@ use lib.ListN.{length, getD, length-append}
 use Rattle.laws.proofs.Tests.{T-and, and-T, T-or, or-T}
 use Rattle.semantics.specs.Plan.{Block, Sound}
 use Rattle.semantics.specs.Stuck.{DeadlockFree}
-use Rattle.semantics.specs.Pairs.{heldOf, pairs}
+use Rattle.semantics.specs.Pairs.{hadOf, pairs}
 use Rattle.semantics.specs.Conflict.{any, stillUnmet, searchFrom, takes, compatibleSets, excludesSet}
 use Rattle.semantics.proofs.Conflicts.Characterisation.{characterisation}
 
@@ -30,9 +30,9 @@ module _ (c b : ℕ → ℕ → Bool) where
       or-T (searchFrom c b (xs ++ vs ∷ ys) m ws some) (any (takes c b (xs ++ vs ∷ ys) m ws) x)
       (⊎-elim (λ p. inl (search-insert xs vs ys m ws some p))
       (λ p. inr (any-more (takes c b (xs ++ ys) m ws) (takes c b (xs ++ vs ∷ ys) m ws)
-      (λ v q. let (k, r) = T-and (c m (heldOf v)) (searchFrom c b (xs ++ ys) (bitOr m (heldOf v)) (stillUnmet c b m v ws) true) q in
-      and-T (c m (heldOf v)) (searchFrom c b (xs ++ vs ∷ ys) (bitOr m (heldOf v)) (stillUnmet c b m v ws) true) k
-      (search-insert xs vs ys (bitOr m (heldOf v)) (stillUnmet c b m v ws) true r)) x p))
+      (λ v q. let (k, r) = T-and (c m (hadOf v)) (searchFrom c b (xs ++ ys) (bitOr m (hadOf v)) (stillUnmet c b m v ws) true) q in
+      and-T (c m (hadOf v)) (searchFrom c b (xs ++ vs ∷ ys) (bitOr m (hadOf v)) (stillUnmet c b m v ws) true) k
+      (search-insert xs vs ys (bitOr m (hadOf v)) (stillUnmet c b m v ws) true r)) x p))
       (T-or (searchFrom c b (xs ++ ys) m ws some) (any (takes c b (xs ++ ys) m ws) x) t))
 
 at-mem : (ns : List ℕ) (t : ℕ) → t < length ns → List·Memᴰ (getD ns t 0) ns

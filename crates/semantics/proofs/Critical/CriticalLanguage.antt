@@ -8,7 +8,7 @@ use native.Mathlib.Omega.{arith}
 use lib.Dec.{T}
 use Rattle.semantics.specs.Plan.{Block, done, skip, call, hold, loop, either, end, bodyIn, Written, Sound}
 use Rattle.semantics.specs.Run.{initial, unlocked}
-use Rattle.semantics.specs.Pairs.{pairOf, held, fresh, Critical}
+use Rattle.semantics.specs.Pairs.{pairOf, had, fresh, Critical}
 use Rattle.semantics.specs.Language.{Action, acquire, release, in-done, in-skip, in-call, in-hold, in-leave, in-one, in-end, countsAfter, InLanguage}
 use Rattle.semantics.specs.Language.{PublishedCritical}
 use Rattle.semantics.proofs.Thread.Remainders.{⨾-done, body-below, Remainder, remainder-of-written}
@@ -21,12 +21,12 @@ use Rattle.semantics.proofs.Critical.TracesInLanguage.{exec-traces-in-l
 language-critical : (ps : List Block) (p w : ℕ) → PublishedCritical ps p w → Critical ps p w
 language-critical ps p w k =
     let (cs′, s) = word-traced (k .in-language) done unlocked in
-    let a = traces-at-acquire ps _ (s .steps) _ _ (k .before) (k .lock) (k .behind) (rw (⨾-done (bodyIn ps p)) at (s .traces)) refl in
+    let a = traces-at-acquire ps _ (s .steps) _ _ (k .before) (k .claim) (k .behind) (rw (⨾-done (bodyIn ps p)) at (s .traces)) refl in
     let q = a .traced .traces in
     let counts : countsAfter unlocked (k .before) ≡ a .count = trace-counts ps _ (a .traced .steps) (k .before) _ q in
-    exec-critical ps p w (a .traced .steps) (k .lock) (a .inside) (a .after) (a .count) (traces-exec ps _ (a .traced .steps) (k .before) _ q)
-    (subst (λ cs. T (fresh cs (k .lock))) counts (k .free))
-    (k .pair ∙ ap (λ (cs : List ℕ). pairOf (held cs) (k .lock)) counts)
+    exec-critical ps p w (a .traced .steps) (k .claim) (a .inside) (a .after) (a .count) (traces-exec ps _ (a .traced .steps) (k .before) _ q)
+    (subst (λ cs. T (fresh cs (k .claim))) counts (k .free))
+    (k .pair ∙ ap (λ (cs : List ℕ). pairOf (had cs) (k .claim)) counts)
 
 -- every remainder has a pair
 completion : (ps : List Block) (C : ℕ → Type 0) → ((p : ℕ) → C p → (u : List Action) × InLanguage ps (bodyIn ps p) u)
@@ -64,18 +64,18 @@ critical-language ps rank s p w c =
     let leads = critical-exec ps p w c in
     let (u, traced, back) = exec-traces-in-language ps _ _ _ leads in
     let counts : countsAfter unlocked u ≡ c .count = trace-counts ps _ _ u _ traced in
-    let left : Remainder C (hold (c .lock) (c .inside) (c .after)) =
+    let left : Remainder C (hold (c .claim) (c .inside) (c .after)) =
     exec-invariant ps (λ t. Remainder C (t .rest)) (λ _ t t′ m. remainder-step ps C body m) (initial ps p) _ _ leads
     (remainder-of-written C (bodyIn ps p) (body-below ps rank s d p (omega arith))) in
     let (v₁, d₁) = completion ps C (completion-at ps rank s d) (c .inside) (remainder-of-written C (c .inside) (left .1)) in
     let (v₂, d₂) = completion ps C (completion-at ps rank s d) (c .after) (left .2) in
     record {
       before = u;
-      lock = c .lock;
-      behind = v₁ ++ release (c .lock) ∷ v₂;
+      claim = c .claim;
+      behind = v₁ ++ release (c .claim) ∷ v₂;
       in-language = back _ (in-hold d₁ d₂);
-      free = subst (λ cs. T (fresh cs (c .lock))) (sym counts) (c .free);
-      pair = c .pair ∙ ap (λ (cs : List ℕ). pairOf (held cs) (c .lock)) (sym counts);
+      free = subst (λ cs. T (fresh cs (c .claim))) (sym counts) (c .free);
+      pair = c .pair ∙ ap (λ (cs : List ℕ). pairOf (had cs) (c .claim)) (sym counts);
     }
 
 -- Definition 4.1 is ours

@@ -10,7 +10,7 @@ use Rattle.laws.proofs.Ascending.{ascending-length}
 use Rattle.semantics.specs.Plan.{Block, done, skip, call, hold, loop, either, end, bodyIn, WellFormed, Sound}
 use Rattle.semantics.specs.Sizes.{sizeWith, sizeAt, sizeOf}
 use Rattle.semantics.specs.Run.{up, down, unlocked}
-use Rattle.semantics.specs.Pairs.{pairOf, held, fresh, pairsWith, pairsAt, pairs, pairList}
+use Rattle.semantics.specs.Pairs.{pairOf, had, fresh, pairsWith, pairsAt, pairs, pairList}
 use Rattle.semantics.proofs.Thread.Remainders.{absent-body}
 
 -- the number of holds, those of called procedures at each call; h p is that of procedure p
@@ -39,7 +39,7 @@ pairs-le-holds f h e cs done = omega arith
 pairs-le-holds f h e cs (skip r) = pairs-le-holds f h e cs r
 pairs-le-holds f h e cs (call p r) = simp length-append (omega (arith, e p cs, pairs-le-holds f h e cs r))
 pairs-le-holds f h e cs (hold l b r) =
-    simp length-append (omega (arith, one (pairOf (held cs) l) (fresh cs l), pairs-le-holds f h e (up l cs) b, pairs-le-holds f h e cs r))
+    simp length-append (omega (arith, one (pairOf (had cs) l) (fresh cs l), pairs-le-holds f h e (up l cs) b, pairs-le-holds f h e cs r))
 pairs-le-holds f h e cs (loop b r) = simp length-append (omega (arith, pairs-le-holds f h e cs b, pairs-le-holds f h e cs r))
 pairs-le-holds f h e cs (either a b r) = simp length-append
     (omega (arith, pairs-le-holds f h e cs a, pairs-le-holds f h e cs b, pairs-le-holds f h e cs r))

@@ -1,5 +1,5 @@
 -- Traces of executions. The counts follow from the trace (source 000, Lemma 3.7), and each word of a block's language is the trace of an execution
--- through the block (Lemma 3.14), which stands before the hold where the word acquires a lock.
+-- through the block (Lemma 3.14), which stands before the hold where the word acquires a claim.
 use Prim.Native.Nat.{ℕ}
 use mathlib.Core.List.{List, [], _∷_, _++_, append-assoc}
 use mathlib.Core.Option.{Option, some, bind}

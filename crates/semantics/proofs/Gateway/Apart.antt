@@ -11,7 +11,7 @@ use lib.Dec.{T, eqb, eqb→eq, T-not, not-T}
 use lib.Seq.{getD-set-same, getD-set-other}
 use Rattle.laws.proofs.Tests.{T-and, and-T, T-or, or-T, T-dec, eq-or-ne, lt-or-le, search-below, eq→eqb}
 use Rattle.semantics.specs.Run.{ThreadState, compatible, others, withAll, apart, absentThread, counts}
-use Rattle.semantics.proofs.Gateway.Compatible.{HasLock, Excludes, empty-excludes-none, compatible-or-contended, compatible-sym}
+use Rattle.semantics.proofs.Gateway.Compatible.{HasClaim, Excludes, empty-excludes-none, compatible-or-contended, compatible-sym}
 
 pub excludes-present : (ts : List ThreadState) (i l : ℕ) → Excludes (counts ts i) l → i < length ts
 excludes-present ts i l h =
@@ -25,7 +25,7 @@ Apart S ts = (i j : ℕ) → i ≢ j → T (S i) → T (S j) → T (compatible (
 -- ---- the test and what it says
 
 pub compatible-empty : (cs : List ℕ) → T (compatible cs [])
-compatible-empty cs = ⊎-elim (λ t. t) (λ (r : (l : ℕ) × HasLock cs l × Excludes [] l). absurd (empty-excludes-none (r .0) (r .2)))
+compatible-empty cs = ⊎-elim (λ t. t) (λ (r : (l : ℕ) × HasClaim cs l × Excludes [] l). absurd (empty-excludes-none (r .0) (r .2)))
     (compatible-or-contended cs [])
 
 -- a implies b

@@ -1,4 +1,4 @@
--- Source 000, Proposition 2.3. Only to begin a hold of a lock that another thread holds is refused (`permitted-or-blocked`). So a set of threads is
+-- Source 000, Proposition 2.3. Only to begin a hold from whose claim another thread excludes is refused (`permitted-or-blocked`). So a set of threads is
 -- stuck just if each of them is blocked by another of them (`blocked-stuck`, `stuck-blocked`).
 use Prim.Native.Nat.{ℕ, _≤_, _<_}
 use mathlib.Core.List.{List}
@@ -15,7 +15,7 @@ use Rattle.semantics.specs.Run.{ThreadState, thread, up, move, apart, st
 use Rattle.semantics.specs.Stuck.{Stuck}
 use Rattle.semantics.proofs.Thread.Transitions.{Transition, move-transition}
 use Rattle.semantics.proofs.Thread.Balance.{Balanced, positive-by-begin, begin-positive}
-use Rattle.semantics.proofs.Gateway.Compatible.{HasLock, Excludes, compatible-or-contended, compatible-not-contended, excluded-not-held}
+use Rattle.semantics.proofs.Gateway.Compatible.{HasClaim, Excludes, compatible-or-contended, compatible-not-contended, excluded-not-held}
 use Rattle.semantics.proofs.Gateway.Apart.{Apart, Clash, apart-or-clash, clash-not-apart}
 use Rattle.semantics.proofs.Gateway.Steps.{threadAt-nth, threadAt-some, moveOf, step-some, step-none, step-cannot}
 
@@ -23,16 +23,16 @@ use Rattle.semantics.proofs.Gateway.Steps.{threadAt-nth, threadAt-some,
 abbrev pub BalancedAll : List ThreadState → Type 0
 BalancedAll ts = (t : ℕ) → t < length ts → Balanced ((nth ts t) .rest) ((nth ts t) .count)
 
--- thread t is about to begin a hold of a lock from which another thread of S excludes it
+-- thread t is about to begin a hold of a claim from which another thread of S excludes it
 pub record Blocked (S : ℕ → Bool) (ts : List ThreadState) (t : ℕ) : Type 0 where
-  pub lock : ℕ
+  pub claim : ℕ
   pub inside : Block
   pub following : Block
-  pub stands : (nth ts t) .rest ≡ hold lock inside following
+  pub stands : (nth ts t) .rest ≡ hold claim inside following
   pub other : ℕ
   pub differs : other ≢ t
   pub member : T (S other)
-  pub theirs : Excludes (counts ts other) lock
+  pub theirs : Excludes (counts ts other) claim
 
 module _ (ps : List Block) (bodies : (p : ℕ) → Plain (bodyIn ps p)) (S : ℕ → Bool) (ts : List ThreadState) (kept : BalancedAll ts) where
   -- a step of a thread in S is permitted, the others forgotten, or the thread is blocked
@@ -42,22 +42,22 @@ module _ (ps : List Block) (bodies : (p : ℕ) → Plain (bodyIn ps p)) (S : ℕ
       ⊎-elim inl
       (λ (r : Clash S ts t y).
       ⊎-elim (λ k. absurd (r .against k))
-      (λ (q : (l : ℕ) × HasLock (y .count) l × Excludes (counts ts (r .other)) l).
+      (λ (q : (l : ℕ) × HasClaim (y .count) l × Excludes (counts ts (r .other)) l).
       let apart = a t (r .other) (λ e. r .differs (sym e)) s (r .member) in
       let z = excluded-not-held (counts ts t) (counts ts (r .other)) apart (q .0) (q .2) in
       let u = positive-by-begin ps bodies (move-transition ps c ((nth ts t) .rest) ((nth ts t) .count) y m) (kept t b) (q .0) z (q .1) in
-      inr (record { lock = q .0; inside = u .0; following = u .1; stands = u .2; other = r .other; differs = r .differs; member = r .member; theirs = q .2 }))
+      inr (record { claim = q .0; inside = u .0; following = u .1; stands = u .2; other = r .other; differs = r .differs; member = r .member; theirs = q .2 }))
       (compatible-or-contended (y .count) (counts ts (r .other))))
       (apart-or-clash S ts t y b a)
 
   pub blocked-able : (t : ℕ) → Blocked S ts t → (y : ThreadState) × (moveOf ps ts t 0 ≡ some y)
   unfolding move
-  blocked-able t w = (thread (w .inside ⨾ end (w .lock) (w .following)) (up (w .lock) ((nth ts t) .count)), rw (w .stands) refl)
+  blocked-able t w = (thread (w .inside ⨾ end (w .claim) (w .following)) (up (w .claim) ((nth ts t) .count)), rw (w .stands) refl)
 
-  -- after any step of a blocked thread it would hold the lock
-  blocked-holds : (t c : ℕ) (y : ThreadState) → t < length ts → (w : Blocked S ts t) → moveOf ps ts t c ≡ some y → 0 < getD (y .count) (w .lock) 0
+  -- after any step of a blocked thread it would have the claim
+  blocked-holds : (t c : ℕ) (y : ThreadState) → t < length ts → (w : Blocked S ts t) → moveOf ps ts t c ≡ some y → 0 < getD (y .count) (w .claim) 0
   blocked-holds t c y b w m =
-      let v : Transition ps c (hold (w .lock) (w .inside) (w .following)) ((nth ts t) .count) (y .rest) (y .count) =
+      let v : Transition ps c (hold (w .claim) (w .inside) (w .following)) ((nth ts t) .count) (y .rest) (y .count) =
       rw (w .stands) at (move-transition ps c ((nth ts t) .rest) ((nth ts t) .count) y m) in
       begin-positive ps bodies v (rw (w .stands) at (kept t b))
 
@@ -72,7 +72,7 @@ module _ (ps : List Block) (bodies : (p : ℕ) → Plain (bodyIn ps p)) (S : ℕ
             other = w .other;
             differs = w .differs;
             member = w .member;
-            against = λ k. compatible-not-contended (y .count) (counts ts (w .other)) k (w .lock) (blocked-holds t c y b w e) (w .theirs);
+            against = λ k. compatible-not-contended (y .count) (counts ts (w .other)) k (w .claim) (blocked-holds t c y b w e) (w .theirs);
           }))
 
   in-order : (t u : ℕ) → u ≢ t → T (S t) → T (S u) → (t : ℕ) × (u : ℕ) × (t < u) × T (S t) × T (S u)

@@ -1,5 +1,5 @@
--- What every run keeps (`run-keeps`; source 000, Remark 2.1): the counts are those of the ends that the remainders have, and no lock is positive in two threads. So only to
--- begin a hold of a lock that another thread holds is ever refused. The start has both, and each permitted step keeps them.
+-- What every run keeps (`run-keeps`; source 000, Remark 2.1): the counts are those of the ends that the remainders have, and what any two threads have may stand together. So only to
+-- begin a hold from whose claim another thread excludes is ever refused. The start has both, and each permitted step keeps them.
 use Prim.Native.Nat.{ℕ, zero, suc, _+_, _*_, _/_, _%_, _<_}
 use mathlib.Core.List.{List, [], _∷_}
 use mathlib.Core.Logic.{⊎-elim, _≢_}
@@ -15,7 +15,7 @@ use Rattle.semantics.specs.Plan.{Block, bodyIn, Plain}
 use Rattle.semantics.specs.Run.{ThreadState, apart, everyone, stepIn, step, run, start, initial, nth, absentThread, counts}
 use Rattle.semantics.proofs.Thread.Transitions.{move-transition}
 use Rattle.semantics.proofs.Thread.Balance.{endCount, Balanced, balanced-step, balanced-plain}
-use Rattle.semantics.proofs.Gateway.Compatible.{HasLock, Excludes, compatible-not-contended, unlocked-excludes-none, compatible-or-contended}
+use Rattle.semantics.proofs.Gateway.Compatible.{HasClaim, Excludes, compatible-not-contended, unlocked-excludes-none, compatible-or-contended}
 use Rattle.semantics.proofs.Gateway.Apart.{excludes-present, apart→, apart←}
 use Rattle.semantics.proofs.Gateway.Steps.{moveOf, step-some, step-inv}
 use Rattle.semantics.proofs.Gateway.Blocked.{BalancedAll, Blocked, permitted-or-blocked}
@@ -27,7 +27,7 @@ entry-thread k c b = omega arith
 pub entry-choice : (k c : ℕ) → k < 8 → (k + 8 * c) / 8 ≡ c
 entry-choice k c b = omega arith
 
--- each thread's counts are those that its remainder settles, and no lock is held by two threads
+-- each thread's counts are those that its remainder settles, and what any two threads have may stand together
 pub record Invariant (ts : List ThreadState) : Type 0 where
   pub balanced : BalancedAll ts
   pub all-apart : T (apart everyone ts)
@@ -50,7 +50,7 @@ module _ (ps : List Block) (bodies : (p : ℕ) → Plain (bodyIn ps p)) where
     balanced = λ t b. let p = start-at ps ns t (subst (λ n. t < n) (start-length ps ns) b) in rw p
         (balanced-plain (bodyIn ps (getD ns t 0)) (bodies (getD ns t 0)));
     all-apart = apart← everyone (start ps ns) (λ i j _ _ _. ⊎-elim (λ k. k)
-        (λ (q : (l : ℕ) × HasLock (counts (start ps ns) i) l × Excludes (counts (start ps ns) j) l).
+        (λ (q : (l : ℕ) × HasClaim (counts (start ps ns) i) l × Excludes (counts (start ps ns) j) l).
         let b = subst (λ n. j < n) (start-length ps ns) (excludes-present (start ps ns) j (q .0) (q .2)) in
         absurd (unlocked-excludes-none (q .0) (subst (λ x. Excludes (x .count) (q .0)) (start-at ps ns j b) (q .2))))
         (compatible-or-contended (counts (start ps ns) i) (counts (start ps ns) j)));
@@ -92,7 +92,7 @@ run-length ps ts ts′ (e ∷ es) h =
 
 pub record Kept (ps : List Block) (ts : List ThreadState) : Type 0 where
   pub counted : (t l : ℕ) → t < length ts → getD (counts ts t) l 0 ≡ endCount l ((nth ts t) .rest)
-  pub exclusive : (t u l : ℕ) → t ≢ u → HasLock (counts ts t) l → Excludes (counts ts u) l → ⊥
+  pub exclusive : (t u l : ℕ) → t ≢ u → HasClaim (counts ts t) l → Excludes (counts ts u) l → ⊥
   pub refused : (t c : ℕ) (y : ThreadState) → t < length ts → moveOf ps ts t c ≡ some y → stepIn everyone ps ts t c ≡ none → Blocked everyone ts t
 
 pub run-keeps : (ps : List Block) → ((p : ℕ) → Plain (bodyIn ps p)) → (ns es : List ℕ) (ts : List ThreadState) → run ps (start ps ns) es ≡ some ts

@@ -14,7 +14,7 @@ use lib.Dec.{T, eqb}
 use Rattle.laws.proofs.Tests.{bind-inv, eqb-cases}
 use Rattle.semantics.specs.Plan.{Block, hold}
 use Rattle.semantics.specs.Run.{ThreadState, thread, withAll, move, apart, everyone, step, run, start, initial, nth, absentThread}
-use Rattle.semantics.specs.Pairs.{pairOf, Critical, fresh, held}
+use Rattle.semantics.specs.Pairs.{pairOf, Critical, fresh, had}
 use Rattle.semantics.specs.Execution.{exec}
 use Rattle.semantics.proofs.Gateway.Steps.{moveOf, step-some, step-inv}
 
@@ -64,19 +64,19 @@ execution-run ps x y (c ∷ cs) h =
 -- ---- a critical pair and its execution
 
 pub critical-exec : (ps : List Block) (p w : ℕ) (c : Critical ps p w)
-    → exec ps (initial ps p) (projection 0 (c .steps)) ≡ some (thread (hold (c .lock) (c .inside) (c .after)) (c .count))
+    → exec ps (initial ps p) (projection 0 (c .steps)) ≡ some (thread (hold (c .claim) (c .inside) (c .after)) (c .count))
 unfolding start
-critical-exec ps p w c = projection-execution ps (start ps (p ∷ [])) (thread (hold (c .lock) (c .inside) (c .after)) (c .count) ∷ []) (c .steps)
+critical-exec ps p w c = projection-execution ps (start ps (p ∷ [])) (thread (hold (c .claim) (c .inside) (c .after)) (c .count) ∷ []) (c .steps)
     (c .reached) 0
 
 unfoldable pub exec-critical : (ps : List Block) (p w : ℕ) (cs : List ℕ) (l : ℕ) (b r : Block) (count : List ℕ)
     → exec ps (initial ps p) cs ≡ some (thread (hold l b r) count)
-    → T (fresh count l) → w ≡ pairOf (held count) l → Critical ps p w
+    → T (fresh count l) → w ≡ pairOf (had count) l → Critical ps p w
 unfolding start
 exec-critical ps p w cs l b r count h z e =
     record {
       steps = map (λ c. 8 * c) cs;
-      lock = l;
+      claim = l;
       inside = b;
       after = r;
       count = count;

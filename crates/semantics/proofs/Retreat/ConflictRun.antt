@@ -20,7 +20,7 @@ use Rattle.semantics.specs.Conflict.{Conflict}
 use Rattle.semantics.specs.Retreat.{table, joint, Retreat}
 use Rattle.semantics.proofs.Ground.Tables.{length-table, nth-table, is-table}
 use Rattle.semantics.proofs.Thread.Execution.{execution, exec-last}
-use Rattle.semantics.proofs.Gateway.Compatible.{HasLock, Excludes, unlocked-excludes-none, compatible-or-contended, compatible-sym}
+use Rattle.semantics.proofs.Gateway.Compatible.{HasClaim, Excludes, unlocked-excludes-none, compatible-or-contended, compatible-sym}
 use Rattle.semantics.proofs.Gateway.Apart.{excludes-present, apart←}
 use Rattle.semantics.proofs.Gateway.Blocked.{BalancedAll, Blocked, blocked-stuck}
 use Rattle.semantics.proofs.Gateway.Invariant.{start-length, start-at}
@@ -43,7 +43,7 @@ record Witness (ps : List Block) (ns : List ℕ) (S : ℕ → Bool) (c : Conflic
   last : ThreadState
   leads : exec ps (initial ps (getD ns i 0)) steps ≡ some last
   short : length steps ≤ len i
-  member : (s : T (S i)) → last ≡ thread (hold ((c .critical i s) .lock) ((c .critical i s) .inside) ((c .critical i s) .after)) ((c .critical i s) .count)
+  member : (s : T (S i)) → last ≡ thread (hold ((c .critical i s) .claim) ((c .critical i s) .inside) ((c .critical i s) .after)) ((c .critical i s) .count)
   other : (T (S i) → ⊥) → last ≡ initial ps (getD ns i 0)
 
 module _ (ps : List Block) (bodies : (q : ℕ) → Plain (bodyIn ps q)) (ns : List ℕ) (few : length ns ≤ 8) (S : ℕ → Bool) (c : Conflict ps ns S)
@@ -54,10 +54,10 @@ module _ (ps : List Block) (bodies : (q : ℕ) → Plain (bodyIn ps q)) (ns : Li
       ⊎-elim
       (λ (s : T (S i)). record {
         steps = projection 0 ((c .critical i s) .steps);
-        last = thread (hold ((c .critical i s) .lock) ((c .critical i s) .inside) ((c .critical i s) .after)) ((c .critical i s) .count);
+        last = thread (hold ((c .critical i s) .claim) ((c .critical i s) .inside) ((c .critical i s) .after)) ((c .critical i s) .count);
         leads = critical-exec ps (getD ns i 0) (c .pair i) (c .critical i s);
         short = omega (arith, own-length 0 ((c .critical i s) .steps), steps-len i s);
-        member = λ r. ap (λ q. thread (hold ((c .critical i q) .lock) ((c .critical i q) .inside) ((c .critical i q) .after)) ((c .critical i q) .count))
+        member = λ r. ap (λ q. thread (hold ((c .critical i q) .claim) ((c .critical i q) .inside) ((c .critical i q) .after)) ((c .critical i q) .count))
             (T-prop (S i) s r);
         other = λ f. absurd (f s);
       })
@@ -91,7 +91,7 @@ module _ (ps : List Block) (bodies : (q : ℕ) → Plain (bodyIn ps q)) (ns : Li
       nth-table (length ns) (λ i. s i (goal i)) i b ∙ exec-last ps (initial ps (getD ns i 0)) ((witness i) .last) (P i) ((witness i) .leads)
 
   at-pair : (i : ℕ) (m : T (S i))
-      → nth there i ≡ thread (hold ((c .critical i m) .lock) ((c .critical i m) .inside) ((c .critical i m) .after)) ((c .critical i m) .count)
+      → nth there i ≡ thread (hold ((c .critical i m) .claim) ((c .critical i m) .inside) ((c .critical i m) .after)) ((c .critical i m) .count)
   at-pair i m = at-last i (c .present i m) ∙ (witness i) .member m
 
   there-balanced : BalancedAll there
@@ -111,9 +111,9 @@ module _ (ps : List Block) (bodies : (q : ℕ) → Plain (bodyIn ps q)) (ns : Li
   there-apart : T (apart everyone there)
   there-apart = apart← everyone there (λ i j d _ _.
       ⊎-elim (λ k. k)
-      (λ (q : (l : ℕ) × HasLock (counts there i) l × Excludes (counts there j) l).
+      (λ (q : (l : ℕ) × HasClaim (counts there i) l × Excludes (counts there j) l).
       ⊎-elim (λ k. compatible-sym (counts there j) (counts there i) k)
-      (λ (p : (l : ℕ) × HasLock (counts there j) l × Excludes (counts there i) l).
+      (λ (p : (l : ℕ) × HasClaim (counts there j) l × Excludes (counts there i) l).
       let m = blocks-member i (p .0) (p .2) in
       let r = blocks-member j (q .0) (q .2) in
       rw (pair-counts i m, pair-counts j r) (conflict-apart ps bodies ns S c i j m r d))
@@ -124,7 +124,7 @@ module _ (ps : List Block) (bodies : (q : ℕ) → Plain (bodyIn ps q)) (ns : Li
   there-blocked t m =
       let w = conflict-excludes ps bodies ns S c t m in
       record {
-        lock = (c .critical t m) .lock;
+        claim = (c .critical t m) .claim;
         inside = (c .critical t m) .inside;
         following = (c .critical t m) .after;
         stands = ap (λ x. x .rest) (at-pair t m);

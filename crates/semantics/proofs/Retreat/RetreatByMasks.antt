@@ -1,4 +1,4 @@
--- The retreat as a program goes it: positions in a list, the locks held as masks, and the hold to go back to found by a scan.
+-- The retreat as a program goes it: positions in a list, what is had as masks, and the hold to go back to found by a scan.
 use Prim.Native.Nat.{ℕ, suc, _-_, _≤_, _<_}
 use mathlib.Core.List.{List}
 use mathlib.Core.Logic.{⊎-elim, _≢_}
@@ -11,7 +11,7 @@ use Rattle.laws.proofs.Tests.{lt-or-le}
 use Rattle.semantics.specs.Plan.{Block, bodyIn}
 use Rattle.semantics.specs.Run.{ThreadState, compatible, apart, everyone, nth, counts}
 use Rattle.semantics.specs.Conflict.{CompatibleIn}
-use Rattle.semantics.specs.Retreat.{joint, heldMask, positionOf}
+use Rattle.semantics.specs.Retreat.{joint, hadMask, positionOf}
 use Rattle.semantics.proofs.Thread.Transitions.{move-transition}
 use Rattle.semantics.proofs.Thread.Balance.{balanced-plain, zero-by-end}
 use Rattle.semantics.proofs.Thread.MatchingHold.{matching-hold-scan}
@@ -21,12 +21,12 @@ use Rattle.semantics.proofs.Retreat.JointStates.{Executions, earlier, j
 use Rattle.semantics.proofs.Retreat.RetreatStep.{Lowered}
 use Rattle.semantics.proofs.Retreat.RetreatJump.{MatchingBegin}
 
--- ---- the locks that a thread holds, as a mask
+-- ---- what a thread has, as a mask
 
-pub apart-of-masks : (ts : List ThreadState) → ((i k : ℕ) → i ≢ k → CompatibleIn (heldMask (nth ts i)) (heldMask (nth ts k))) → T (apart everyone ts)
+pub apart-of-masks : (ts : List ThreadState) → ((i k : ℕ) → i ≢ k → CompatibleIn (hadMask (nth ts i)) (hadMask (nth ts k))) → T (apart everyone ts)
 apart-of-masks ts h = apart← everyone ts (λ i k d _ _. compatible-held (counts ts i) (counts ts k) (h i k d))
 
-pub masks-of-apart : (ts : List ThreadState) → T (apart everyone ts) → (i k : ℕ) → i ≢ k → CompatibleIn (heldMask (nth ts i)) (heldMask (nth ts k))
+pub masks-of-apart : (ts : List ThreadState) → T (apart everyone ts) → (i k : ℕ) → i ≢ k → CompatibleIn (hadMask (nth ts i)) (hadMask (nth ts k))
 masks-of-apart ts a i k d = held-compatible (counts ts i) (counts ts k) (apart→ everyone ts a i k d tt tt)
 
 -- ---- positions in a list
@@ -40,7 +40,7 @@ lowered-set positions k b o = record {
 module _ {ps : List Block} {n : ℕ} {P : ℕ → List ℕ} {s : ℕ → ℕ → ThreadState} (x : Executions ps n P s) where
   module _ (j : ℕ → ℕ) (w : (i : ℕ) → i < n → j i ≤ length (P i)) (a : T (apart everyone (joint n s j))) (k : ℕ) (b : k < n) (o : 0 < j k) where
     -- thread k may go back by a step just if what it held then is held by no other
-    pub step-back-permitted : ((i : ℕ) → i < n → i ≢ k → CompatibleIn (heldMask (s k (j k - 1))) (heldMask (s i (j i))))
+    pub step-back-permitted : ((i : ℕ) → i < n → i ≢ k → CompatibleIn (hadMask (s k (j k - 1))) (hadMask (s i (j i))))
         → T (apart everyone (earlier n s j k))
     step-back-permitted h =
         ⊎-elim (λ t. t)
@@ -55,7 +55,7 @@ module _ {ps : List Block} {n : ℕ} {P : ℕ → List ℕ} {s : ℕ → ℕ →
         (lt-or-le (r .other) n))
         (apart-or-clash everyone (joint n s j) k (s k (j k - 1)) (in-joint x j k b) (apart→ everyone (joint n s j) a))
 
-    pub step-back-refused : (i : ℕ) → i < n → i ≢ k → (CompatibleIn (heldMask (s k (j k - 1))) (heldMask (s i (j i))) → ⊥)
+    pub step-back-refused : (i : ℕ) → i < n → i ≢ k → (CompatibleIn (hadMask (s k (j k - 1))) (hadMask (s i (j i))) → ⊥)
         → T (apart everyone (earlier n s j k)) → ⊥
     step-back-refused i c d e t =
         clash-not-apart everyone (joint n s j) k (s k (j k - 1)) (in-joint x j k b) tt
@@ -68,7 +68,7 @@ module _ {ps : List Block} {n : ℕ} {P : ℕ → List ℕ} {s : ℕ → ℕ →
         })
         t
 
-    -- where the last step gave up lock l, the place to go back to is the last at which l was not held
+    -- where the last step gave up claim l, the place to go back to is the last at which l was not had
     pub matching-begin-scan : (l h : ℕ) → 0 < getD ((s k (j k - 1)) .count) l 0 → getD ((s k (j k)) .count) l 0 ≡ 0 → h < j k - 1
         → getD ((s k h) .count) l 0 ≡ 0
         → ((i : ℕ) → h < i → i < j k → 0 < getD ((s k i) .count) l 0) → MatchingBegin (s k) (j k) h
@@ -80,4 +80,4 @@ module _ {ps : List Block} {n : ℕ} {P : ℕ → List ℕ} {s : ℕ → ℕ →
         let r = matching-hold-scan (x .bodies) (x .bodies (x .proc k)) (balanced-plain (bodyIn ps (x .proc k)) (x .bodies (x .proc k)))
         (x .runs k b) l (f .0) (j k - 1) (omega (arith, w k b)) (f .1)
         (ap (λ a. (s k a) .rest) e ∙ f .2) (ap (λ a. getD ((s k a) .count) l 0) e ∙ z) h c without (λ i u v. between i u (omega arith)) in
-        record { earlier = omega arith; lock = l; inside = r .0; following = f .0; stands = r .1; ended = f .1; same = r .2 ∙ ap (λ a. (s k a) .count) e }
+        record { earlier = omega arith; claim = l; inside = r .0; following = f .0; stands = r .1; ended = f .1; same = r .2 ∙ ap (λ a. (s k a) .count) e }

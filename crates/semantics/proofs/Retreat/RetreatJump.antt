@@ -27,11 +27,11 @@ use Rattle.semantics.proofs.Retreat.RetreatRefused.{StepBackRefused}
 -- s is an execution that stands at `a` just after the end of a hold: at h it stood before that hold, with the same counts
 pub record MatchingBegin (s : ℕ → ThreadState) (a h : ℕ) : Type 0 where
   pub earlier : h < a
-  pub lock : ℕ
+  pub claim : ℕ
   pub inside : Block
   pub following : Block
-  pub stands : (s h) .rest ≡ hold lock inside following
-  pub ended : (s (a - 1)) .rest ≡ end lock following
+  pub stands : (s h) .rest ≡ hold claim inside following
+  pub ended : (s (a - 1)) .rest ≡ end claim following
   pub same : (s h) .count ≡ (s a) .count
 
 -- the threads that have taken a step
@@ -50,12 +50,12 @@ module _ {ps : List Block} {n : ℕ} {P : ℕ → List ℕ} {s : ℕ → ℕ →
   matching-begin j k b o w r =
       let e : suc (j k - 1) ≡ j k = omega arith in
       let q = matching-hold (x .bodies) (x .bodies (x .proc k)) (balanced-plain (bodyIn ps (x .proc k)) (x .bodies (x .proc k))) (x .runs k b)
-      (r .lock) (r .following) (j k - 1) (omega arith)
+      (r .claim) (r .following) (j k - 1) (omega arith)
       (r .ended) (ap (λ a. (s k a) .rest) e ∙ r .left) in (
         q .0,
         record {
           earlier = omega (arith, q .1);
-          lock = r .lock;
+          claim = r .claim;
           inside = q .2;
           following = r .following;
           stands = q .3;
@@ -86,9 +86,9 @@ module _ {ps : List Block} {n : ℕ} {P : ℕ → List ℕ} {s : ℕ → ℕ →
         let q = started-inv n j k t in
         let r = refused k (q .0) (q .1) in
         let e = back k (q .0) (q .1) in
-        let one-lock : r .lock ≡ e .lock = cc (r .ended, e .ended) in
+        let one-lock : r .claim ≡ e .claim = cc (r .ended, e .ended) in
         record {
-          lock = e .lock;
+          claim = e .claim;
           inside = e .inside;
           following = e .following;
           stands = ap (λ x. x .rest) (joint-at x h k (q .0)) ∙ e .stands;

@@ -1,9 +1,9 @@
 -- The way back over lists and masks, a law for each move. A step back leaves the target, so what is wanted there stays. A jump makes the present places the target, each thread
--- that has stepped moved before the hold of the lock that its last step gave up: it wants that lock, and holds what it held. With no step left the entries are a run.
+-- that has stepped moved before the hold of the claim that its last step gave up: it wants that claim, and has what it had. With no step left the entries are a run.
 use Prim.Native.Nat.{ℕ, zero, suc, _+_, _-_, _*_, _^_, _≤_, _<_}
 use mathlib.Core.Bool.{Bool}
 use mathlib.Core.List.{List, [], _∷_}
-use mathlib.Core.Logic.{inl, inr, ⊎-elim, _≢_}
+use mathlib.Core.Logic.{⊎-elim, _≢_}
 use mathlib.Core.Option.{some}
 use mathlib.Core.Path.{_≡_, refl, sym, ap, _∙_, subst}
 use native.Mathlib.Nat.{eq-zero-or-pos, eq-or-lt-of-le}
@@ -12,10 +12,10 @@ use lib.Bits.{bitAnd, and-comm}
 use lib.ListN.{length, getD, set, length-set}
 use lib.Seq.{getD-set-same}
 use lib.Dec.{T, eqb, eqb→eq, T-not}
-use Rattle.limits.specs.Limits.{lockCount}
+use Rattle.limits.specs.Limits.{claimCount}
 use Rattle.laws.specs.Mask.{bit, inMask}
 use Rattle.laws.proofs.Tests.{T-dec, T-true, T-false, eq-or-ne, lt-or-le, eq→eqb}
-use Rattle.laws.proofs.Bits.{bit-and, bit-none, bit-lt, disjoint, of-disjoint, apart-in}
+use Rattle.laws.proofs.Bits.{bit-and, bit-none, bit-lt, of-disjoint, apart-in}
 use Rattle.laws.specs.Sums.{total}
 use Rattle.laws.proofs.Places.{zeros-at}
 use Rattle.laws.proofs.Sums.{total-le}
@@ -23,18 +23,19 @@ use Rattle.semantics.specs.Plan.{Block, hold, bodyIn, LockPlan, Sound, P
 use Rattle.semantics.specs.Sizes.{threadSize, threadSizes}
 use Rattle.semantics.specs.Run.{ThreadState, initial, unlocked, apart, everyone, run, start, nth, counts}
 use Rattle.semantics.specs.Stuck.{Stuck, Schedule}
-use Rattle.semantics.specs.Pairs.{heldFrom, held, heldOf, wantedOf}
+use Rattle.semantics.specs.Pairs.{hadFrom, had, hadOf, wantedOf}
 use Rattle.semantics.specs.Execution.{exec, stateAfter}
-use Rattle.semantics.specs.Conflict.{CompatibleIn, PairConflict}
+use Rattle.semantics.specs.Conflict.{bars, CompatibleIn, ExcludesIn, PairConflict}
 use Rattle.semantics.specs.Cycle.{Cycle}
 use Rattle.semantics.specs.Joins.{otherThan}
 use Rattle.semantics.specs.StuckRounds.{firstWanted, WantedAt, stuckRounds}
-use Rattle.semantics.specs.Retreat.{joint, Retreat, heldMask, positionOf, Paths, GoingBack, othersAt, scanBack, JumpTo}
+use Rattle.semantics.specs.Retreat.{joint, Retreat, hadMask, positionOf, Paths, GoingBack, othersAt, scanBack, JumpTo}
 use Rattle.semantics.proofs.Ground.LockSets.{free-digit, digit-free, digit-positive}
 use Rattle.semantics.proofs.Ground.Tables.{is-table}
 use Rattle.semantics.proofs.Thread.Transitions.{move-transition}
 use Rattle.semantics.proofs.Thread.Balance.{zero-by-end}
 use Rattle.semantics.proofs.Thread.Execution.{execution}
+use Rattle.semantics.proofs.Gateway.Compatible.{excludes-held, apart-sym, apart-by, by-apart}
 use Rattle.semantics.proofs.Gateway.Blocked.{Blocked, blocked-stuck}
 use Rattle.semantics.proofs.Gateway.Invariant.{start-length, start-at}
 use Rattle.semantics.proofs.Retreat.JointStates.{Executions, joint-at, in-joint, of-joint, joint-absent, state-balanced, joint-balanced, last-step}
@@ -49,7 +50,7 @@ use Rattle.semantics.proofs.Stuck.Closing.{wanted-hold, AllWait, Contai
 -- choices that each thread's procedure offers make paths
 pub paths-of : (ps : List Block) (ns : List ℕ) (P : ℕ → List ℕ) (M : ℕ → List ℕ) (begin : List ℕ) → ((q : ℕ) → Plain (bodyIn ps q)) → length ns ≤ 8
     → ((i : ℕ) → i < length ns → (y : ThreadState) × (exec ps (initial ps (getD ns i 0)) (P i) ≡ some y))
-    → ((i a : ℕ) → i < length ns → a ≤ length (P i) → getD (M i) a 0 ≡ heldMask (stateAfter ps (initial ps (getD ns i 0)) (P i) a))
+    → ((i a : ℕ) → i < length ns → a ≤ length (P i) → getD (M i) a 0 ≡ hadMask (stateAfter ps (initial ps (getD ns i 0)) (P i) a))
     → ((i : ℕ) → i < length ns → getD begin i 0 ≡ firstWanted (bodyIn ps (getD ns i 0))) → Paths ps ns P
     (λ i. stateAfter ps (initial ps (getD ns i 0)) (P i)) M begin
 paths-of ps ns P M begin bodies few leads masks begins = record {
@@ -106,7 +107,7 @@ pub record AtPairs (n : ℕ) (s : ℕ → ℕ → ThreadState) (M : ℕ → List
   pub size : length positions ≡ n
   pub present : (t : ℕ) → T (S t) → t < n
   pub stands : (t : ℕ) → T (S t) → (b : Block) × (r : Block) × ((s t (positionOf positions t)) .rest ≡ hold (wantedOf (pair t)) b r)
-  pub holds : (t : ℕ) → T (S t) → getD (M t) (positionOf positions t) 0 ≡ heldOf (pair t)
+  pub holds : (t : ℕ) → T (S t) → getD (M t) (positionOf positions t) 0 ≡ hadOf (pair t)
   pub wants : (t : ℕ) → T (S t) → getD wanted t 0 ≡ 2 ^ wantedOf (pair t)
   pub others : (t : ℕ) → t < n → (T (S t) → ⊥) → (positionOf positions t ≡ 0) × (getD wanted t 0 ≡ getD begin t 0)
   pub mask : (t : ℕ) → t < n → getD masks t 0 ≡ getD (M t) (positionOf positions t) 0
@@ -117,7 +118,7 @@ pub record AtCycle (n : ℕ) (s : ℕ → ℕ → ThreadState) (M : ℕ → List
   pub size : length positions ≡ n
   pub present : (i : ℕ) → i < k → thread i < n
   pub stands : (i : ℕ) → i < k → (b : Block) × (r : Block) × ((s (thread i) (positionOf positions (thread i))) .rest ≡ hold (wantedOf (pair i)) b r)
-  pub holds : (i : ℕ) → i < k → getD (M (thread i)) (positionOf positions (thread i)) 0 ≡ heldOf (pair i)
+  pub holds : (i : ℕ) → i < k → getD (M (thread i)) (positionOf positions (thread i)) 0 ≡ hadOf (pair i)
   pub wants : (i : ℕ) → i < k → getD wanted (thread i) 0 ≡ 2 ^ wantedOf (pair i)
   pub others : (t : ℕ) → t < n → ((i : ℕ) → i < k → thread i ≢ t) → (positionOf positions t ≡ 0) × (getD wanted t 0 ≡ getD begin t 0)
   pub mask : (t : ℕ) → t < n → getD masks t 0 ≡ getD (M t) (positionOf positions t) 0
@@ -129,8 +130,8 @@ at-pairs {n} {s} {M} {begin} {thread = thread} {pair} {positions} {wanted} q a =
   size = a .size;
   present = λ t m. let (i, b, e, f) = q .is-member t m in subst (λ u. u < n) e (a .present i b);
   stands = λ t m. let (i, b, e, f) = q .is-member t m in stands t i (q .choice t) e f (a .stands i b);
-  holds = λ t m. let (i, b, e, f) = q .is-member t m in subst (λ u. getD (M u) (positionOf positions u) 0 ≡ heldOf (q .choice t)) e
-      (a .holds i b ∙ ap (λ w. heldOf w) (sym f));
+  holds = λ t m. let (i, b, e, f) = q .is-member t m in subst (λ u. getD (M u) (positionOf positions u) 0 ≡ hadOf (q .choice t)) e
+      (a .holds i b ∙ ap (λ w. hadOf w) (sym f));
   wants = λ t m. let (i, b, e, f) = q .is-member t m in subst (λ u. getD wanted u 0 ≡ 2 ^ wantedOf (q .choice t)) e
       (a .wants i b ∙ ap (λ w. 2 ^ wantedOf w) (sym f));
   others = λ t b f. a .others t b (λ i c e. f (subst (λ u. T (q .members u)) e (q .has-member i c)));
@@ -168,23 +169,23 @@ module _ {ps : List Block} {ns : List ℕ} {P : ℕ → List ℕ} {s : ℕ → �
   -- at its start a thread holds nothing, and wants what its block begins with
   pub begin-mask : (i l : ℕ) → i < n → bit (getD (M i) 0 0) l ≡ 0
   begin-mask i l b =
-      ap (λ m. bit m l) (x .masks i 0 b (omega arith) ∙ ap heldMask ((x .runs i b) .first)) ∙ free-digit unlocked l (zeros-at lockCount l)
+      ap (λ m. bit m l) (x .masks i 0 b (omega arith) ∙ ap hadMask ((x .runs i b) .first)) ∙ free-digit unlocked l (zeros-at claimCount l)
 
   pub begin-wanted : (i : ℕ) → i < n → getD begin i 0 ≡ firstWanted ((s i 0) .rest)
   begin-wanted i b = x .begins i b ∙ ap (λ y. firstWanted (y .rest)) (sym ((x .runs i b) .first))
 
-  -- what the others hold meets a set just if one of them does
-  apart-others : (positions : List ℕ) (k m : ℕ) → bitAnd m (othersAt n M positions k) ≡ 0 → (i : ℕ) → i < n → i ≢ k → bitAnd m (getD (M i) (positionOf positions i) 0) ≡ 0
+  -- what the others bar meets a set just if what one of them bars does
+  apart-others : (positions : List ℕ) (k m : ℕ) → bitAnd m (othersAt n M positions k) ≡ 0 → (i : ℕ) → i < n → i ≢ k → CompatibleIn m (getD (M i) (positionOf positions i) 0)
   unfolding othersAt
   apart-others positions k m e i b d =
-      and-comm m (getD (M i) (positionOf positions i) 0) ∙ apart-in (getD (M i) (positionOf positions i) 0) (othersAt n M positions k) m
-      (λ l h. in-join (otherThan k) (λ i. getD (M i) (positionOf positions i) 0) l n i b (other-than k i d) h)
-      (and-comm (othersAt n M positions k) m ∙ e)
+      apart-sym (getD (M i) (positionOf positions i) 0) m (apart-in (bars (getD (M i) (positionOf positions i) 0)) (othersAt n M positions k) m
+      (λ l h. in-join (otherThan k) (λ i. bars (getD (M i) (positionOf positions i) 0)) l n i b (other-than k i d) h)
+      (and-comm (othersAt n M positions k) m ∙ e))
 
-  in-others : (positions : List ℕ) (k l : ℕ) → bit (othersAt n M positions k) l ≡ 1 → (i : ℕ) × (i < n) × (i ≢ k) × (bit (getD (M i) (positionOf positions i) 0) l ≡ 1)
+  in-others : (positions : List ℕ) (k l : ℕ) → bit (othersAt n M positions k) l ≡ 1 → (i : ℕ) × (i < n) × (i ≢ k) × ExcludesIn (getD (M i) (positionOf positions i) 0) l
   unfolding othersAt
   in-others positions k l e =
-      let (i, b, d, h) = join-in (otherThan k) (λ i. getD (M i) (positionOf positions i) 0) l n e in
+      let (i, b, d, h) = join-in (otherThan k) (λ i. bars (getD (M i) (positionOf positions i) 0)) l n e in
       (i, b, (λ z. T-not (eqb i k) d (eq→eqb i k z)), h)
 
   -- ---- one step back
@@ -218,34 +219,34 @@ module _ {ps : List Block} {ns : List ℕ} {P : ℕ → List ℕ} {s : ℕ → �
     free : T (apart everyone (joint n s (positionOf positions)))
     free = g .retreat .all-apart
 
-    mask-at : (k a : ℕ) → k < n → a ≤ positionOf positions k → getD (M k) a 0 ≡ heldMask (s k a)
+    mask-at : (k a : ℕ) → k < n → a ≤ positionOf positions k → getD (M k) a 0 ≡ hadMask (s k a)
     mask-at k a b c = x .masks k a b (omega (arith, within k b))
 
     module _ (k : ℕ) (b : k < n) (o : 0 < positionOf positions k) where
       abbrev l : ℕ
-      l = (to k b) .lock
+      l = (to k b) .claim
 
       abbrev h : ℕ
       h = scanBack (M k) l (positionOf positions k - 1)
 
       -- the last step gave up l
-      had : bit (heldMask (s k (positionOf positions k - 1))) l ≡ 1
-      had = ap (λ m. bit m l) (sym (mask-at k (positionOf positions k - 1) b (omega arith))) ∙ both (getD (M k) (positionOf positions k - 1) 0) (othersAt n M positions k) l
+      had-before : bit (hadMask (s k (positionOf positions k - 1))) l ≡ 1
+      had-before = ap (λ m. bit m l) (sym (mask-at k (positionOf positions k - 1) b (omega arith))) ∙ both (getD (M k) (positionOf positions k - 1) 0) (othersAt n M positions k) l
           ((to k b) .given-up o) .0
 
-      other : (i : ℕ) × (i < n) × (i ≢ k) × (bit (getD (M i) (positionOf positions i) 0) l ≡ 1)
+      other : (i : ℕ) × (i < n) × (i ≢ k) × ExcludesIn (getD (M i) (positionOf positions i) 0) l
       other = in-others positions k l (both (getD (M k) (positionOf positions k - 1) 0) (othersAt n M positions k) l ((to k b) .given-up o) .1)
 
-      theirs : bit (heldMask (s (other .0) (positionOf positions (other .0)))) l ≡ 1
-      theirs = ap (λ m. bit m l) (sym (x .masks (other .0) (positionOf positions (other .0)) (other .1) (within (other .0) (other .1)))) ∙ other .3
+      theirs : ExcludesIn (hadMask (s (other .0) (positionOf positions (other .0)))) l
+      theirs = ap (λ m. bit (bars m) l) (sym (x .masks (other .0) (positionOf positions (other .0)) (other .1) (within (other .0) (other .1)))) ∙ other .3
 
-      gone : bit (heldMask (s k (positionOf positions k))) l ≡ 0
+      gone : bit (hadMask (s k (positionOf positions k))) l ≡ 0
       gone =
-          let c : CompatibleIn (heldMask (s (other .0) (positionOf positions (other .0)))) (heldMask (s k (positionOf positions k))) =
-          subst (λ y. CompatibleIn (heldMask (s (other .0) (positionOf positions (other .0)))) (heldMask y)) (joint-at executions (positionOf positions) k b)
-          (subst (λ y. CompatibleIn (heldMask y) (heldMask (nth (joint n s (positionOf positions)) k))) (joint-at executions (positionOf positions) (other .0) (other .1))
+          let c : CompatibleIn (hadMask (s (other .0) (positionOf positions (other .0)))) (hadMask (s k (positionOf positions k))) =
+          subst (λ y. CompatibleIn (hadMask (s (other .0) (positionOf positions (other .0)))) (hadMask y)) (joint-at executions (positionOf positions) k b)
+          (subst (λ y. CompatibleIn (hadMask y) (hadMask (nth (joint n s (positionOf positions)) k))) (joint-at executions (positionOf positions) (other .0) (other .1))
           (masks-of-apart (joint n s (positionOf positions)) free (other .0) k (other .2))) in
-          of-disjoint (heldMask (s (other .0) (positionOf positions (other .0)))) (heldMask (s k (positionOf positions k))) c l theirs
+          of-disjoint (bars (hadMask (s (other .0) (positionOf positions (other .0))))) (hadMask (s k (positionOf positions k))) c l theirs
 
       scan : Scanned (M k) l (positionOf positions k - 1) h
       scan = scanned (M k) l (positionOf positions k - 1) (begin-mask k l b)
@@ -256,13 +257,13 @@ module _ {ps : List Block} {ns : List ℕ} {P : ℕ → List ℕ} {s : ℕ → �
           ⊎-elim
           (λ (e : h ≡ positionOf positions k - 1).
           let z : bit (getD (M k) (positionOf positions k - 1) 0) l ≡ 0 = subst (λ a. bit (getD (M k) a 0) l ≡ 0) e (scan .without) in
-          absurd (omega (arith, had, ap (λ m. bit m l) (mask-at k (positionOf positions k - 1) b (omega arith)))))
+          absurd (omega (arith, had-before, ap (λ m. bit m l) (mask-at k (positionOf positions k - 1) b (omega arith)))))
           (λ (c : h < positionOf positions k - 1). c)
           (eq-or-lt-of-le (scan .back))
 
       back-scan : MatchingBegin (s k) (positionOf positions k) h
       back-scan =
-          matching-begin-scan executions (positionOf positions) within free k b o l h (digit-positive ((s k (positionOf positions k - 1)) .count) l had)
+          matching-begin-scan executions (positionOf positions) within free k b o l h (digit-positive ((s k (positionOf positions k - 1)) .count) l had-before)
           (digit-free ((s k (positionOf positions k)) .count) l gone) before
           (digit-free ((s k h) .count) l (ap (λ m. bit m l) (sym (mask-at k h b (omega (arith, before)))) ∙ scan .without))
           (λ i u v. digit-positive ((s k i) .count) l (ap (λ m. bit m l) (sym (mask-at k i b (omega arith))) ∙ scan .between i u (omega arith)))
@@ -273,7 +274,8 @@ module _ {ps : List Block} {ns : List ℕ} {P : ℕ → List ℕ} {s : ℕ → �
       refused : StepBackRefused n s (positionOf positions) k
       refused = retreat-refused executions (positionOf positions) k within free b o
           (step-back-refused executions (positionOf positions) within free k b o (other .0) (other .1) (other .2)
-          (λ e. omega (arith, theirs, of-disjoint (heldMask (s k (positionOf positions k - 1))) (heldMask (s (other .0) (positionOf positions (other .0)))) e l had)))
+          (λ e. by-apart (hadMask (s (other .0) (positionOf positions (other .0)))) (hadMask (s k (positionOf positions k - 1)))
+          (apart-sym (hadMask (s k (positionOf positions k - 1))) (hadMask (s (other .0) (positionOf positions (other .0)))) e) l theirs had-before))
 
       -- it wants l there
       wants : getD ws k 0 ≡ firstWanted ((s k (positionOf hs k)) .rest)
@@ -281,11 +283,11 @@ module _ {ps : List Block} {ns : List ℕ} {P : ℕ → List ℕ} {s : ℕ → �
           let f = zero-by-end ps (x .bodies) (move-transition ps (getD (P k) (positionOf positions k - 1) 0)
           ((s k (positionOf positions k - 1)) .rest) ((s k (positionOf positions k - 1)) .count) (s k (positionOf positions k))
           (last-step executions (positionOf positions) k b o (within k b)))
-          (state-balanced executions k (positionOf positions k - 1) b (omega (arith, within k b))) l (digit-positive ((s k (positionOf positions k - 1)) .count) l had)
+          (state-balanced executions k (positionOf positions k - 1) b (omega (arith, within k b))) l (digit-positive ((s k (positionOf positions k - 1)) .count) l had-before)
           (digit-free ((s k (positionOf positions k)) .count) l gone) in
           let q = back in
-          let one-lock : l ≡ q .lock = cc (f .1, q .ended) in
-          (to k b) .wanted o ∙ ap (λ m. 2 ^ m) one-lock ∙ sym (wanted-hold ((s k (positionOf hs k)) .rest) (q .lock) (q .inside) (q .following) (q .stands))
+          let one-lock : l ≡ q .claim = cc (f .1, q .ended) in
+          (to k b) .wanted o ∙ ap (λ m. 2 ^ m) one-lock ∙ sym (wanted-hold ((s k (positionOf hs k)) .rest) (q .claim) (q .inside) (q .following) (q .stands))
 
     still-at : (k : ℕ) → k < n → positionOf positions k ≡ 0 → positionOf hs k ≡ 0
     still-at k b e = (to k b) .still e .0
@@ -295,10 +297,10 @@ module _ {ps : List Block} {ns : List ℕ} {P : ℕ → List ℕ} {s : ℕ → �
         ⊎-elim (λ (e : positionOf positions k ≡ 0). (to k b) .still e .1 ∙ begin-wanted k b ∙ ap (λ a. firstWanted ((s k a) .rest)) (sym (still-at k b e)))
         (λ (o : 0 < positionOf positions k). wants k b o) (eq-zero-or-pos (positionOf positions k))
 
-    mask-there : (k : ℕ) → k < n → getD ms k 0 ≡ heldMask (s k (positionOf hs k))
+    mask-there : (k : ℕ) → k < n → getD ms k 0 ≡ hadMask (s k (positionOf hs k))
     mask-there k b =
-        ⊎-elim (λ (e : positionOf positions k ≡ 0). held-there k b ∙ mask-at k (positionOf positions k) b (omega arith) ∙ ap (λ a. heldMask (s k a)) (e ∙ sym (still-at k b e)))
-        (λ (o : 0 < positionOf positions k). held-there k b ∙ mask-at k (positionOf positions k) b (omega arith) ∙ sym (ap held ((back k b o) .same)))
+        ⊎-elim (λ (e : positionOf positions k ≡ 0). held-there k b ∙ mask-at k (positionOf positions k) b (omega arith) ∙ ap (λ a. hadMask (s k a)) (e ∙ sym (still-at k b e)))
+        (λ (o : 0 < positionOf positions k). held-there k b ∙ mask-at k (positionOf positions k) b (omega arith) ∙ sym (ap had ((back k b o) .same)))
         (eq-zero-or-pos (positionOf positions k))
 
     pub jump-back : (k : ℕ) → k < n → 0 < positionOf positions k → GoingBack ps n P s bound hs [] ws ms × (total n (positionOf hs) < total n (positionOf positions))
@@ -310,7 +312,7 @@ module _ {ps : List Block} {ns : List ℕ} {P : ℕ → List ℕ} {s : ℕ → �
         there = record {
           wants = λ t c. let d = of-joint executions (positionOf hs) t c in wanted-there t d ∙ ap (λ y. firstWanted (y .rest))
               (sym (joint-at executions (positionOf hs) t d));
-          mask = λ t c. let d = of-joint executions (positionOf hs) t c in mask-there t d ∙ ap heldMask (sym (joint-at executions (positionOf hs) t d));
+          mask = λ t c. let d = of-joint executions (positionOf hs) t c in mask-there t d ∙ ap hadMask (sym (joint-at executions (positionOf hs) t d));
         };
       },
       jump-total executions (positionOf positions) (positionOf hs) within free refused back still-at k b o,
@@ -325,19 +327,19 @@ module _ {ps : List Block} {ns : List ℕ} {P : ℕ → List ℕ} {s : ℕ → �
     first-there = joint n s (positionOf positions)
 
     -- a thread of S holds what its pair says, and another holds nothing
-    holds-at : (t : ℕ) → T (S t) → heldMask (nth first-there t) ≡ heldOf (pair t)
+    holds-at : (t : ℕ) → T (S t) → hadMask (nth first-there t) ≡ hadOf (pair t)
     holds-at t m =
         let b = a .present t m in
-        ap heldMask (joint-at executions (positionOf positions) t b) ∙ sym (x .masks t (positionOf positions t) b (inside t b)) ∙ a .holds t m
+        ap hadMask (joint-at executions (positionOf positions) t b) ∙ sym (x .masks t (positionOf positions t) b (inside t b)) ∙ a .holds t m
 
-    nothing-at : (t : ℕ) → (T (S t) → ⊥) → (l : ℕ) → bit (heldMask (nth first-there t)) l ≡ 0
-    unfolding heldFrom
+    nothing-at : (t : ℕ) → (T (S t) → ⊥) → (l : ℕ) → bit (hadMask (nth first-there t)) l ≡ 0
+    unfolding hadFrom
     nothing-at t f l =
         ⊎-elim
         (λ (b : t < n).
-        ap (λ y. bit (heldMask y) l) (joint-at executions (positionOf positions) t b) ∙ ap (λ m. bit m l) (sym (x .masks t (positionOf positions t) b (inside t b)))
+        ap (λ y. bit (hadMask y) l) (joint-at executions (positionOf positions) t b) ∙ ap (λ m. bit m l) (sym (x .masks t (positionOf positions t) b (inside t b)))
         ∙ ap (λ j. bit (getD (M t) j 0) l) (a .others t b f .0) ∙ begin-mask t l b)
-        (λ (b : n ≤ t). ap (λ y. bit (heldMask y) l) (joint-absent executions (positionOf positions) t b) ∙ bit-none l)
+        (λ (b : n ≤ t). ap (λ y. bit (hadMask y) l) (joint-absent executions (positionOf positions) t b) ∙ bit-none l)
         (lt-or-le t n)
 
     first-apart : T (apart everyone first-there)
@@ -345,9 +347,10 @@ module _ {ps : List Block} {ns : List ℕ} {P : ℕ → List ℕ} {s : ℕ → �
         ⊎-elim
         (λ (m : T (S i)).
         ⊎-elim (λ (r : T (S k)). rw (holds-at i m, holds-at k r) (c .disjoint i k m r d))
-        (λ (f : T (S k) → ⊥). disjoint (heldMask (nth first-there i)) (heldMask (nth first-there k)) (λ l. inr (nothing-at k f l)))
+        (λ (f : T (S k) → ⊥). apart-by (hadMask (nth first-there i)) (hadMask (nth first-there k)) (λ l e h. omega (arith, nothing-at k f l)))
         (T-dec (S k)))
-        (λ (f : T (S i) → ⊥). disjoint (heldMask (nth first-there i)) (heldMask (nth first-there k)) (λ l. inl (nothing-at i f l)))
+        (λ (f : T (S i) → ⊥). apart-sym (hadMask (nth first-there k)) (hadMask (nth first-there i))
+        (apart-by (hadMask (nth first-there k)) (hadMask (nth first-there i)) (λ l e h. omega (arith, nothing-at i f l))))
         (T-dec (S i)))
 
     first-waits : (t : ℕ) → T (S t) → Blocked S first-there t
@@ -355,14 +358,14 @@ module _ {ps : List Block} {ns : List ℕ} {P : ℕ → List ℕ} {s : ℕ → �
         let w = c .wanted t m in
         let q = a .stands t m in
         record {
-          lock = wantedOf (pair t);
+          claim = wantedOf (pair t);
           inside = q .0;
           following = q .1;
           stands = ap (λ y. y .rest) (joint-at executions (positionOf positions) t (a .present t m)) ∙ q .2;
           other = w .0;
           differs = w .1;
           member = w .2;
-          theirs = digit-positive (counts first-there (w .0)) (wantedOf (pair t)) (ap (λ y. bit y (wantedOf (pair t))) (holds-at (w .0) (w .2)) ∙ w .3);
+          theirs = excludes-held (counts first-there (w .0)) (wantedOf (pair t)) .1 (ap (λ y. bit (bars y) (wantedOf (pair t))) (holds-at (w .0) (w .2)) ∙ w .3);
         }
 
     first-stuck : Stuck ps first-there S
@@ -385,7 +388,7 @@ module _ {ps : List Block} {ns : List ℕ} {P : ℕ → List ℕ} {s : ℕ → �
       retreat = record { within = inside; all-apart = first-apart; leads = refl; stuck = (S, first-stuck); short = omega arith };
       there = record {
         wants = λ t b. let d = of-joint executions (positionOf positions) t b in first-wanted t d ∙ ap (λ y. firstWanted (y .rest)) (sym (joint-at executions (positionOf positions) t d));
-        mask = λ t b. let d = of-joint executions (positionOf positions) t b in a .mask t d ∙ x .masks t (positionOf positions t) d (inside t d) ∙ ap heldMask
+        mask = λ t b. let d = of-joint executions (positionOf positions) t b in a .mask t d ∙ x .masks t (positionOf positions t) d (inside t d) ∙ ap hadMask
             (sym (joint-at executions (positionOf positions) t d));
       };
     }

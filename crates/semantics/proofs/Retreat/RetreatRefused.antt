@@ -1,4 +1,4 @@
--- The retreat: why a thread cannot go back. Its last step ended a hold of a lock that another thread, which has taken a step too, now holds: nothing
+-- The retreat: why a thread cannot go back. Its last step ended a hold of a claim from which another thread, which has taken a step too, now excludes it: nothing
 -- but an end makes a count smaller.
 use Prim.Native.Nat.{ℕ, _-_, _≤_, _<_}
 use mathlib.Core.List.{List}
@@ -13,23 +13,23 @@ use Rattle.semantics.specs.Run.{ThreadState, compatible, apart, everyone
 use Rattle.semantics.specs.Retreat.{joint}
 use Rattle.semantics.proofs.Thread.Transitions.{move-transition}
 use Rattle.semantics.proofs.Thread.Balance.{zero-by-end}
-use Rattle.semantics.proofs.Gateway.Compatible.{HasLock, Excludes, compatible-or-contended, excluded-not-held}
+use Rattle.semantics.proofs.Gateway.Compatible.{HasClaim, Excludes, compatible-or-contended, excluded-not-held}
 use Rattle.semantics.proofs.Gateway.Apart.{excludes-present, apart→, Clash, apart-or-clash}
 use Rattle.semantics.proofs.Retreat.JointStates.{Executions, earlier, in-joint, of-joint, joint-counts, state-balanced, start-excludes-none, last-step}
 
--- what refuses thread k's last step: that step ended a hold of a lock from which another thread, which has taken a step too, excludes it
+-- what refuses thread k's last step: that step ended a hold of a claim from which another thread, which has taken a step too, excludes it
 pub record StepBackRefused (n : ℕ) (s : ℕ → ℕ → ThreadState) (j : ℕ → ℕ) (k : ℕ) : Type 0 where
-  pub lock : ℕ
+  pub claim : ℕ
   pub following : Block
   pub other : ℕ
-  pub ended : (s k (j k - 1)) .rest ≡ end lock following
+  pub ended : (s k (j k - 1)) .rest ≡ end claim following
   pub left : (s k (j k)) .rest ≡ following
-  pub held-before : 0 < getD ((s k (j k - 1)) .count) lock 0
-  pub freed : getD ((s k (j k)) .count) lock 0 ≡ 0
+  pub held-before : 0 < getD ((s k (j k - 1)) .count) claim 0
+  pub freed : getD ((s k (j k)) .count) claim 0 ≡ 0
   pub differs : other ≢ k
   pub there : other < n
   pub began : 0 < j other
-  pub theirs : Excludes ((s other (j other)) .count) lock
+  pub theirs : Excludes ((s other (j other)) .count) claim
 
 module _ {ps : List Block} {n : ℕ} {P : ℕ → List ℕ} {s : ℕ → ℕ → ThreadState} (x : Executions ps n P s) where
   pub retreat-refused : (j : ℕ → ℕ) (k : ℕ) → ((i : ℕ) → i < n → j i ≤ length (P i)) → T (apart everyone (joint n s j)) → k < n → 0 < j k
@@ -38,7 +38,7 @@ module _ {ps : List Block} {n : ℕ} {P : ℕ → List ℕ} {s : ℕ → ℕ →
       ⊎-elim (λ t. absurd (f t))
       (λ (r : Clash everyone (joint n s j) k (s k (j k - 1))).
       ⊎-elim (λ c. absurd (r .against c))
-      (λ (q : (l : ℕ) × HasLock ((s k (j k - 1)) .count) l × Excludes (counts (joint n s j) (r .other)) l).
+      (λ (q : (l : ℕ) × HasClaim ((s k (j k - 1)) .count) l × Excludes (counts (joint n s j) (r .other)) l).
       let l = q .0 in
       let there : r .other < n = of-joint x j (r .other) (excludes-present (joint n s j) (r .other) l (q .2)) in
       let theirs : Excludes ((s (r .other) (j (r .other))) .count) l = rw (joint-counts x j (r .other) there) at (q .2) in
@@ -53,7 +53,7 @@ module _ {ps : List Block} {n : ℕ} {P : ℕ → List ℕ} {s : ℕ → ℕ →
       (start-excludes-none x (r .other) l there (subst (λ a. Excludes ((s (r .other) a) .count) l) e theirs))) (λ h. h)
       (eq-zero-or-pos (j (r .other))) in
       record {
-        lock = l;
+        claim = l;
         following = m .0;
         other = r .other;
         ended = m .1;

@@ -19,9 +19,10 @@ use Rattle.semantics.specs.Plan.{Block, done, skip, call, hold, loop, ei
 use Rattle.semantics.specs.Sizes.{threadSizes}
 use Rattle.semantics.specs.Run.{ThreadState, everyone, run, start, nth, counts}
 use Rattle.semantics.specs.Stuck.{Stuck, Largest, Schedule}
-use Rattle.semantics.specs.StuckRounds.{firstWanted, WantedAt, heldByMembers, waitsIn, wanting, stuckRound, stuckRounds}
-use Rattle.semantics.proofs.Ground.LockSets.{positive-digit, digit-positive}
+use Rattle.semantics.specs.StuckRounds.{firstWanted, WantedAt, barredByMembers, waitsIn, wanting, stuckRound, stuckRounds}
+use Rattle.semantics.specs.Conflict.{bars, ExcludesIn}
 use Rattle.semantics.proofs.Thread.Remainders.{plain-body}
+use Rattle.semantics.proofs.Gateway.Compatible.{excludes-held}
 use Rattle.semantics.proofs.Gateway.Apart.{excludes-present, apart→}
 use Rattle.semantics.proofs.Gateway.Blocked.{Blocked, stuck-blocked, stuck-present}
 use Rattle.semantics.proofs.Gateway.Invariant.{Invariant, run-invariant, run-length, start-length, start-invariant}
@@ -29,7 +30,7 @@ use Rattle.semantics.proofs.Stuck.LargestStuck.{atHold, beginsHold, rou
 use Rattle.semantics.proofs.Stuck.LargestStuck.{rounds-cover, fixed-largest, rounds-largest}
 use Rattle.semantics.proofs.Analysis.Joins.{other-than, in-join, join-in}
 
--- ---- wanted locks
+-- ---- wanted claims
 
 wanted-cases : (b : Block) → (firstWanted b ≡ 0) ⊎ ((l : ℕ) × (x : Block) × (r : Block) × (b ≡ hold l x r))
 unfolding firstWanted
@@ -45,7 +46,7 @@ pub wanted-hold : (b : Block) (l : ℕ) (x r : Block) → b ≡ hold l x r → f
 unfolding firstWanted
 wanted-hold b l x r e = ap firstWanted e
 
--- the mask of one lock meets a set just if the lock is in it
+-- the mask of one claim meets a set just if the claim is in it
 meets : (l m : ℕ) → (bitAnd (2 ^ l) m ≢ 0) → bit m l ≡ 1
 meets l m n =
     ⊎-elim
@@ -68,7 +69,7 @@ positive-hold b h =
 
 -- ---- sets in which each member waits
 
--- each member of m wants a lock that another member holds
+-- each member of m wants a claim from which another member excludes it
 abbrev pub AllWait : ℕ → List ℕ → List ℕ → ℕ → Type 0
 AllWait n wanted masks m = (t : ℕ) → T (inMask m t) → (t < n) × T (waitsIn n wanted masks m t)
 
@@ -88,41 +89,41 @@ module _ (ps : List Block) (bodies : (p : ℕ) → Plain (bodyIn ps p)) (ts : Li
   n = length ts
 
   pub waits-in : (m t : ℕ) → t < n → Blocked (inMask m) ts t → T (waitsIn n wanted masks m t)
-  unfolding heldByMembers
+  unfolding barredByMembers
   waits-in m t b w =
       let u = w .other in
-      let c : u < n = excludes-present ts u (w .lock) (w .theirs) in
-      let e : getD wanted t 0 ≡ 2 ^ (w .lock) = a .wants t b ∙ wanted-hold ((nth ts t) .rest) (w .lock) (w .inside) (w .following) (w .stands) in
-      let h : bit (getD masks u 0) (w .lock) ≡ 1 = ap (λ x. bit x (w .lock)) (a .mask u c) ∙ positive-digit (counts ts u) (w .lock) (w .theirs) in
+      let c : u < n = excludes-present ts u (w .claim) (w .theirs) in
+      let e : getD wanted t 0 ≡ 2 ^ (w .claim) = a .wants t b ∙ wanted-hold ((nth ts t) .rest) (w .claim) (w .inside) (w .following) (w .stands) in
+      let h : ExcludesIn (getD masks u 0) (w .claim) = ap (λ x. bit (bars x) (w .claim)) (a .mask u c) ∙ excludes-held (counts ts u) (w .claim) .0 (w .theirs) in
       let s : T (member m t u) = and-T (inMask m u) (not (eqb u t)) (w .member) (other-than t u (w .differs)) in
-      let g : bit (heldByMembers n masks m t) (w .lock) ≡ 1 = in-join (member m t) (λ u. getD masks u 0) (w .lock) n u c s h in
-      not-T (eqb (bitAnd (getD wanted t 0) (heldByMembers n masks m t)) 0)
-      (λ z. meet (w .lock) (heldByMembers n masks m t) g (sym (ap (λ x. bitAnd x (heldByMembers n masks m t)) e) ∙ eqb→eq
-      (bitAnd (getD wanted t 0) (heldByMembers n masks m t)) 0 z))
+      let g : bit (barredByMembers n masks m t) (w .claim) ≡ 1 = in-join (member m t) (λ u. bars (getD masks u 0)) (w .claim) n u c s h in
+      not-T (eqb (bitAnd (getD wanted t 0) (barredByMembers n masks m t)) 0)
+      (λ z. meet (w .claim) (barredByMembers n masks m t) g (sym (ap (λ x. bitAnd x (barredByMembers n masks m t)) e) ∙ eqb→eq
+      (bitAnd (getD wanted t 0) (barredByMembers n masks m t)) 0 z))
 
   pub in-waits : (m t : ℕ) → t < n → T (waitsIn n wanted masks m t) → Blocked (inMask m) ts t
-  unfolding heldByMembers
+  unfolding barredByMembers
   in-waits m t b h =
       ⊎-elim
       (λ (z : firstWanted ((nth ts t) .rest) ≡ 0).
-      absurd (T-not (eqb (bitAnd (getD wanted t 0) (heldByMembers n masks m t)) 0) h
-      (eq→eqb (bitAnd (getD wanted t 0) (heldByMembers n masks m t)) 0
-      (ap (λ x. bitAnd x (heldByMembers n masks m t)) (a .wants t b ∙ z) ∙ and-zero-l (heldByMembers n masks m t)))))
+      absurd (T-not (eqb (bitAnd (getD wanted t 0) (barredByMembers n masks m t)) 0) h
+      (eq→eqb (bitAnd (getD wanted t 0) (barredByMembers n masks m t)) 0
+      (ap (λ x. bitAnd x (barredByMembers n masks m t)) (a .wants t b ∙ z) ∙ and-zero-l (barredByMembers n masks m t)))))
       (λ (q : (l : ℕ) × (x : Block) × (r : Block) × ((nth ts t) .rest ≡ hold l x r)).
       let e : getD wanted t 0 ≡ 2 ^ (q .0) = a .wants t b ∙ wanted-hold ((nth ts t) .rest) (q .0) (q .1) (q .2) (q .3) in
-      let g : bit (heldByMembers n masks m t) (q .0) ≡ 1 =
-      meets (q .0) (heldByMembers n masks m t) (λ z. T-not (eqb (bitAnd (getD wanted t 0) (heldByMembers n masks m t)) 0) h (rw (e, z) tt)) in
-      let (u, c, s, f) = join-in (member m t) (λ u. getD masks u 0) (q .0) n g in
+      let g : bit (barredByMembers n masks m t) (q .0) ≡ 1 =
+      meets (q .0) (barredByMembers n masks m t) (λ z. T-not (eqb (bitAnd (getD wanted t 0) (barredByMembers n masks m t)) 0) h (rw (e, z) tt)) in
+      let (u, c, s, f) = join-in (member m t) (λ u. bars (getD masks u 0)) (q .0) n g in
       let (i, d) = T-and (inMask m u) (not (eqb u t)) s in
       record {
-        lock = q .0;
+        claim = q .0;
         inside = q .1;
         following = q .2;
         stands = q .3;
         other = u;
         differs = λ z. T-not (eqb u t) d (eq→eqb u t z);
         member = i;
-        theirs = digit-positive (counts ts u) (q .0) (subst (λ x. bit x (q .0) ≡ 1) (a .mask u c) f);
+        theirs = excludes-held (counts ts u) (q .0) .1 (subst (λ x. ExcludesIn x (q .0)) (a .mask u c) f);
       })
       (wanted-cases ((nth ts t) .rest))
 

@@ -95,7 +95,7 @@ refused-some (some b) a t e = t
 pub blocked-more : (S S′ : ℕ → Bool) (ts : List ThreadState) (t : ℕ) → ((u : ℕ) → T (S u) → T (S′ u)) → Blocked S ts t → Blocked S′ ts t
 blocked-more S S′ ts t m w =
     record {
-      lock = w .lock;
+      claim = w .claim;
       inside = w .inside;
       following = w .following;
       stands = w .stands;

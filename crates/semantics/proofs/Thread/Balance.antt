@@ -9,7 +9,7 @@ use native.Mathlib.Omega.{arith}
 use lib.ListN.{length, getD, set}
 use lib.Seq.{getD-set-same, getD-set-other, ext-getD}
 use lib.Dec.{eqb, eqb-refl}
-use Rattle.limits.specs.Limits.{lockCount}
+use Rattle.limits.specs.Limits.{claimCount}
 use Rattle.laws.proofs.Places.{zeros-at}
 use Rattle.laws.proofs.Tests.{T-true, eqb-cases}
 use Rattle.semantics.specs.Plan.{Block, done, skip, call, hold, loop, either, end, _⨾_, bodyIn, Written, AnyCall, Plain}
@@ -17,7 +17,7 @@ use Rattle.semantics.specs.Run.{up, down, unlocked}
 use Rattle.semantics.proofs.Thread.Remainders.{⨾-done, length-up, length-down, Remainder, remainder-of-written}
 use Rattle.semantics.proofs.Thread.Transitions.{Transition, remainder-step, skips, calls, begins, ends, enters, leaves, takes-one, takes-two}
 
--- how many holds of lock l a remainder will end
+-- how many holds of claim l a remainder will end
 unfoldable pub endCount : ℕ → Block → ℕ
 endCount l done = 0
 endCount l (skip r) = endCount l r
@@ -40,7 +40,7 @@ end-count-⨾ l (end k r) b w = absurd w
 
 pub record Balanced (b : Block) (cs : List ℕ) : Type 0 where
   pub remainder : Remainder AnyCall b
-  pub size : length cs ≡ lockCount
+  pub size : length cs ≡ claimCount
   pub counts : (l : ℕ) → getD cs l 0 ≡ endCount l b
 
 -- so the counts are settled by the remainder
@@ -59,7 +59,7 @@ balanced-plain a w =
     record {
       remainder = remainder-of-written AnyCall a w;
       size = refl;
-      counts = λ l. zeros-at lockCount l ∙ sym (end-count-⨾ l a done w) ∙ ap (endCount l) (⨾-done a);
+      counts = λ l. zeros-at claimCount l ∙ sym (end-count-⨾ l a done w) ∙ ap (endCount l) (⨾-done a);
     }
 
 pub up-count : (m l : ℕ) (cs : List ℕ) → l < length cs → getD (up l cs) m 0 ≡ cond (eqb l m) 1 0 + getD cs m 0
@@ -84,7 +84,7 @@ down-count m l n cs h e =
     (eqb-cases l m)
 
 module _ (ps : List Block) (bodies : (p : ℕ) → Plain (bodyIn ps p)) where
-  size-move : {c : ℕ} {b b′ : Block} {cs cs′ : List ℕ} → Transition ps c b cs b′ cs′ → length cs ≡ lockCount → length cs′ ≡ lockCount
+  size-move : {c : ℕ} {b b′ : Block} {cs cs′ : List ℕ} → Transition ps c b cs b′ cs′ → length cs ≡ claimCount → length cs′ ≡ claimCount
   size-move skips e = e
   size-move calls e = e
   size-move (begins {l} {cs = cs}) e = length-up l cs ∙ e
@@ -115,7 +115,7 @@ module _ (ps : List Block) (bodies : (p : ℕ) → Plain (bodyIn ps p)) where
     counts = counts-move m k;
   }
 
-  -- only to begin a hold of a lock makes its count positive, and only to end one makes it zero
+  -- only to begin a hold of a claim makes its count positive, and only to end one makes it zero
   pub positive-by-begin : {c : ℕ} {b b′ : Block} {cs cs′ : List ℕ} → Transition ps c b cs b′ cs′ → Balanced b cs → (l : ℕ) → getD cs l 0 ≡ 0
       → 0 < getD cs′ l 0
       → (x : Block) × (r : Block) × (b ≡ hold l x r)

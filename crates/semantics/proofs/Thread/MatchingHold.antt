@@ -38,7 +38,7 @@ module _ {ps : List Block} {x : ThreadState} {cs : List ℕ} {s : ℕ → Thread
       let behind = subst (λ y. Balanced y ((s (suc j)) .count)) f (balanced-at bodies plain kept a (suc j) b) in
       (p .0, p .1, p .2, p .3, balanced-unique before behind)
 
-  -- how to find that moment: it is the last one at which the lock was not held
+  -- how to find that moment: it is the last one at which the claim was not had
   module _ (l : ℕ) (r : Block) (j : ℕ) (b : j < length cs) (ended : (s j) .rest ≡ end l r) (on : (s (suc j)) .rest ≡ r) (freed : getD ((s (suc j)) .count) l 0 ≡ 0)
       (h : ℕ) (before : h < j) (without : getD ((s h) .count) l 0 ≡ 0) (between : (a : ℕ) → h < a → a ≤ j → 0 < getD ((s a) .count) l 0) where
     -- a hold of l that began at h goes on until j

@@ -6,7 +6,7 @@ use native.Mathlib.Omega.{arith}
 use native.Mathlib.Decide.{decLt}
 use lib.ListN.{length, getD, set, length-set}
 use lib.Seq.{set-set, set-getD, set-out, getD-set-same}
-use Rattle.limits.specs.Limits.{lockCount}
+use Rattle.limits.specs.Limits.{claimCount}
 use Rattle.semantics.specs.Plan.{Block, done, skip, call, hold, loop, either, end, _⨾_, bodyIn, Written, Sound, AnyCall, Plain}
 use Rattle.semantics.specs.Run.{up, down}
 
@@ -71,10 +71,10 @@ unfoldable pub Remainder : (ℕ → Type 0) → Block → Type 0
 Remainder C done = Unit {0}
 Remainder C (skip r) = Remainder C r
 Remainder C (call p r) = C p × Remainder C r
-Remainder C (hold l b r) = (l < lockCount) × Written C b × Remainder C r
+Remainder C (hold l b r) = (l < claimCount) × Written C b × Remainder C r
 Remainder C (loop b r) = Written C b × Remainder C r
 Remainder C (either a b r) = Written C a × Written C b × Remainder C r
-Remainder C (end l r) = (l < lockCount) × Remainder C r
+Remainder C (end l r) = (l < claimCount) × Remainder C r
 
 module _ (C : ℕ → Type 0) where
   pub remainder-⨾ : (a b : Block) → Written C a → Remainder C b → Remainder C (a ⨾ b)

@@ -1,4 +1,4 @@
--- The path of the member, then its length and its wanted lock.
+-- The path of the member, then its length and its wanted claim.
 use Rattle.targets.proofs.Threads.{member-target, member-put}
 use borrow.Author.Needs.{needs}
 use Rattle.targets.proofs.put_member.Statement.{statement}
@@ -7,8 +7,8 @@ use Rattle.targets.proofs.put_member.Tie as tie
 thread-in-requires : tie.Need-thread-in-requires
 thread-in-requires c κs = search needs
 
-rest-in-requires : tie.Need-rest-in-requires
-rest-in-requires c κs = search needs
+locks-in-requires : tie.Need-locks-in-requires
+locks-in-requires c κs = search needs
 
 put-path-requires : tie.Need-put-path-requires
 put-path-requires c κs = search (member-target, needs)
@@ -22,8 +22,8 @@ array-write-positions c = search needs
 wanted-in-requires : tie.Need-wanted-in-requires
 wanted-in-requires c κs = search needs
 
-lock-bit-requires : tie.Need-lock-bit-requires
-lock-bit-requires c κs = search needs
+claim-bit-requires : tie.Need-claim-bit-requires
+claim-bit-requires c κs = search needs
 
 mul-wanted : tie.Need-mul-wanted
 mul-wanted c = search needs
@@ -34,6 +34,9 @@ array-write-wanted c = search needs
 same-length : tie.Need-same-length
 same-length c = search needs
 
+same-length-2 : tie.Need-same-length-2
+same-length-2 c = search needs
+
 returns : tie.Need-returns
 returns c = search (member-put, needs)
 
@@ -42,13 +45,14 @@ put-member-spec =
     tie.close
     (tie.spec
     thread-in-requires
-    rest-in-requires
+    locks-in-requires
     put-path-requires
     mul-positions
     array-write-positions
     wanted-in-requires
-    lock-bit-requires
+    claim-bit-requires
     mul-wanted
     array-write-wanted
     same-length
+    same-length-2
     returns)

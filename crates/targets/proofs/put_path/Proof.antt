@@ -1,5 +1,5 @@
 -- The path is found and written into its row, which is lent as a part of the table.
-use Rattle.targets.proofs.Threads.{target-asked, row-written}
+use Rattle.targets.proofs.Threads.{target-asked, row-room, row-written}
 use borrow.Author.Needs.{needs}
 use Rattle.targets.proofs.put_path.Statement.{statement}
 use Rattle.targets.proofs.put_path.Tie as tie
@@ -16,9 +16,6 @@ add-end c = search needs
 slice-aggregate-path-to : tie.Need-slice-aggregate-path-to
 slice-aggregate-path-to c = search needs
 
-mul-path-to : tie.Need-mul-path-to
-mul-path-to c = search needs
-
 sub-path-to : tie.Need-sub-path-to
 sub-path-to c = search needs
 
@@ -28,11 +25,26 @@ part-path-to-start c = search needs
 part-path-to-end : tie.Need-part-path-to-end
 part-path-to-end c = search needs
 
+mul-path-to : tie.Need-mul-path-to
+mul-path-to c = search needs
+
+sub-path-to-2 : tie.Need-sub-path-to-2
+sub-path-to-2 c = search needs
+
+part-path-to-start-2 : tie.Need-part-path-to-start-2
+part-path-to-start-2 c = search needs
+
+part-path-to-end-2 : tie.Need-part-path-to-end-2
+part-path-to-end-2 c = search needs
+
 path-to-requires : tie.Need-path-to-requires
-path-to-requires c κs = search (target-asked, needs)
+path-to-requires c κs = (search (target-asked, needs), search (row-room, needs))
 
 same-length : tie.Need-same-length
 same-length c = search needs
+
+same-length-2 : tie.Need-same-length-2
+same-length-2 c = search needs
 
 returns : tie.Need-returns
 returns c = search (row-written, needs)
@@ -45,10 +57,14 @@ put-path-spec =
     mul-at
     add-end
     slice-aggregate-path-to
-    mul-path-to
     sub-path-to
     part-path-to-start
     part-path-to-end
+    mul-path-to
+    sub-path-to-2
+    part-path-to-start-2
+    part-path-to-end-2
     path-to-requires
     same-length
+    same-length-2
     returns)

@@ -3,6 +3,7 @@ use borrow.Author.Needs.{needs}
 use Prim.Native.Nat.{_-_, _≤_}
 use mathlib.Core.Path.{_≡_}
 use lib.ListN.{length}
+use Rattle.columns.specs.Columns.{steps}
 use Rattle.targets.specs.Tables.{CycleAsked, MembersDone}
 use Rattle.limits.specs.Limits.{maxEntries}
 use Rattle.targets.proofs.Members.{asked-target, done-none, done-more, prepared}
@@ -10,11 +11,12 @@ use Rattle.targets.proofs.thread_paths.Statement.{statement}
 use Rattle.targets.proofs.thread_paths.Tie as tie
 
 abbrev Inv-loop : tie.InvT-loop
-Inv-loop table layout chosen k steps₀ targets₀ i₀ steps targets i =
-    (i ≤ k) × CycleAsked table layout chosen k × (maxEntries ≤ length steps₀) × (length steps ≡ length steps₀) × MembersDone table chosen i (layout .threads) steps targets
+Inv-loop masks table layout chosen k choices₀ rows₀ targets₀ i₀ choices rows targets i =
+    (i ≤ k) × CycleAsked masks table layout chosen k × (maxEntries ≤ length choices₀) × (length choices ≡ length choices₀) × (maxEntries ≤ length rows₀)
+    × (length rows ≡ length rows₀) × MembersDone masks table chosen i (layout .threads) (steps choices rows) targets
 
 abbrev μ-loop : tie.MeasureT-loop
-μ-loop table layout chosen k steps₀ targets₀ i₀ steps targets i = k - i
+μ-loop masks table layout chosen k choices₀ rows₀ targets₀ i₀ choices rows targets i = k - i
 
 at-starts-requires : tie.Need-at-starts-requires Inv-loop μ-loop
 at-starts-requires c κs = search needs
@@ -38,10 +40,13 @@ loop-less : tie.Need-loop-less Inv-loop μ-loop
 loop-less c = search needs
 
 loop-again : tie.Need-loop-again Inv-loop μ-loop
-loop-again c = search (done-more, needs)
+loop-again c = (search needs, search needs, search needs, search needs, search needs, search needs, search (done-more, needs))
 
 same-length : tie.Need-same-length Inv-loop μ-loop
 same-length c = search needs
+
+same-length-2 : tie.Need-same-length-2 Inv-loop μ-loop
+same-length-2 c = search needs
 
 returns : tie.Need-returns Inv-loop μ-loop
 returns c = search (prepared, needs)
@@ -61,4 +66,5 @@ thread-paths-spec =
     loop-less
     loop-again
     same-length
+    same-length-2
     returns)

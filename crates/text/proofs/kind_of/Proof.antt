@@ -18,17 +18,20 @@ returns c = search (arms, needs) depth 12
 shared-slice-read-b : tie.Need-shared-slice-read-b
 shared-slice-read-b c = search needs
 
-slice-aggregate-keyword-kind-2 : tie.Need-slice-aggregate-keyword-kind-2
-slice-aggregate-keyword-kind-2 c = search needs
-
-keyword-kind-requires-2 : tie.Need-keyword-kind-requires-2
-keyword-kind-requires-2 c κs = search needs
+skip-kind-requires : tie.Need-skip-kind-requires
+skip-kind-requires c κs = search needs
 
 call-kind-requires : tie.Need-call-kind-requires
 call-kind-requires c κs = search needs
 
 hold-kind-requires : tie.Need-hold-kind-requires
 hold-kind-requires c κs = search needs
+
+slice-aggregate-keyword-kind-2 : tie.Need-slice-aggregate-keyword-kind-2
+slice-aggregate-keyword-kind-2 c = search needs
+
+keyword-kind-requires-2 : tie.Need-keyword-kind-requires-2
+keyword-kind-requires-2 c κs = search needs
 
 slice-aggregate-keyword-kind-3 : tie.Need-slice-aggregate-keyword-kind-3
 slice-aggregate-keyword-kind-3 c = search needs
@@ -41,12 +44,6 @@ slice-aggregate-keyword-kind-4 c = search needs
 
 keyword-kind-requires-4 : tie.Need-keyword-kind-requires-4
 keyword-kind-requires-4 c κs = search needs
-
-slice-aggregate-keyword-kind-5 : tie.Need-slice-aggregate-keyword-kind-5
-slice-aggregate-keyword-kind-5 c = search needs
-
-keyword-kind-requires-5 : tie.Need-keyword-kind-requires-5
-keyword-kind-requires-5 c κs = search needs
 
 two-kind-requires : tie.Need-two-kind-requires
 two-kind-requires c κs = search needs
@@ -98,16 +95,15 @@ kind-of-spec =
     keyword-kind-requires
     returns
     shared-slice-read-b
-    slice-aggregate-keyword-kind-2
-    keyword-kind-requires-2
+    skip-kind-requires
     call-kind-requires
     hold-kind-requires
+    slice-aggregate-keyword-kind-2
+    keyword-kind-requires-2
     slice-aggregate-keyword-kind-3
     keyword-kind-requires-3
     slice-aggregate-keyword-kind-4
     keyword-kind-requires-4
-    slice-aggregate-keyword-kind-5
-    keyword-kind-requires-5
     two-kind-requires
     plan-kind-requires
     returns-2

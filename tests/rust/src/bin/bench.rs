@@ -2,10 +2,12 @@
 //! over pairs, beside those of SPIN where the table of `tests/spin/run` is given.
 //! With `--lengths` those of the library's calls on texts of 32,768 bytes that are
 //! mostly passed over, each beside a bare text of that length. With `--crossings` those of
-//! the crossings of two threads with many pairs or couples.
+//! the crossings of two threads with many pairs or couples. With `--without-share` the families
+//! with shares are left out, which a library from before them refuses; with `--ours` the times
+//! of the reference are.
 //!
 //!   cargo run --release --features library --bin bench -- [--rounds N]
-//!                       [--family NAME] [--spin TABLE]
+//!                       [--family NAME] [--spin TABLE] [--without-share] [--ours]
 //!   cargo run --release --features library --bin bench -- --lengths [--rounds N]
 //!   cargo run --release --features library --bin bench -- --crossings [--rounds N]
 
@@ -18,11 +20,11 @@ use lockplan_tests::compare::kind;
 use lockplan_tests::crossings::{crossed, COUPLE_BYTES};
 use lockplan_tests::families::Draft;
 use lockplan_tests::opposed::{both_around, MOST_COUPLES};
-use lockplan_tests::reference::{read, Plan, MAX_PAIRS, MAX_SUM};
+use lockplan_tests::reference::{read, Plan, MAX_SUM, MAX_WORDS};
 use lockplan_tests::tidy::COPY_BYTES;
 use lockplan_tests::times::median;
 use lockplan_tests::verdict::{conflict_within, pairs_of_threads};
-use lockplan_tests::{families, full, lengths, library, standin};
+use lockplan_tests::{families, full, lengths, library, shares, standin};
 
 /// Pairs that the reference tries before it gives up.
 const TRIES: u64 = 50_000_000;
@@ -47,7 +49,7 @@ const CALLS: [&str; 4] = ["verdict", "pairs", "tidy", "straight"];
 
 /// Their times on a text.
 fn times(text: &[u8], rounds: usize) -> [Duration; 4] {
-    let mut out = vec![0; COPY_BYTES.max(2 * MAX_SUM).max(8 * MAX_PAIRS)];
+    let mut out = vec![0; COPY_BYTES.max(2 * MAX_SUM).max(8 * MAX_WORDS)];
     let verdict = median(rounds, || {
         black_box(library::verdict(black_box(text), &mut out));
     });
@@ -163,14 +165,39 @@ fn print_crossings(rounds: usize) -> usize {
     wrong
 }
 
-/// The families whose names begin so; the number of wrong verdicts.
-fn print_families(rounds: usize, family: &str, spin: &str) -> usize {
+/// The time of the reference's condition over pairs, and how many it tries.
+fn reference(rounds: usize, text: &[u8]) -> (String, String) {
+    let mut tried = Some(0);
+    let time = median(rounds, || {
+        let plan = read(black_box(text)).expect("an accepted plan");
+        tried = conflict_within(&pairs_of_threads(&plan), TRIES).map(|(_, left)| TRIES - left);
+    });
+    (microseconds(time), tried.map_or("given up".into(), |tried| tried.to_string()))
+}
+
+/// The families that are timed, and how.
+struct Timed {
+    rounds: usize,
+    /// How their names begin.
+    family: String,
+    /// The table of SPIN.
+    spin: String,
+    /// Whether those with shares are timed, and the reference.
+    shares: bool,
+    reference: bool,
+}
+
+/// The times of families; the number of wrong verdicts.
+fn print_families(timed: &Timed) -> usize {
+    let Timed { rounds, family, spin, .. } = timed;
+    let rounds = *rounds;
     println!(
-        "{:24} {:9} {:>7} {:>7} {:>14} {:>14} {:>10} {:>12}",
+        "{:44} {:9} {:>7} {:>7} {:>14} {:>14} {:>10} {:>12}",
         "family", "verdict", "entries", "pairs", "library us", "reference us", "tried", "spin s"
     );
     let mut wrong = 0;
-    for (name, draft, deadlock) in families::all() {
+    let with_shares = if timed.shares { shares::all() } else { vec![] };
+    for (name, draft, deadlock) in families::all().into_iter().chain(with_shares) {
         if !name.starts_with(family) {
             continue;
         }
@@ -180,23 +207,18 @@ fn print_families(rounds: usize, family: &str, spin: &str) -> usize {
         let ours = median(rounds, || {
             black_box(library::verdict(black_box(&text), &mut out));
         });
-        let mut tried = Some(0);
-        let theirs = median(rounds, || {
-            let plan = read(black_box(&text)).expect("an accepted plan");
-            let pairs = pairs_of_threads(&plan);
-            tried = conflict_within(&pairs, TRIES).map(|(_, left)| TRIES - left);
-        });
+        let theirs = timed.reference.then(|| reference(rounds, &text));
         let plan = read(&text).expect("an accepted plan");
         let pairs: usize = plan.threads.iter().map(|proc| plan.pairs[*proc].len()).sum();
         let expected = if deadlock { "deadlock" } else { "free" };
         wrong += usize::from(kind(answer) != expected);
         println!(
-            "{name:24} {:9} {:7} {pairs:7} {:>14} {:>14} {:>10} {:>12}{}",
+            "{name:44} {:9} {:7} {pairs:7} {:>14} {:>14} {:>10} {:>12}{}",
             kind(answer),
             if deadlock { answer.b } else { 0 },
             microseconds(ours),
-            microseconds(theirs),
-            tried.map_or("given up".into(), |tried| tried.to_string()),
+            theirs.as_ref().map_or("-", |(time, _)| time),
+            theirs.as_ref().map_or("-", |(_, tried)| tried),
             spin_time(spin, &name),
             if kind(answer) == expected { "" } else { "  WRONG" },
         );
@@ -205,7 +227,8 @@ fn print_families(rounds: usize, family: &str, spin: &str) -> usize {
 }
 
 fn main() {
-    let (mut rounds, mut family, mut spin) = (15, String::new(), String::new());
+    let (family, spin) = (String::new(), String::new());
+    let mut timed = Timed { rounds: 15, family, spin, shares: true, reference: true };
     let (mut long_texts, mut crossings) = (false, false);
     let mut arguments = std::env::args().skip(1);
     while let Some(name) = arguments.next() {
@@ -213,15 +236,17 @@ fn main() {
         match name.as_str() {
             "--lengths" => long_texts = true,
             "--crossings" => crossings = true,
-            "--rounds" => rounds = value().parse().expect("a number"),
-            "--family" => family = value(),
-            "--spin" => spin = std::fs::read_to_string(value()).expect("a readable table"),
+            "--without-share" => timed.shares = false,
+            "--ours" => timed.reference = false,
+            "--rounds" => timed.rounds = value().parse().expect("a number"),
+            "--family" => timed.family = value(),
+            "--spin" => timed.spin = std::fs::read_to_string(value()).expect("a readable table"),
             _ => panic!("unknown: {name}"),
         }
     }
     if long_texts {
-        return print_lengths(rounds);
+        return print_lengths(timed.rounds);
     }
-    let wrong = if crossings { print_crossings(rounds) } else { print_families(rounds, &family, &spin) };
+    let wrong = if crossings { print_crossings(timed.rounds) } else { print_families(&timed) };
     std::process::exit(i32::from(wrong > 0));
 }

@@ -2,11 +2,13 @@
 //!
 //!   cargo run --release --features library --bin climb -- [--seed S] [--seconds N]
 //!                       [--start NAME] [--want free|deadlock|any] [--enough N] [--write FILE]
+//!                       [--shares yes|no]
 //!
 //! The start is a family, a plan in a file, or by default a random one. Prints each time
 //! that is a tenth longer than the one before, and writes the best plan. The same seed
 //! gives the same proposals as long as the same ones are kept, which depends on the times.
 //! A call of more than `--enough` seconds (20) ends the climb: its plan is written as the best.
+//! With `--shares yes` changes make shares of holds and back, and a start without shares gets some.
 
 use std::hint::black_box;
 use std::sync::{Arc, Mutex};
@@ -18,7 +20,7 @@ use lockplan_tests::families::{self, Draft};
 use lockplan_tests::random::Random;
 use lockplan_tests::reference::{read, MAX_SUM};
 use lockplan_tests::tidy::tree;
-use lockplan_tests::{library, times};
+use lockplan_tests::{library, shares, times};
 
 /// Calls of which the least time counts.
 const CALLS: usize = 4;
@@ -64,7 +66,8 @@ fn watch(running: Running, enough: Duration, write: Option<String>) {
 
 /// The plan of a family or of a file.
 fn plan(start: &str) -> Draft {
-    let family = families::all().into_iter().find(|(name, _, _)| name == start);
+    let mut families = families::all().into_iter().chain(shares::all());
+    let family = families.find(|(name, _, _)| name == start);
     family.map(|(_, draft, _)| draft).unwrap_or_else(|| {
         let text =
             std::fs::read(start).unwrap_or_else(|error| panic!("no family, no file: {start}: {error}"));
@@ -82,7 +85,7 @@ fn callees_first(draft: &Draft) -> Draft {
 
 fn main() {
     let (mut seed, mut seconds, mut enough) = (1_u64, 60_u64, 20_u64);
-    let (mut start, mut want, mut write) = (None, None, None);
+    let (mut start, mut want, mut write, mut with_shares) = (None, None, None, false);
     let mut arguments = std::env::args().skip(1);
     while let Some(name) = arguments.next() {
         let value = arguments.next().unwrap_or_else(|| panic!("{name} needs a value"));
@@ -93,6 +96,7 @@ fn main() {
             "--start" => start = Some(value).filter(|value| value != "random"),
             "--want" => want = (value != "any").then_some(value == "deadlock"),
             "--write" => write = Some(value),
+            "--shares" => with_shares = value == "yes",
             _ => panic!("unknown: {name}"),
         }
     }
@@ -100,6 +104,7 @@ fn main() {
     watch(running.clone(), Duration::from_secs(enough), write.clone());
     let climb = |chains: Chains| {
         let running = running.clone();
+        let chains = if with_shares { chains.with_shares(&mut Random::new(seed)) } else { chains };
         Climb::new(chains, want, seed, move |text: &[u8], least: u64| measure(text, least, &running))
     };
     let mut climb = match &start {

@@ -1,5 +1,5 @@
 //! Prints the Promela model of a plan from standard input, or writes those of
-//! the shelf's cases with a letter and of the families into a folder:
+//! the shelf's cases with a letter and of the families without shares into a folder:
 //! `<name>.pml`, with the verdict in a comment in the first line.
 //!
 //!   cargo run --release --bin promela [-- FOLDER]

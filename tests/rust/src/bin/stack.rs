@@ -16,11 +16,12 @@ use std::path::{Path, PathBuf};
 use std::process::{Command, Stdio};
 
 use lockplan_tests::answer::{Answer, DEADLOCK};
-use lockplan_tests::families::{self, hold, nest, skips, Draft, Tree};
+use lockplan_tests::families::{self, hold, nest, share, skips, Draft, Tree};
 use lockplan_tests::generate::{generate, statements};
 use lockplan_tests::guard::{report_faults, Pages};
 use lockplan_tests::random::Random;
-use lockplan_tests::reference::{read, MAX_BRACKETS, MAX_PAIRS, MAX_PROCS, MAX_SIZE, MAX_SUM};
+use lockplan_tests::reference::{read, MAX_BRACKETS, MAX_PROCS, MAX_SIZE, MAX_SUM, MAX_WORDS};
+use lockplan_tests::shares;
 use lockplan_tests::shelf::all;
 use lockplan_tests::tidy::COPY_BYTES;
 
@@ -75,7 +76,7 @@ impl Call {
 
 /// Makes a call on the stack that ends at `top`, a multiple of 16.
 fn call_on(top: *mut u8, call: Call, text: &[u8]) -> Answer {
-    let mut out = vec![0_u8; COPY_BYTES.max(2 * MAX_SUM).max(8 * MAX_PAIRS)];
+    let mut out = vec![0_u8; COPY_BYTES.max(2 * MAX_SUM).max(8 * MAX_WORDS)];
     let (at, bytes) = (out.as_mut_ptr() as usize, out.len());
     let (function, words) = match call {
         Call::Verdict => (lockplan_verdict as *const (), [at, bytes, 0, 0]),
@@ -199,6 +200,7 @@ impl Most {
 #[derive(Clone, Copy)]
 enum Around {
     Hold,
+    Share,
     Loop,
     One,
     Two,
@@ -207,7 +209,7 @@ enum Around {
 impl Around {
     fn brackets(self) -> usize {
         match self {
-            Around::Hold | Around::Loop => 1,
+            Around::Hold | Around::Share | Around::Loop => 1,
             Around::One | Around::Two => 2,
         }
     }
@@ -215,6 +217,7 @@ impl Around {
     fn put(self, block: Vec<Tree>) -> Tree {
         match self {
             Around::Hold => hold(2, block),
+            Around::Share => share(2, block),
             Around::Loop => Tree::Loop(block),
             Around::One => Tree::Either(block, skips(1)),
             Around::Two => Tree::Either(skips(1), block),
@@ -302,7 +305,13 @@ fn towers() -> Vec<(String, Vec<Tower>)> {
         ("flat".into(), vec![tower(0, Around::Hold, 0)]),
         ("calls".into(), vec![tower(MAX_PROCS - 1, Around::Hold, 0)]),
     ];
-    let kinds = [("hold", Around::Hold), ("loop", Around::Loop), ("one", Around::One), ("two", Around::Two)];
+    let kinds = [
+        ("hold", Around::Hold),
+        ("share", Around::Share),
+        ("loop", Around::Loop),
+        ("one", Around::One),
+        ("two", Around::Two),
+    ];
     for (name, around) in kinds {
         all.push((format!("nested, {name}"), vec![tower(1, around, 1)]));
     }
@@ -319,7 +328,8 @@ type Texts = Vec<(String, Vec<u8>)>;
 /// Other plans that are measured, by name.
 fn others_of(texts: u64, seed: u64) -> Vec<(String, Texts)> {
     let fixed = all().into_iter().map(|entry| (entry.name.to_string(), entry.text));
-    let families = families::all().into_iter().map(|(name, draft, _)| (name, draft.text()));
+    let families = families::all().into_iter().chain(shares::all());
+    let families = families.map(|(name, draft, _)| (name, draft.text()));
     let random = |index| (format!("text {index}"), generate(&mut Random::of_text(seed, index)).text);
     vec![
         ("shelf".into(), fixed.collect()),

@@ -1,7 +1,7 @@
 //! Where two threads cross: the couples, and what is printed of them.
 
 use lockplan_tests::compare::not_two;
-use lockplan_tests::crossings::{alone, bytes, crossed, each_two, printed, Couple};
+use lockplan_tests::crossings::{alone, bytes, crossed, each_two, printed, Couple, COUPLE_BYTES};
 use lockplan_tests::miscross;
 use lockplan_tests::opposed::{about_crossings, both_around, Opposed, MOST_COUPLES};
 
@@ -55,7 +55,8 @@ fn couples_are_the_choices_that_conflict() {
         for (first, second) in each_two(&plan) {
             let found = crossed(&plan, first as u64, second as u64).unwrap();
             assert_eq!(found, by_choice(&plan, first, second));
-            let words: Vec<(u64, u64)> = found.iter().map(|(one, two)| (one.word(), two.word())).collect();
+            let words: Vec<[[u64; 3]; 2]> =
+                found.iter().map(|(one, two)| [one.words(), two.words()]).collect();
             assert!(words.is_sorted_by(|one, two| one < two));
             let mut exchanged = crossed(&plan, second as u64, first as u64).unwrap();
             exchanged.iter_mut().for_each(|couple| *couple = (couple.1, couple.0));
@@ -120,13 +121,18 @@ fn arguments_of_the_program() {
 #[test]
 fn words_of_couples() {
     let plan = read(&named_entry("the highest locks crossed").text).unwrap();
-    let (top, next) = (1_u64 << 36, 1_u64 << 35);
-    let expected = [(top + 30).to_le_bytes(), (next + 31).to_le_bytes()].concat();
-    assert_eq!(bytes(&crossed(&plan, 0, 1).unwrap()), expected);
-    let mut out = [0xa5; 33];
+    let words = |words: &[u64]| -> Vec<u8> { words.iter().copied().flat_map(u64::to_le_bytes).collect() };
+    let (top, next) = (1 << 31, 1 << 30);
+    assert_eq!(bytes(&crossed(&plan, 0, 1).unwrap()), words(&[top, 0, 61, next, 0, 63]));
+    // Two of three couples, and no part of the third.
+    let mut out = [0xa5; 3 * COUPLE_BYTES - 1];
     assert_eq!(standin::crossings(&named_entry("G").text, 0, 1, &mut out), 3 * 65_536);
-    let first: Vec<u8> = [33_u64, 64, 33, 192].into_iter().flat_map(u64::to_le_bytes).collect();
-    assert_eq!((&out[..32], out[32]), (&first[..], 0xa5));
+    let first = words(&[1, 0, 3, 2, 0, 1, 1, 0, 3, 6, 0, 1]);
+    let (written, rest) = out.split_at(2 * COUPLE_BYTES);
+    assert_eq!((written, rest), (&first[..], &[0xa5; COUPLE_BYTES - 1][..]));
+    let mut out = [0xa5; COUPLE_BYTES];
+    assert_eq!(standin::crossings(&named_entry("two upgraders").text, 0, 1, &mut out), 65_536);
+    assert_eq!(out.to_vec(), words(&[0, 1, 1, 0, 1, 1]));
 }
 
 /// Rule 14 behind the plan's rules, and nothing written.
@@ -284,7 +290,7 @@ impl Crossings {
         });
     }
 
-    /// Of 20,000 texts.
+    /// Of 40,000 texts.
     pub fn enough(&self) {
         assert!(self.one_thread >= 300 && self.crossed >= 1_000 && self.beside >= 1_000);
         assert!(self.three >= 100 && self.one_procedure >= 300 && self.not_in_one >= 300);

@@ -4,6 +4,7 @@ use lockplan_tests::answer::FREE;
 use lockplan_tests::askew;
 use lockplan_tests::branches::{about_branches, bent};
 use lockplan_tests::reference::{MAX_BRACKETS, MAX_STATEMENTS};
+use lockplan_tests::shares::mixed;
 use lockplan_tests::straight::{printed, straight, straightened};
 
 use super::*;
@@ -148,14 +149,19 @@ fn bent_plans() {
 #[test]
 fn straightened_copies_find_faults() {
     let names = ["rule 5 of the copy", "rule 1 by the bytes of the text"];
-    let fixed: Vec<Vec<u8>> = shelf::branching().into_iter().map(|entry| entry.text).collect();
+    let entries = shelf::branching().into_iter().chain(shelf::shares());
+    let fixed: Vec<Vec<u8>> = entries.map(|entry| entry.text).collect();
     let faulty = standin::FAULTY_STRAIGHTS.into_iter().filter(|(name, _)| !names.contains(name));
     for (name, straight) in faulty {
         let calls = Calls { straight, ..standin::CALLS };
         let mut twins = Twins::default();
         let found = (0..2_000).find_map(|index| {
             let random = &mut Random::of_text(304, index as u64);
-            let text = fixed.get(index).cloned().unwrap_or_else(|| about_branches(random).text());
+            let branches = |random: &mut Random| {
+                let draft = about_branches(random);
+                mixed(&draft, 30, 0, random).text()
+            };
+            let text = fixed.get(index).cloned().unwrap_or_else(|| branches(random));
             let message = twins.check(calls, &text, &read(&text), random).err()?;
             Some((index, message))
         });
@@ -248,6 +254,7 @@ pub struct Branches {
     loop_in_either: usize,
     either_in_loop: usize,
     in_hold: usize,
+    in_share: usize,
     /// With both blocks of an either equal.
     equal_blocks: usize,
     /// With an either as a procedure's last statement.
@@ -275,7 +282,7 @@ fn any(block: &[Tree], told: &dyn Fn(&Tree) -> bool) -> bool {
         told(tree)
             || match tree {
                 Tree::Skip | Tree::Call(_) => false,
-                Tree::Hold(_, body) | Tree::Loop(body) => any(body, told),
+                Tree::Hold(_, body) | Tree::Share(_, body) | Tree::Loop(body) => any(body, told),
                 Tree::Either(one, two) => any(one, told) || any(two, told),
             }
     })
@@ -286,7 +293,7 @@ fn depths(block: &[Tree]) -> (usize, usize) {
     let most = |one: (usize, usize), two: (usize, usize)| (one.0.max(two.0), one.1.max(two.1));
     let of = |tree: &Tree| match tree {
         Tree::Skip | Tree::Call(_) => (0, 0),
-        Tree::Hold(_, body) | Tree::Loop(body) => {
+        Tree::Hold(_, body) | Tree::Share(_, body) | Tree::Loop(body) => {
             let (eithers, brackets) = depths(body);
             (eithers, brackets + 1)
         }
@@ -327,6 +334,7 @@ impl Branches {
             count(&|tree| matches!(tree, Tree::Either(one, two) if any(one, &round) || any(two, &round)));
         self.either_in_loop += count(&|tree| matches!(tree, Tree::Loop(body) if any(body, &either)));
         self.in_hold += count(&|tree| matches!(tree, Tree::Hold(_, body) if any(body, &branch)));
+        self.in_share += count(&|tree| matches!(tree, Tree::Share(_, body) if any(body, &branch)));
         self.equal_blocks += count(&|tree| matches!(tree, Tree::Either(one, two) if one == two));
         self.last += usize::from(draft.procs.iter().any(|body| body.last().is_some_and(either)));
         let depths: Vec<(usize, usize)> = draft.procs.iter().map(|body| depths(body)).collect();
@@ -344,10 +352,11 @@ impl Branches {
         self.called += usize::from(!idle(&Draft { procs, ..draft }).is_empty());
     }
 
-    /// Of 20,000 texts.
+    /// Of 40,000 texts.
     pub fn enough(&self) {
         assert!(self.eithers > 2_000 && self.loops > 2_000 && self.none > 2_000);
         assert!(self.loop_in_either > 500 && self.either_in_loop > 500 && self.in_hold > 1_000);
+        assert!(self.in_share > 500);
         assert!(self.equal_blocks >= 300 && self.last >= 300);
         assert!(self.eight >= 20 && self.sixteen >= 100);
         assert!(self.free > 1_000 && self.deadlock > 1_000);

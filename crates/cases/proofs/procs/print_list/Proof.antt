@@ -1,4 +1,4 @@
--- Each turn passes a pair.
+-- Each turn passes a word.
 use borrow.Author.Needs.{needs}
 use Prim.Native.Nat.{_-_, _≤_}
 use lib.ListN.{length}
@@ -6,25 +6,22 @@ use Rattle.cases.proofs.procs.print_list.Statement.{statement}
 use Rattle.cases.proofs.procs.print_list.Tie as tie
 
 abbrev Inv-loop : tie.InvT-loop
-Inv-loop pairs i₀ t3 t4 i = i ≤ length pairs
+Inv-loop words i₀ t3 i = i ≤ length words
 
 abbrev μ-loop : tie.MeasureT-loop
-μ-loop pairs i₀ t3 t4 i = length pairs - i
+μ-loop words i₀ t3 i = length words - i
 
 loop-holds : tie.Need-loop-holds Inv-loop μ-loop
 loop-holds c = search needs
 
-slice-aggregate-print-number : tie.Need-slice-aggregate-print-number Inv-loop μ-loop
-slice-aggregate-print-number c = search needs
+mul-print-word : tie.Need-mul-print-word Inv-loop μ-loop
+mul-print-word c = search needs
 
-mul-print-number : tie.Need-mul-print-number Inv-loop μ-loop
-mul-print-number c = search needs
+shared-slice-read-print-word : tie.Need-shared-slice-read-print-word Inv-loop μ-loop
+shared-slice-read-print-word c = search needs
 
-shared-slice-read-print-number : tie.Need-shared-slice-read-print-number Inv-loop μ-loop
-shared-slice-read-print-number c = search needs
-
-print-number-requires : tie.Need-print-number-requires Inv-loop μ-loop
-print-number-requires c κs = search needs
+print-word-requires : tie.Need-print-word-requires Inv-loop μ-loop
+print-word-requires c κs = search needs
 
 add-i : tie.Need-add-i Inv-loop μ-loop
 add-i c = search needs
@@ -51,10 +48,9 @@ print-list-spec =
     Inv-loop
     μ-loop
     loop-holds
-    slice-aggregate-print-number
-    mul-print-number
-    shared-slice-read-print-number
-    print-number-requires
+    mul-print-word
+    shared-slice-read-print-word
+    print-word-requires
     add-i
     loop-less
     loop-again

@@ -14,8 +14,8 @@ abbrev μ-loop : tie.MeasureT-loop
 loop-holds : tie.Need-loop-holds Inv-loop μ-loop
 loop-holds c = search needs
 
-holders-requires : tie.Need-holders-requires Inv-loop μ-loop
-holders-requires c κs = search needs
+apart-at-requires : tie.Need-apart-at-requires Inv-loop μ-loop
+apart-at-requires c κs = search needs
 
 returns : tie.Need-returns Inv-loop μ-loop
 returns c = search needs
@@ -39,7 +39,7 @@ apart-spec =
     Inv-loop
     μ-loop
     loop-holds
-    holders-requires
+    apart-at-requires
     returns
     add-lock
     loop-less

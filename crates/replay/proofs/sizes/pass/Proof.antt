@@ -15,32 +15,8 @@ abbrev μ-loop : tie.MeasureT-loop
 loop-holds : tie.Need-loop-holds Inv-loop μ-loop
 loop-holds c = search needs
 
-letter-requires : tie.Need-letter-requires Inv-loop μ-loop
-letter-requires c κs = search needs
-
-next-entry-requires : tie.Need-next-entry-requires Inv-loop μ-loop
-next-entry-requires c κs = search needs
-
-cost-requires : tie.Need-cost-requires Inv-loop μ-loop
-cost-requires c κs = search needs
-
-mul-so-far : tie.Need-mul-so-far Inv-loop μ-loop
-mul-so-far c = search needs
-
-slice-read-so-far : tie.Need-slice-read-so-far Inv-loop μ-loop
-slice-read-so-far c = search needs
-
-so-far-requires : tie.Need-so-far-requires Inv-loop μ-loop
-so-far-requires c κs = search needs
-
-wrapping-add-usize-requires : tie.Need-wrapping-add-usize-requires Inv-loop μ-loop
-wrapping-add-usize-requires c κs = search needs
-
-mul-sizes : tie.Need-mul-sizes Inv-loop μ-loop
-mul-sizes c = search needs
-
-slice-write-sizes : tie.Need-slice-write-sizes Inv-loop μ-loop
-slice-write-sizes c = search needs
+add-line-requires : tie.Need-add-line-requires Inv-loop μ-loop
+add-line-requires c κs = search needs
 
 next-line-requires : tie.Need-next-line-requires Inv-loop μ-loop
 next-line-requires c κs = search needs
@@ -64,15 +40,7 @@ pass-spec =
     Inv-loop
     μ-loop
     loop-holds
-    letter-requires
-    next-entry-requires
-    cost-requires
-    mul-so-far
-    slice-read-so-far
-    so-far-requires
-    wrapping-add-usize-requires
-    mul-sizes
-    slice-write-sizes
+    add-line-requires
     next-line-requires
     loop-less
     loop-again

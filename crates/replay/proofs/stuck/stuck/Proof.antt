@@ -17,11 +17,8 @@ loop-holds c = search needs
 member-requires : tie.Need-member-requires Inv-loop μ-loop
 member-requires c κs = search needs
 
-wanted-requires : tie.Need-wanted-requires Inv-loop μ-loop
-wanted-requires c κs = search needs
-
-held-beside-requires : tie.Need-held-beside-requires Inv-loop μ-loop
-held-beside-requires c κs = search needs
+refused-requires : tie.Need-refused-requires Inv-loop μ-loop
+refused-requires c κs = search needs
 
 returns : tie.Need-returns Inv-loop μ-loop
 returns c = search needs
@@ -46,8 +43,7 @@ stuck-spec =
     μ-loop
     loop-holds
     member-requires
-    wanted-requires
-    held-beside-requires
+    refused-requires
     returns
     add-t
     loop-less
