@@ -7,7 +7,6 @@
  *   verdict    0 LOCKPLAN_FREE         0            0
  *              1 LOCKPLAN_DEADLOCK     stuck set    number of schedule entries
  *              2 LOCKPLAN_REFUSED      rule         line (0 where none is named)
- *              3 LOCKPLAN_GROWN        stuck set    number of schedule entries
  *   space      0 LOCKPLAN_NEEDED       0            number of entries to lend
  *              2 LOCKPLAN_REFUSED      rule         line (0 where none is named)
  *   pairs      0 LOCKPLAN_LISTED       0            number of pairs
@@ -19,31 +18,21 @@
  *   crossings  0 LOCKPLAN_CROSSED      0            number of all couples
  *              2 LOCKPLAN_REFUSED      rule         line (0 where none is named)
  *
- * A line (thread P A B) stands for from A to B copies of procedure P, and (thread P)
- * for one. Free: no threads can become stuck, at any counts. Deadlock: some can even at
- * the lowest counts, and so at all. Grown: none can at the lowest counts, and some at
- * the highest. The schedule is one for the highest counts. Threads are numbered from 0
- * at the highest counts, in the order of their lines, the B copies of a line one after
- * the other; so it is in schedules, stuck sets, sums of sizes and crossings. A line
- * with B zero or A above B is refused with rule 15, and one that takes the sum of all B
- * past 6 with rule 5.
- *
  * The stuck set has bit t for thread t. The tidy copy is the plan without what is
- * passed over: one form a line, each line ended, nothing else; it has (thread P) for
- * (thread P 1 1). The straightened copy is the tidy copy of the plan in which every
- * either is replaced by its two blocks, one after the other, and every loop by its
- * block: it is accepted, with the same pairs, procedure by procedure, and the same
- * free, deadlock or grown; its schedule may be another. An answer fills the buffer's
- * start, each entry or word lowest byte first, and keeps the rest; free and refused
- * keep the whole buffer. Lengths are in bytes. No pointer is null, also where its
- * length is 0, and the two buffers do not overlap.
+ * passed over: one form a line, each line ended, nothing else. The straightened copy is
+ * the tidy copy of the plan in which every either is replaced by its two blocks, one
+ * after the other, and every loop by its block: it is accepted, with the same pairs,
+ * procedure by procedure, and the same free or deadlock; its schedule may be another. An
+ * answer fills the buffer's start, each entry or word lowest byte first, and keeps the
+ * rest; free and refused keep the whole buffer. Lengths are in bytes. No pointer is null,
+ * also where its length is 0, and the two buffers do not overlap.
  *
  * How much to lend to the verdict: ask lockplan_space, which needs no buffer. It
- * answers with the sum of the sizes of the plan's threads, at the highest counts, and a
- * buffer of so many whole entries, two bytes each, always suffices; one of fewer is
- * refused with rule 1, also where the answer would be free, but only if no rule of the
- * plan is broken. LOCKPLAN_ENTRIES suffice for every plan. lockplan_space refuses by
- * the plan's rules: a text that it refuses the verdict refuses alike, whatever is lent.
+ * answers with the sum of the sizes of the plan's threads, and a buffer of so many
+ * whole entries, two bytes each, always suffices; one of fewer is refused with rule
+ * 1, also where the answer would be free, but only if no rule of the plan is broken.
+ * LOCKPLAN_ENTRIES suffice for every plan. lockplan_space refuses by the plan's
+ * rules: a text that it refuses the verdict refuses alike, whatever is lent.
  *
  * A buffer of fewer words or bytes than the constants below is refused with rule 1
  * by the pair list and the two copies, before the plan is looked at.
@@ -53,14 +42,15 @@
  * set lock k is the bit 2 to the power k. A list is in the order of these words in turn,
  * and its number is one of pairs, not of words.
  *
- * The crossings of two threads are the couples of a critical pair of the first and one
- * of the second whose locks may stand together, and each of which wants what may not
- * stand beside what the other has: none exactly where these two threads alone can never
- * become stuck. No lock may be held in one thread while another holds or shares it. The
- * order is by the first pair, then the second. The buffer may have any length, also 0:
- * it takes the first couples that fit whole, LOCKPLAN_COUPLE_BYTES each, and the count
- * is of all. A thread that is not there, or the same one twice, is refused with rule
- * 14, line 0, but only if no rule of the plan is broken.
+ * The crossings of two threads, which are numbered from 0 in the order of their lines,
+ * are the couples of a critical pair of the first and one of the second whose locks may
+ * stand together, and each of which wants what may not stand beside what the other has:
+ * none exactly where these two threads alone can never become stuck. No lock may be held
+ * in one thread while another holds or shares it. The order is by the first pair, then
+ * the second. The buffer may have any length, also 0: it takes the first couples that fit
+ * whole, LOCKPLAN_COUPLE_BYTES each, and the count is of all. A thread that is not
+ * there, or the same one twice, is refused with rule 14, line 0, but only if no rule of
+ * the plan is broken.
  *
  * For the stack that a call needs see docs/ANSWERS.md.
  */
@@ -96,7 +86,6 @@ extern "C" {
 #define LOCKPLAN_CROSSED 0
 #define LOCKPLAN_DEADLOCK 1
 #define LOCKPLAN_REFUSED 2
-#define LOCKPLAN_GROWN 3
 
 uint64_t lockplan_verdict(const uint8_t *text, size_t text_len,
                           uint8_t *out, size_t out_len);
@@ -122,7 +111,7 @@ static inline unsigned lockplan_kind(uint64_t answer)
     return (unsigned)(answer & 255);
 }
 
-/* The a of an answer: the stuck set of a deadlock, grown or not, the rule of a refusal. */
+/* The a of an answer: the stuck set of a deadlock, the rule of a refusal. */
 static inline unsigned lockplan_stuck(uint64_t answer)
 {
     return (unsigned)(answer >> 8 & 255);

@@ -70,7 +70,7 @@ static void print_verdict(uint64_t answer, const uint8_t *entries)
         printf("(free)\n");
         return;
     }
-    printf("(%s\n(stuck", lockplan_kind(answer) == LOCKPLAN_GROWN ? "grown" : "deadlock");
+    printf("(deadlock\n(stuck");
     for (thread = 0; thread < 8; thread++)
         if (lockplan_stuck(answer) >> thread & 1)
             printf(" %u", thread);
@@ -245,7 +245,7 @@ static int verdict(size_t length)
         return 2;
     memset(entries, 0xa5, lent + BEHIND);
     answer = lockplan_verdict(text, length, entries, lent);
-    if (lockplan_kind(answer) == LOCKPLAN_DEADLOCK || lockplan_kind(answer) == LOCKPLAN_GROWN)
+    if (lockplan_kind(answer) == LOCKPLAN_DEADLOCK)
         filled = 2 * (size_t)lockplan_count(answer);
     right = filled <= lent && kept(entries, filled, lent + BEHIND);
     if (right && lockplan_kind(answer) == LOCKPLAN_REFUSED)

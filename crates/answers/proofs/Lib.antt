@@ -1,6 +1,5 @@
--- The numbers of a refusal are small, an answer by its cases, that an answer can be read back from its number, and that each of the three verdicts is given exactly when it is true.
+-- The numbers of a refusal are small, an answer by its cases, and that an answer can be read back from its number.
 pub mod LineBounds
 pub mod Sums
 pub mod Counts
 pub mod ReadBack
-pub mod ThreeAnswers

@@ -1,4 +1,4 @@
--- A refusal's numbers are small: the rule is one of 1 to 9 and 11 to 15, and the line is 0 or at most one more than the file has lines, of which there are no more than bytes.
+-- A refusal's numbers are small: the rule is one of 1 to 9 and 11 to 14, and the line is 0 or at most one more than the file has lines, of which there are no more than bytes.
 -- Of the rules over the forms this asks nothing but their numbers: every line that `line_of` gives is such a line.
 use Prim.Native.Nat.{ℕ, suc, ◌+◌, ◌^◌, ◌<◌, ◌≤◌}
 use native.Mathlib.Omega.{arith}
@@ -112,7 +112,7 @@ module _ (fs : List Form) where
       let by : (rule : ℕ) → rule < 256 → If SmallRule (refused_at rule (breaking_form rule fs)) = λ rule h. small_at rule (breaking_form rule fs) h in
       if_or _ _
       (if_or _ _ (small_at 4 (misplaced_form fs) (omega arith))
-      (λ _. if_or _ _ (small_at 5 (past_limit_form fs) (omega arith)) (λ _. if_or _ _ (by 6 (omega arith)) (λ _. if_or _ _ (by 7 (omega arith)) (λ _. if_or _ _ (by 8 (omega arith)) (λ _. by 15 (omega arith)))))))
+      (λ _. if_or _ _ (small_at 5 (past_limit_form fs) (omega arith)) (λ _. if_or _ _ (by 6 (omega arith)) (λ _. if_or _ _ (by 7 (omega arith)) (λ _. by 8 (omega arith))))))
       (λ _. if_or _ _ (if_or _ _ (small-proc 12 _ (omega arith)) (λ _. small-proc 13 _ (omega arith))) (λ _. small-proc 9 _ (omega arith)))
 
 module _ (text : List ℕ) where

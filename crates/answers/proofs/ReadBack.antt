@@ -12,16 +12,15 @@ use Rattle.laws.specs.Mask.{in_mask}
 use Rattle.laws.proofs.Masks.{mask_below}
 use Rattle.laws.proofs.Tests.{first-none}
 use Rattle.semantics.specs.Plan.{LockPlan}
-use Rattle.semantics.specs.Ranges.{highest}
 use Rattle.semantics.specs.Run.{start}
 use Rattle.semantics.specs.Stuck.{Schedule}
 use Rattle.semantics.proofs.Gateway.Steps.{thread_at-some}
 use Rattle.semantics.proofs.Gateway.Invariant.{run_length, start-length}
 use Rattle.text.specs.declared.Refusal.{Refusal}
-use Rattle.plan.specs.Rules.{plan_refusal, tree_of, plan_of, too_few_entries, verdict_refusal}
+use Rattle.plan.specs.Rules.{plan_refusal, plan_of, too_few_entries, verdict_refusal}
 use Rattle.plan.proofs.AcceptedTable.{accepted-settled}
 use Rattle.answers.specs.declared.Verdict.{Verdict}
-use Rattle.answers.specs.declared.Verdict.TheVariants.{Free, Deadlock, Grown}
+use Rattle.answers.specs.declared.Verdict.TheVariants.{Free, Deadlock}
 use Rattle.answers.specs.declared.Verdict.TheVariants as verdict
 use Rattle.answers.specs.declared.Counted.TheVariants.{Count, Refused}
 use Rattle.answers.specs.Answers.{answer_number, counted_of, counted_number, read_counted, verdict_number, read_verdict}
@@ -37,7 +36,7 @@ schedule-below plan es S few s =
     let member : (t : ℕ) → T (in_mask S t) → t < max_threads = λ t m. let a = s.largest.stuck.able t m in omega (arith, present, (thread_at-some s.there t a.1 a.3).0) in
     omega (arith, mask_below S max_threads member)
 
-few-threads : (text : List ℕ) (lent : ℕ) → verdict_refusal text lent ≡ none → length (highest (tree_of text)).threads ≤ max_threads
+few-threads : (text : List ℕ) (lent : ℕ) → verdict_refusal text lent ≡ none → length (plan_of text).threads ≤ max_threads
 unfolding verdict_refusal
 few-threads text lent e = (accepted-settled text (first-none (plan_refusal text) (too_few_entries (plan_of text) lent) e).0).few-threads
 
@@ -54,22 +53,19 @@ module _ (kind a b : ℕ) (h : kind < 256) (k : a < 256) where
   high_read = omega arith
 
 -- the verdict, by what holds of it
-pub verdict-read : (text : List ℕ) (lent : ℕ) (v : Verdict) (es : List ℕ) → Judgement (verdict_refusal text lent) (tree_of text) v es → read_verdict (verdict_number v) ≡ v
+pub verdict-read : (text : List ℕ) (lent : ℕ) (v : Verdict) (es : List ℕ) → Judgement (verdict_refusal text lent) (plan_of text) v es → read_verdict (verdict_number v) ≡ v
 unfolding Judgement verdict_number read_verdict
 verdict-read text lent Free es j = refl
 verdict-read text lent (Deadlock n S) es j =
-    let small = schedule-below (highest (tree_of text)) es S (few-threads text lent j.0) j.2 in
+    let small = schedule-below (plan_of text) es S (few-threads text lent j.0) j.2 in
     rw (kind-read 1 S n (omega arith) small, low_read 1 S n (omega arith) small, high_read 1 S n (omega arith) small)
-verdict-read text lent (Grown n S) es j =
-    let small = schedule-below (highest (tree_of text)) es S (few-threads text lent j.0) j.2 in
-    rw (kind-read 3 S n (omega arith) small, low_read 3 S n (omega arith) small, high_read 3 S n (omega arith) small)
 verdict-read text lent (verdict.Refused x) es j =
     let small = (verdict_bounded text lent x j.0).rule in
     rw (kind-read 2 x.rule x.line (omega arith) small, low_read 2 x.rule x.line (omega arith) small, high_read 2 x.rule x.line (omega arith) small)
 
 -- equal numbers, equal verdicts, whatever the texts and the buffers
-pub verdicts-equal : (text text' : List ℕ) (lent lent' : ℕ) (v w : Verdict) (es es' : List ℕ) → Judgement (verdict_refusal text lent) (tree_of text) v es
-    → Judgement (verdict_refusal text' lent') (tree_of text') w es' → verdict_number v ≡ verdict_number w → v ≡ w
+pub verdicts-equal : (text text' : List ℕ) (lent lent' : ℕ) (v w : Verdict) (es es' : List ℕ) → Judgement (verdict_refusal text lent) (plan_of text) v es
+    → Judgement (verdict_refusal text' lent') (plan_of text') w es' → verdict_number v ≡ verdict_number w → v ≡ w
 verdicts-equal text text' lent lent' v w es es' j k h = sym (verdict-read text lent v es j) ∙ ap read_verdict h ∙ verdict-read text' lent' w es' k
 
 -- how much

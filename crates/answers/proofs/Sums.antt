@@ -5,10 +5,9 @@ use Rattle.text.specs.declared.Refusal.{Refusal}
 use Rattle.answers.specs.declared.Counted.{Counted}
 use Rattle.answers.specs.declared.Counted.TheVariants.{Count, Refused}
 use Rattle.answers.specs.declared.Verdict.{Verdict}
-use Rattle.answers.specs.declared.Verdict.TheVariants.{Deadlock, Grown}
+use Rattle.answers.specs.declared.Verdict.TheVariants.{Deadlock}
 use Rattle.answers.specs.declared.Verdict.TheVariants as verdict
 use Rattle.answers.specs.Answers.{counted_number, counted_high, verdict_number, verdict_high}
-use Rattle.answers.specs.Judgement.{schedule_length}
 
 -- of each answer: part b is small in each of its cases, and the number of a case is the answer's
 module _ (r : Counted) where
@@ -28,16 +27,9 @@ module _ (r : Verdict) where
   unfolding verdict_high
   high-entries m S h e = rw e at h
 
-  pub grown-entries : (m S : ℕ) → verdict_high r < 2 ^ 40 → r ≡ Grown m S → m < 2 ^ 40
-  unfolding verdict_high
-  grown-entries m S h e = rw e at h
-
   pub verdict-line : (x : Refusal) → verdict_high r < 2 ^ 40 → r ≡ verdict.Refused x → x.line < 2 ^ 40
   unfolding verdict_high
   verdict-line x h e = rw e at h
 
   pub verdict_case : (k : Verdict) (v : ℕ) → r ≡ k → v ≡ verdict_number k → v ≡ verdict_number r
   verdict_case k v e h = h ∙ ap verdict_number (sym e)
-
-  pub length_case : (k : Verdict) (v : ℕ) → r ≡ k → v ≡ schedule_length k → v ≡ schedule_length r
-  length_case k v e h = h ∙ ap schedule_length (sym e)

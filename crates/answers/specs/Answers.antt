@@ -5,7 +5,7 @@ use Rattle.laws.specs.Wrote.{filled}
 use Rattle.text.specs.declared.Refusal.{Refusal}
 use Rattle.text.specs.Lines.{refusal}
 use Rattle.answers.specs.declared.Verdict.{Verdict}
-use Rattle.answers.specs.declared.Verdict.TheVariants.{Free, Deadlock, Grown}
+use Rattle.answers.specs.declared.Verdict.TheVariants.{Free, Deadlock}
 use Rattle.answers.specs.declared.Verdict.TheVariants as verdict
 use Rattle.answers.specs.declared.Counted.{Counted}
 use Rattle.answers.specs.declared.Counted.TheVariants.{Count, Refused}
@@ -39,28 +39,24 @@ counted_high (Refused x) = x.line
 
 -- ---- the verdict
 
--- kind 0, free; kind 1, deadlock: a is the stuck set (bit t for thread t), b the number of entries; kind 2, refused: a is the rule, b the line; kind 3,
--- grown (02, change 10): a and b as for a deadlock
+-- kind 0, free; kind 1, deadlock: a is the stuck set (bit t for thread t), b the number of entries; kind 2, refused: a is the rule, b the line
 unfoldable pub verdict_number : Verdict → ℕ
 verdict_number Free = answer_number 0 0 0
 verdict_number (Deadlock n S) = answer_number 1 S n
 verdict_number (verdict.Refused x) = answer_number 2 x.rule x.line
-verdict_number (Grown n S) = answer_number 3 S n
 
 -- the verdict of a number
 unfoldable pub read_verdict : ℕ → Verdict
 read_verdict r =
     cond (eqb (r % 256) 0) Free
     (cond (eqb (r % 256) 1) (Deadlock (r / 65536) (r / 256 % 256))
-    (cond (eqb (r % 256) 3) (Grown (r / 65536) (r / 256 % 256))
-    (verdict.Refused (refusal (r / 256 % 256) (r / 65536)))))
+    (verdict.Refused (refusal (r / 256 % 256) (r / 65536))))
 
 -- the part b of the verdict
 unfoldable pub verdict_high : Verdict → ℕ
 verdict_high Free = 0
 verdict_high (Deadlock n S) = n
 verdict_high (verdict.Refused x) = x.line
-verdict_high (Grown n S) = n
 
 -- ---- what is written
 

@@ -1,7 +1,6 @@
 // The answers of the calls, and the 64-bit numbers that carry them to C.
 ghost use Rattle.std.specs.Prelude.{◌≡◌, ◌^◌, ◌<◌};
 ghost use Rattle.answers.specs.Answers.{answer_number, counted_number, counted_high, verdict_number, verdict_high};
-ghost use Rattle.answers.specs.Judgement.{schedule_length};
 
 use text::Refusal;
 
@@ -12,27 +11,12 @@ pub enum Counted {
     Refused(Refusal),
 }
 
-// The verdict on a plan. Free: no run of its gateway reaches a stuck set, at any counts from the lowest to the highest; deadlock: some run does even at the lowest; grown: some run
-// does at the highest and none at the lowest; or the refusal. Deadlock and grown carry a schedule at the highest counts: so many entries lead to a stuck set, the largest there (bit
-// t for thread t).
+// The verdict on a plan: no run of its gateway reaches a stuck set; a schedule of so many entries leads to one, the largest there (bit t for thread t); or the refusal.
 #[derive(Drop)]
 pub enum Verdict {
     Free,
     Deadlock { entries: usize, stuck: u8 },
     Refused(Refusal),
-    Grown { entries: usize, stuck: u8 },
-}
-
-// How many entries the schedule of a verdict has: none where it is free or a refusal.
-pub fn schedule_length(verdict: Verdict) -> usize
-    ensures { result ≡ schedule_length verdict }
-{
-    match verdict {
-        Verdict::Free => 0,
-        Verdict::Deadlock { entries, stuck: _ } => entries,
-        Verdict::Refused(_) => 0,
-        Verdict::Grown { entries, stuck: _ } => entries,
-    }
 }
 
 // Kind, a and b as one number: kind + 256 × a + 65,536 × b.
@@ -63,6 +47,5 @@ pub fn verdict_number(verdict: Verdict) -> u64
         Verdict::Free => number_of(0, 0, 0),
         Verdict::Deadlock { entries, stuck } => number_of(1, stuck, entries),
         Verdict::Refused(refusal) => number_of(2, refusal.rule, refusal.line),
-        Verdict::Grown { entries, stuck } => number_of(3, stuck, entries),
     }
 }

@@ -13,7 +13,7 @@ use Rattle.laws.specs.Wrote.{Wrote}
 use Rattle.laws.proofs.Folds.{map_at}
 use Rattle.laws.proofs.Wrote.{wrote_none, wrote-more, wrote-length, part-wrote}
 use Rattle.text.specs.declared.Form.{Form}
-use Rattle.text.specs.Forms.{write, ShortNumbers, is_close}
+use Rattle.text.specs.Forms.{write, number_in, is_close}
 use Rattle.text.specs.Lines.{text_of}
 use Rattle.plan.specs.Table.{form_at, table_forms}
 use Rattle.bare_text.specs.Writing.{form_line, SmallTable, bytes_from, RoomFor, opens_block, is_retained, line_if, innermost, enclosing, around, retained_forms}
@@ -167,7 +167,7 @@ module _ (ws : List ℕ) (at : ℕ) (f : Form) (h : at < length ws) (e : f ≡ f
       ap text_of (forms-at ws at h) ∙ ap (λ g. text_of (g ∷ drop (at + 1) (table_forms ws))) (sym e) ∙ sym (append_assoc (write f) (10 ∷ []) rest) in
       sym (length-append (form_line f) rest) ∙ sym (ap length split)
 
-  pub item_small : SmallTable ws → ShortNumbers f
+  pub item_small : SmallTable ws → number_in f < 1000
   unfolding SmallTable
   item_small s = rw e (s at h)
 

@@ -1,13 +1,10 @@
 -- What the writers of a copy leave in the output that they were lent: at its start the lines of the forms that the copy retains. 02, change 1: "each nested part is written
 -- into what is left of the lent output". A tidy copy retains all forms, a straightened one is without those of loops and eithers (change 8).
-use Rattle.std.specs.Prelude.{ℕ, ◌+◌, ◌<◌, ◌≤◌, Bool, true, not, ◌&&◌, cond, List, [], ◌∷◌, ◌++◌, ◌≡◌, eqb, length, drop, get_or}
-use Rattle.laws.specs.Bytes.{bytes}
-use Rattle.laws.specs.Choice.{pick}
-use Rattle.report_lines.specs.Lines.{digits, behind_blank}
+use Rattle.std.specs.Prelude.{ℕ, ◌+◌, ◌<◌, ◌≤◌, Bool, true, not, ◌&&◌, cond, List, [], ◌∷◌, ◌++◌, ◌≡◌, length, drop, get_or}
 use Rattle.laws.specs.Wrote.{Wrote}
 use Rattle.text.specs.declared.Form.{Form}
 use Rattle.text.specs.declared.Form.TheVariants.{Plan, Proc, Hold, Loop, Either, One, Two, Share}
-use Rattle.text.specs.Forms.{write, ShortNumbers, kind_in, is_close}
+use Rattle.text.specs.Forms.{write, number_in, kind_in, is_close}
 use Rattle.text.specs.Lines.{text_of}
 use Rattle.plan.specs.Table.{form_at, table_forms}
 
@@ -15,21 +12,9 @@ use Rattle.plan.specs.Table.{form_at, table_forms}
 unfoldable pub form_line : Form → List ℕ
 form_line f = write f ++ (10 ∷ [])
 
--- the counts of a thread line, A and B
-unfoldable pub counts_part : ℕ → ℕ → List ℕ
-counts_part a b = behind_blank a ++ behind_blank b
-
--- a thread line of three numbers, in digits, ended
-unfoldable pub range_line : ℕ → ℕ → ℕ → List ℕ
-range_line p a b = bytes "(thread " ++ digits p ++ counts_part a b ++ bytes ")\n"
-
--- a thread line as a tidy copy has it: without its counts where they are 1 and 1
-unfoldable pub thread_text : ℕ → ℕ → ℕ → List ℕ
-thread_text p a b = pick (eqb a 1) (pick (eqb b 1) (bytes "(thread " ++ digits p ++ bytes ")\n") (range_line p a b)) (range_line p a b)
-
 -- the numbers of a table's forms are below 1,000: they have at most three digits
 unfoldable pub SmallTable : List ℕ → Type 0
-SmallTable ws = (k : ℕ) → k < length ws → ShortNumbers (form_at (get_or ws k 0))
+SmallTable ws = (k : ℕ) → k < length ws → number_in (form_at (get_or ws k 0)) < 1000
 
 -- how many bytes the lines of a table's forms have from a place on
 abbrev pub bytes_from : List ℕ → ℕ → ℕ

@@ -1,11 +1,11 @@
 // The writer of a plan's text in 01's bare form, from the table of its forms: all of them, or those that straightening retains.
 ghost use Rattle.std.specs.Prelude.{true, [], ◌++◌, ◌≡◌, ◌+◌, ◌≤◌, ◌<◌, length};
 ghost use Rattle.laws.specs.Wrote.{Wrote};
-ghost use Rattle.text.specs.Forms.{ShortNumbers};
+ghost use Rattle.text.specs.Forms.{number_in};
 ghost use Rattle.text.specs.Lines.{text_of};
 ghost use Rattle.plan.specs.Table.{table_forms};
 ghost use Rattle.report_lines.specs.Lines.{digits};
-ghost use Rattle.bare_text.specs.Writing.{counts_part, range_line, thread_text, form_line, SmallTable, RoomFor, opens_block, is_retained, line_if, retained_forms, WroteItems};
+ghost use Rattle.bare_text.specs.Writing.{form_line, SmallTable, RoomFor, opens_block, is_retained, line_if, retained_forms, WroteItems};
 
 use text::Form;
 
@@ -26,48 +26,15 @@ fn put_number_line(out: &mut [u8], keyword: &[u8], n: u16, rest: &[u8]) -> usize
     report_lines::put_text(out, i, rest)
 }
 
-// Two numbers, each behind a blank.
-fn put_counts(out: &mut [u8], at: usize, a: u16, b: u16) -> usize
-    requires { at + length (counts_part a b) ≤ length out.old }
-    ensures { Wrote out.old out.new at result (counts_part a b) }
-{
-    let i = report_lines::put_numbered(out, at, b" ", a as u64);
-    report_lines::put_numbered(out, i, b" ", b as u64)
-}
-
-// A thread line with its counts.
-fn put_range(out: &mut [u8], p: u16, a: u16, b: u16) -> usize
-    requires { length (range_line p a b) ≤ length out.old }
-    ensures { Wrote out.old out.new 0 result (range_line p a b) }
-{
-    let i = report_lines::put_numbered(out, 0, b"(thread ", p as u64);
-    let j = put_counts(out, i, a, b);
-    report_lines::put_text(out, j, b")\n")
-}
-
-// A thread line: 1 and 1 in the old form.
-fn put_thread(out: &mut [u8], p: u16, a: u16, b: u16) -> usize
-    requires { length (thread_text p a b) ≤ length out.old }
-    ensures { Wrote out.old out.new 0 result (thread_text p a b) }
-{
-    if a != 1 {
-        return put_range(out, p, a, b);
-    }
-    if b != 1 {
-        return put_range(out, p, a, b);
-    }
-    put_number_line(out, b"(thread ", p, b")\n")
-}
-
 // A form's line.
 fn put_form(out: &mut [u8], form: Form) -> usize
-    requires { ShortNumbers form × (length (form_line form) ≤ length out.old) }
+    requires { (number_in form < 1000) × (length (form_line form) ≤ length out.old) }
     ensures { Wrote out.old out.new 0 result (form_line form) }
 {
     match form {
         Form::Plan => report_lines::put_text(out, 0, b"(plan\n"),
         Form::Proc => report_lines::put_text(out, 0, b"(proc\n"),
-        Form::Thread(p, a, b) => put_thread(out, p, a, b),
+        Form::Thread(n) => put_number_line(out, b"(thread ", n, b")\n"),
         Form::Close => report_lines::put_text(out, 0, b")\n"),
         Form::Skip => report_lines::put_text(out, 0, b"(skip)\n"),
         Form::Call(n) => put_number_line(out, b"(call ", n, b")\n"),
@@ -85,7 +52,7 @@ fn opens_block(form: Form) -> bool
     ensures { result ≡ opens_block form }
 {
     match form {
-        Form::Thread(_, _, _) | Form::Close | Form::Skip | Form::Call(_) => false,
+        Form::Thread(_) | Form::Close | Form::Skip | Form::Call(_) => false,
         _ => true,
     }
 }
@@ -103,7 +70,7 @@ fn is_retained(form: Form, straighten: bool, enclosed: bool) -> bool
 
 // A form's line, or nothing where the form is not retained.
 fn put_retained(out: &mut [u8], form: Form, retained: bool) -> usize
-    requires { ShortNumbers form × (length (form_line form) ≤ length out.old) }
+    requires { (number_in form < 1000) × (length (form_line form) ≤ length out.old) }
     ensures { Wrote out.old out.new 0 result (line_if retained form) }
 {
     if retained {

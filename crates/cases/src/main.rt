@@ -1,7 +1,6 @@
 // The reference plans of document 01 and some more, from the files that `index` names beside the program: for each the critical pairs of its procedures, the slip of the
 // space that it needs, the verdict or the refusal, where its threads cross, the texts of its procedures, the tidy copy, the straightened one with its own pairs and verdict, and
-// the report. A schedule, of a deadlock or grown, is replayed by a second gateway, crate `replay`, which reads the plan's text by itself: the entries of each verdict, and the
-// steps in the lines of each report.
+// the report. A schedule is replayed by a second gateway, crate `replay`, which reads the plan's text by itself: the entries of each verdict, and the steps in the lines of each report.
 mod copies;
 mod crossings;
 mod failing;
@@ -41,12 +40,9 @@ pub fn show_verdict(text: &[u8], out: &mut [u16]) {
             io::write_all(1, b"  free\n");
         }
         Verdict::Deadlock { entries, stuck } => {
-            schedules::show_schedule(text, b"  deadlock, stuck set ", entries, stuck as u64, out);
+            schedules::show_schedule(text, entries, stuck as u64, out);
         }
         Verdict::Refused(refusal) => print_refused(b"  refused ", refusal),
-        Verdict::Grown { entries, stuck } => {
-            schedules::show_schedule(text, b"  grown, stuck set ", entries, stuck as u64, out);
-        }
     }
 }
 

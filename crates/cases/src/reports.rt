@@ -6,7 +6,6 @@ ghost use Rattle.report_text.specs.Tables.{part_room, Prepared};
 
 use super::schedules::print_stuck;
 use super::{REPORTED, print_number};
-use answers::Verdict;
 use limits::{MAX_ENTRIES, MAX_FORMS};
 use replay::gateway::STATE_ROOM;
 use replay::printed::Told;
@@ -33,11 +32,11 @@ fn read_parts(
     told
 }
 
-// What the steps that are printed lead to, behind the label of the verdict.
-fn print_steps(text: &[u8], label: &[u8], told: Told, state: &[usize])
+// What the steps of a deadlock that is printed lead to.
+fn print_deadlock(text: &[u8], told: Told, state: &[usize])
     requires { state_room ≤ length state.now }
 {
-    print_number(label, told.steps as u64);
+    print_number(b"  as printed: deadlock, steps ", told.steps as u64);
     if !told.right {
         io::write_all(1, b", a line is not right\n");
         return;
@@ -45,62 +44,23 @@ fn print_steps(text: &[u8], label: &[u8], told: Told, state: &[usize])
     print_stuck(replay::stuck::largest(text, state), told.named);
 }
 
-// A report that has no schedule, where it has none.
-fn print_plain(line: &[u8], told: Told) {
-    if told.steps != 0 || told.named != 0 {
-        io::write_all(1, b"  as printed: a schedule without its verdict\n");
-        return;
-    }
-    io::write_all(1, line);
-}
-
-// Whether a report has so many lines of each verdict.
-fn has_words(told: Told, free: usize, deadlocks: usize, grown: usize) -> bool {
-    told.free == free && told.deadlocks == deadlocks && told.grown == grown
-}
-
-// Whether a report has the line of its verdict once and that of no other; none where the text is refused.
-fn as_judged(verdict: Verdict, told: Told) -> bool {
-    match verdict {
-        Verdict::Free => has_words(told, 1, 0, 0),
-        Verdict::Deadlock { .. } => has_words(told, 0, 1, 0),
-        Verdict::Refused(_) => has_words(told, 0, 0, 0),
-        Verdict::Grown { .. } => has_words(told, 0, 0, 1),
-    }
-}
-
-// What a report says, held to the verdict.
-fn print_told(text: &[u8], verdict: Verdict, told: Told, state: &[usize])
+// What a report says: one verdict, or none where the text is refused.
+fn print_told(text: &[u8], told: Told, state: &[usize])
     requires { state_room ≤ length state.now }
 {
-    if !as_judged(verdict, told) {
-        io::write_all(1, b"  as printed: not the verdict\n");
+    if told.free == 0 && told.deadlocks == 1 {
+        print_deadlock(text, told, state);
         return;
     }
-    match verdict {
-        Verdict::Free => print_plain(b"  as printed: free\n", told),
-        Verdict::Deadlock { .. } => {
-            print_steps(text, b"  as printed: deadlock, steps ", told, state);
-        }
-        Verdict::Refused(_) => print_plain(b"  as printed: no verdict\n", told),
-        Verdict::Grown { .. } => print_steps(text, b"  as printed: grown, steps ", told, state),
+    if told.deadlocks != 0 || told.steps != 0 || told.named != 0 || 1 < told.free {
+        io::write_all(1, b"  as printed: not one verdict\n");
+        return;
     }
-}
-
-// Replays what the report on a judged text says.
-fn replay_parts(
-    text: &[u8],
-    findings: Findings,
-    table: &[u64],
-    entries: &[u16],
-    out: &mut [u8],
-    state: &mut [usize],
-)
-    requires { Prepared text.now findings table.now entries.now × (max_entries ≡ length entries.now) × (part_room ≤ length out.old) × (state_room ≤ length state.old) }
-{
-    let told = read_parts(text, findings, table, entries, out, state);
-    let verdict = findings.verdict;
-    print_told(text, verdict, told, state);
+    if told.free == 1 {
+        io::write_all(1, b"  as printed: free\n");
+    } else {
+        io::write_all(1, b"  as printed: no verdict\n");
+    }
 }
 
 // Judges a text as for its report, and replays what the report says.
@@ -115,7 +75,8 @@ fn replay_text(
 {
     let findings = report_text::judge_text(text, table, entries);
     replay::gateway::start(text, state);
-    replay_parts(text, findings, table, entries, out, state);
+    let told = read_parts(text, findings, table, entries, out, state);
+    print_told(text, told, state);
 }
 
 // The same with tables of its own.

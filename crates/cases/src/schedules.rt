@@ -1,4 +1,4 @@
-// The schedule of a verdict: its entries, and what a second gateway comes to by it, at the highest counts.
+// The schedule of a deadlock: its entries, and what a second gateway comes to by it.
 ghost use Rattle.std.specs.Prelude.{◌≤◌, length};
 ghost use Rattle.replay.specs.Tables.{state_room};
 
@@ -63,9 +63,9 @@ fn replay(text: &[u8], schedule: &[u16], named: u64) {
     print_replay(text, schedule, named, &mut state, bound);
 }
 
-// A schedule of n entries behind the verdict's label, and the set of threads that the verdict names stuck at its end.
-pub fn show_schedule(text: &[u8], label: &[u8], n: usize, named: u64, out: &[u16]) {
-    print_number(label, named);
+// A schedule of n entries, and the set of threads that the verdict names stuck at its end.
+pub fn show_schedule(text: &[u8], n: usize, named: u64, out: &[u16]) {
+    print_number(b"  deadlock, stuck set ", named);
     print_number(b", entries ", n as u64);
     io::write_all(1, b":");
     if n <= out.len() {

@@ -1,5 +1,5 @@
--- The rules in checking order: 2 and 3 leave a table of forms, over which 4 to 8 and 15 are tested, then 12, 13 and 9; a form that is named is named by its line. What a text that
--- keeps them leaves, its layout and the space, is found on the way.
+-- The rules in checking order: 2 and 3 leave a table of forms, over which 4 to 8 are tested, then 12, 13 and 9; a form that is named is named by its line. What a text that keeps
+-- them leaves, its layout and the space, is found on the way.
 use Prim.Native.Nat.{ℕ, ◌-◌, ◌≤◌}
 use native.Mathlib.Omega.{arith}
 use mathlib.Core.Path.{◌≡◌, sym, ap, ◌∙◌}
@@ -60,7 +60,7 @@ module _ (ws : List ℕ) (q : Reading) (e : q ≡ reading_of (reach_refusal (tab
           space = λ k. d.space (first-none (reach_refusal fs) (too_large fs) k).1;
         }
 
--- ---- the rules over a table: q is the reading by 4 to 8 and 15
+-- ---- the rules over a table: q is the reading by 4 to 8
 
 module _ (ws : List ℕ) (q : Reading) (e : q ≡ reading_of (grammar_refusal (table_forms ws)) (length ws)) where
   kept-both : forms_refusal (table_forms ws) ≡ none → (grammar_refusal (table_forms ws) ≡ none) × (procs_refusal (table_forms ws) ≡ none)

@@ -48,7 +48,7 @@ fn refused_text(reading: Reading) -> CheckedText
     }
 }
 
-// Rules 4 to 8 and 15 over a table of forms, with a stack of its own for the blocks that are open.
+// Rules 4 to 8 over a table of forms, with a stack of its own for the blocks that are open.
 fn check_grammar(table: &[u64]) -> Reading
     requires { length table.now ≤ max_forms }
     ensures { result ≡ reading_of (grammar_refusal (table_forms table.now)) (length table.now) }
@@ -101,7 +101,7 @@ fn check_plan(table: &[u64]) -> CheckedText
     }
 }
 
-// The rules over a table of forms: 4 to 8, 15, 12, 13, 9.
+// The rules over a table of forms: 4 to 8, 12, 13, 9.
 fn check_table(table: &[u64]) -> CheckedText
     requires { length table.now ≤ max_forms }
     ensures { ChecksTable (forms_refusal (table_forms table.now)) table.now result }
@@ -113,7 +113,7 @@ fn check_table(table: &[u64]) -> CheckedText
     check_plan(table)
 }
 
-// The plan's rules in checking order, 2 to 8, 15, 12, 13, 9; the forms of an accepted text stay in the table.
+// The plan's rules in checking order, 2 to 8, 12, 13, 9; the forms of an accepted text stay in the table.
 pub fn read_text(text: &[u8], table: &mut [u64]) -> CheckedText
     requires { FormRoom text.now table.old }
     ensures { Checks text.now result table.new }

@@ -1,6 +1,5 @@
--- Pairs and their columns, steps, candidates, the lists of several threads.
+-- Pairs and their columns, steps, candidates.
 pub mod Numbers
 pub mod Candidates
 pub mod Steps
 pub mod Buffers
-pub mod Rows

@@ -10,12 +10,11 @@ use Rattle.text.specs.declared.Form.{Form}
 use Rattle.text.specs.declared.Form.TheVariants.{Plan, Proc, Thread, Close, Skip, Call, Hold, Loop, Either, One, Two, Share}
 use Rattle.text.specs.Forms.{write, kind_in, is_close}
 use Rattle.text.specs.Lines.{text_of}
-use Rattle.semantics.specs.Plan.{Block, done, skip, call, hold, loop, either, end, ◌⨾◌}
-use Rattle.semantics.specs.Ranges.{ThreadLine, RangedPlan}
+use Rattle.semantics.specs.Plan.{Block, done, skip, call, hold, loop, either, end, ◌⨾◌, LockPlan}
 use Rattle.semantics.specs.Claims.{lock_of}
 use Rattle.plan.specs.Grammar.{claim_form, block_forms, proc_forms, thread_forms, forms}
 use Rattle.plan.proofs.ClaimForms.{by_claim}
-use Rattle.straightening.specs.Straight.{straight, straight_tree}
+use Rattle.straightening.specs.Straight.{straight, straight_plan}
 use Rattle.bare_text.specs.Writing.{opens_block, left_out, is_retained, innermost, enclosing, around, retained_forms}
 
 -- ---- a tidy copy
@@ -102,16 +101,16 @@ procs_retained [] ks fs = refl
 procs_retained (b ∷ ps) ks fs =
     ap (λ x. Proc ∷ x) (block_retained b (true ∷ ks) (Close ∷ proc_forms ps fs) ∙ ap (λ x. block_forms (straight b) (Close ∷ x)) (procs_retained ps ks fs))
 
-threads_retained : (ns : List ThreadLine) (ks : List Bool) (fs : List Form) → retained_forms true ks (thread_forms ns fs) ≡ thread_forms ns (retained_forms true ks fs)
+threads_retained : (ns : List ℕ) (ks : List Bool) (fs : List Form) → retained_forms true ks (thread_forms ns fs) ≡ thread_forms ns (retained_forms true ks fs)
 unfolding retained_forms around is_retained kind_in thread_forms
 threads_retained [] ks fs = refl
-threads_retained (n ∷ ns) ks fs = ap (λ x. Thread n.proc n.least n.most ∷ x) (threads_retained ns ks fs)
+threads_retained (n ∷ ns) ks fs = ap (λ x. Thread n ∷ x) (threads_retained ns ks fs)
 
-pub straight_retained : (plan : RangedPlan) → retained_forms true [] (forms plan) ≡ forms (straight_tree plan)
-unfolding retained_forms around is_retained kind_in forms straight_tree
+pub straight_retained : (plan : LockPlan) → retained_forms true [] (forms plan) ≡ forms (straight_plan plan)
+unfolding retained_forms around is_retained kind_in forms straight_plan
 straight_retained plan =
-    ap (λ x. Plan ∷ x) (procs_retained plan.procs (true ∷ []) (thread_forms plan.lines (Close ∷ []))
-    ∙ ap (proc_forms (map straight plan.procs)) (threads_retained plan.lines (true ∷ []) (Close ∷ [])))
+    ap (λ x. Plan ∷ x) (procs_retained plan.procs (true ∷ []) (thread_forms plan.threads (Close ∷ []))
+    ∙ ap (proc_forms (map straight plan.procs)) (threads_retained plan.threads (true ∷ []) (Close ∷ [])))
 
 -- ---- lengths
 

@@ -9,12 +9,11 @@ use mathlib.Core.Option.{none}
 use lib.ListN.{length}
 use Rattle.limits.specs.Limits.{max_bytes}
 use Rattle.text.specs.Lines.{forms_of, text_of}
-use Rattle.semantics.specs.Ranges.{highest}
 use Rattle.plan.specs.Grammar.{forms}
 use Rattle.plan.specs.Settled.{Settled}
-use Rattle.plan.specs.Rules.{plan_refusal, tree_of, plan_of}
+use Rattle.plan.specs.Rules.{plan_refusal, plan_of}
 use Rattle.plan.proofs.AcceptedTable.{accepted-rules, accepted-text, accepted-settled}
-use Rattle.straightening.specs.Straight.{straight_plan, straight_tree}
+use Rattle.straightening.specs.Straight.{straight_plan}
 use Rattle.straightening.proofs.Blocks.{straight-twice}
 use Rattle.straightening.proofs.Measures.{straight-settled}
 use Rattle.straightening.proofs.KeptRules.{straight-acyclic, straight-none-idle, straight-sizes}
@@ -29,7 +28,7 @@ module _ (text : List ℕ) (h : plan_refusal text ≡ none) where
   -- the forms of the text that straightening retains, one a line
   pub straight-forms : straight_of text ≡ text_of (retained_forms true [] (forms_of text))
   unfolding straight_of bare_text
-  straight-forms = ap text_of (sym (straight_retained (tree_of text)) ∙ ap (retained_forms true []) (sym (accepted-text text h)))
+  straight-forms = ap text_of (sym (straight_retained (plan_of text)) ∙ ap (retained_forms true []) (sym (accepted-text text h)))
 
   -- 02, change 8, "Reviewers read a shorter plan": no longer than the text, so that it always fits into the output
   pub straight-short : length (straight_of text) ≤ length text
@@ -38,35 +37,31 @@ module _ (text : List ℕ) (h : plan_refusal text ≡ none) where
   pub straight-fits : length (straight_of text) ≤ max_bytes
   straight-fits = omega (arith, straight-short, (accepted-rules text h).short)
 
-  settled : Settled (straight_tree (tree_of text))
-  settled = straight-settled (tree_of text) (accepted-settled text h)
-
-  pub straight_tree_lem : tree_of (straight_of text) ≡ straight_tree (tree_of text)
-  unfolding straight_of
-  straight_tree_lem = bare-plan (straight_tree (tree_of text)) settled
+  settled : Settled (straight_plan (plan_of text))
+  settled = straight-settled (plan_of text) (accepted-settled text h)
 
   pub straight-plan : plan_of (straight_of text) ≡ straight_plan (plan_of text)
-  unfolding tree_of straight_plan straight_tree
-  straight-plan = ap highest straight_tree_lem
+  unfolding straight_of
+  straight-plan = bare-plan (straight_plan (plan_of text)) settled
 
   -- "Show that it is accepted whenever the original is"
   pub straight-accepted : plan_refusal (straight_of text) ≡ none
   unfolding straight_of
   straight-accepted =
-      let plan = tree_of text in
+      let plan = plan_of text in
       let s = accepted-settled text h in
-      let e : forms_of text ≡ forms (tree_of text) = accepted-text text h in
+      let e : forms_of text ≡ forms (plan_of text) = accepted-text text h in
       let r = accepted-rules text h in
-      let fits : length (bare_text (straight_tree (tree_of text))) ≤ max_bytes = straight-fits in
-      bare-accepted (straight_tree plan) settled fits (straight-acyclic plan s (rw e at r.acyclic)) (straight-none-idle plan s (rw e at r.reachable))
+      let fits : length (bare_text (straight_plan (plan_of text))) ≤ max_bytes = straight-fits in
+      bare-accepted (straight_plan plan) settled fits (straight-acyclic plan s (rw e at r.acyclic)) (straight-none-idle plan s (rw e at r.reachable))
       (straight-sizes plan s (rw e at r.sizes))
 
   -- straightening it again alters nothing
   pub straight-again : straight_of (straight_of text) ≡ straight_of text
   unfolding straight_of
-  straight-again = ap (λ plan. bare_text (straight_tree plan)) straight_tree_lem ∙ ap bare_text (straight-twice (tree_of text))
+  straight-again = ap (λ plan. bare_text (straight_plan plan)) straight-plan ∙ ap bare_text (straight-twice (plan_of text))
 
   -- "in tidy form"
   pub straight-tidy : tidy_of (straight_of text) ≡ straight_of text
   unfolding tidy_of straight_of
-  straight-tidy = ap bare_text straight_tree_lem
+  straight-tidy = ap bare_text straight-plan

@@ -11,11 +11,10 @@ use lib.ListN.{length}
 use Rattle.limits.specs.Limits.{max_bytes}
 use Rattle.text.specs.Lines.{forms_of, text_of}
 use Rattle.text.proofs.Splits.{written-shorter}
-use Rattle.semantics.specs.Ranges.{highest}
 use Rattle.plan.specs.Grammar.{forms}
 use Rattle.plan.specs.Table.{form_at, table_forms}
-use Rattle.plan.specs.Settled.{PlanTable, table_tree}
-use Rattle.plan.specs.Rules.{plan_refusal, tree_of, plan_of}
+use Rattle.plan.specs.Settled.{PlanTable, table_plan}
+use Rattle.plan.specs.Rules.{plan_refusal, plan_of}
 use Rattle.plan.proofs.AcceptedTable.{accepted-rules, accepted-text, accepted-settled}
 use Rattle.bare_text.specs.Bare.{bare_text}
 use Rattle.bare_text.specs.Writing.{SmallTable}
@@ -36,32 +35,28 @@ module _ (text : List ℕ) (h : plan_refusal text ≡ none) where
   tidy-fits = omega (arith, tidy-short, (accepted-rules text h).short)
 
   -- "Verdict and pairs are those of the tidy copy": both are of the plan, and the plan is the same
-  pub tidy_tree : tree_of (tidy_of text) ≡ tree_of text
-  unfolding tidy_of
-  tidy_tree = bare-plan (tree_of text) (accepted-settled text h)
-
   pub tidy-plan : plan_of (tidy_of text) ≡ plan_of text
-  unfolding tree_of
-  tidy-plan = ap highest tidy_tree
+  unfolding tidy_of
+  tidy-plan = bare-plan (plan_of text) (accepted-settled text h)
 
   -- so a tidy copy is an accepted text again
   pub tidy-accepted : plan_refusal (tidy_of text) ≡ none
   unfolding tidy_of
   tidy-accepted =
-      let e : forms_of text ≡ forms (tree_of text) = accepted-text text h in
-      let fits : length (bare_text (tree_of text)) ≤ max_bytes = tidy-fits in
+      let e : forms_of text ≡ forms (plan_of text) = accepted-text text h in
+      let fits : length (bare_text (plan_of text)) ≤ max_bytes = tidy-fits in
       let r = accepted-rules text h in
-      bare-accepted (tree_of text) (accepted-settled text h) fits (rw e at r.acyclic) (rw e at r.reachable) (rw e at r.sizes)
+      bare-accepted (plan_of text) (accepted-settled text h) fits (rw e at r.acyclic) (rw e at r.reachable) (rw e at r.sizes)
 
   -- "and tidying a tidy copy alters nothing"
   pub tidy-twice : tidy_of (tidy_of text) ≡ tidy_of text
   unfolding tidy_of
-  tidy-twice = ap bare_text tidy_tree
+  tidy-twice = ap bare_text tidy-plan
 
 -- "Two accepted texts have the same procedures, statements and thread lines in the same order exactly when their tidy copies have equal bytes"
-pub tidy-same : (s t : List ℕ) → plan_refusal s ≡ none → plan_refusal t ≡ none → (tidy_of s ≡ tidy_of t) ↔ (tree_of s ≡ tree_of t)
+pub tidy-same : (s t : List ℕ) → plan_refusal s ≡ none → plan_refusal t ≡ none → (tidy_of s ≡ tidy_of t) ↔ (plan_of s ≡ plan_of t)
 unfolding tidy_of
-tidy-same s t h k = (λ e. bare_injective (tree_of s) (tree_of t) (accepted-settled s h) (accepted-settled t k) e, λ e. ap bare_text e)
+tidy-same s t h k = (λ e. bare_injective (plan_of s) (plan_of t) (accepted-settled s h) (accepted-settled t k) e, λ e. ap bare_text e)
 
 -- ---- the table of an accepted plan, for the writer
 
@@ -72,4 +67,4 @@ forms-small (w ∷ ws) s zero h = s (form_at w) (Memᴰ.head refl)
 forms-small (w ∷ ws) s (suc k) h = forms-small ws (λ f m. s f (Memᴰ.tail m)) k (omega arith)
 
 pub table-small : (ws : List ℕ) → PlanTable ws → SmallTable ws
-table-small ws t = forms-small ws (subst Smalls (sym t.written) (settled_smalls (table_tree ws) t.settled))
+table-small ws t = forms-small ws (subst Smalls (sym t.written) (settled_smalls (table_plan ws) t.settled))

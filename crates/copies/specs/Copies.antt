@@ -1,8 +1,8 @@
 -- The tidy copy of a plan text and the straightened one, and what the calls promise. 02, change 1: "We also want a writer that gives any accepted plan in document 01's bare form".
 -- Change 8: "Reviewers read a shorter plan .. Write that copy in tidy form, into an output as for the tidy one."
 use Rattle.std.specs.Prelude.{ℕ, Bool, true, false, List, ◌≡◌, length}
-use Rattle.plan.specs.Rules.{tree_of, plan_refusal, copy_refusal}
-use Rattle.straightening.specs.Straight.{straight_tree}
+use Rattle.plan.specs.Rules.{plan_of, plan_refusal, copy_refusal}
+use Rattle.straightening.specs.Straight.{straight_plan}
 use Rattle.bare_text.specs.Bare.{bare_text}
 use Rattle.report_lines.specs.Lines.{unless_refused}
 use Rattle.answers.specs.declared.Counted.{Counted}
@@ -10,11 +10,11 @@ use Rattle.answers.specs.Answers.{counted_of, counted_number, written}
 
 -- the tidy copy of an accepted text
 unfoldable pub tidy_of : List ℕ → List ℕ
-tidy_of text = bare_text (tree_of text)
+tidy_of text = bare_text (plan_of text)
 
 -- the straightened copy of an accepted text, "in tidy form"
 unfoldable pub straight_of : List ℕ → List ℕ
-straight_of text = bare_text (straight_tree (tree_of text))
+straight_of text = bare_text (straight_plan (plan_of text))
 
 -- the one or the other
 abbrev pub copy_of : Bool → List ℕ → List ℕ

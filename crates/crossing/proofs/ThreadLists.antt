@@ -16,7 +16,7 @@ use Rattle.plan.specs.declared.Reading.TheVariants.{Accepted}
 use Rattle.plan.specs.declared.Reading.TheVariants as plan
 use Rattle.plan.specs.Settled.{table_plan, RulesKept}
 use Rattle.plan.specs.Rules.{plan_refusal, are_no_two, crossings_refusal, Tabled}
-use Rattle.plan.proofs.AcceptedTable.{plan-kept, tree_same}
+use Rattle.plan.proofs.AcceptedTable.{plan-kept, plan-same}
 use Rattle.plan.proofs.Filling.{refused-is}
 use Rattle.plan.proofs.TwoThreads.{two-exactly}
 use Rattle.semantics.specs.Plan.{thread_proc}
@@ -95,4 +95,4 @@ module _ (text : List ℕ) (t u : ℕ) (table one two : List ℕ) (q : Reading) 
 
   pub text_lists : (n : ℕ) (r : TwoLists) → q ≡ Accepted n → TableLists (take (n - 0) table) t u r one two → TextLists text t u r one two
   unfolding crossings_refusal or_else
-  text_lists n r g w = rw (plan-kept text table q n tabled g) (rw (tree_same text table q n tabled g) at w)
+  text_lists n r g w = rw (plan-kept text table q n tabled g) (rw (plan-same text table q n tabled g) at w)

@@ -24,13 +24,9 @@ upgraders =
 abbrev pub both_ways : List ℕ
 both_ways = bytes "(plan\n(proc\n(share 0\n(hold 0\n(share 1\n(skip)\n)\n)\n)\n)\n(proc\n(hold 1\n(share 0\n(skip)\n)\n)\n)\n(thread 0)\n(thread 1)\n)\n"
 
--- one thread that takes 0 and then 1, and up to two that take them the other way round. 02, change 10: "thread numbers use the highest counts"
-abbrev pub grown_opposed : List ℕ
-grown_opposed = bytes "(plan\n(proc\n(hold 0\n(hold 1\n(skip)\n)\n)\n)\n(proc\n(hold 1\n(hold 0\n(skip)\n)\n)\n)\n(thread 0)\n(thread 1 0 2)\n)\n"
-
 -- the couples of two threads, and of them turned round; rule 14 for a thread twice, and for one that is not there; the table; the refusal of the empty text; the couples, "the
 -- first ones that fit whole", in a buffer of 11 words, of 5, and of 95 bytes; and with shares: two that upgrade cross, readers do not,
--- and a lock had both ways, in lines and in words; and with a range: copies of one line do not cross here, the last copy crosses thread 0, and thread 3 is not there
+-- and a lock had both ways, in lines and in words
 pub record CrossingsRight : Type 0 where
   pub a : printed_couples case_a 0 1 ≡ bytes "(cross 0 1 1\n(couple (pair 1 0) (pair 0 1))\n)\n"
   pub turned : printed_couples case_a 1 0 ≡ bytes "(cross 1 0 1\n(couple (pair 0 1) (pair 1 0))\n)\n"
@@ -48,6 +44,3 @@ pub record CrossingsRight : Type 0 where
   pub shares : printed_crossings upgraders ≡ bytes "(crossings\n(cross 0 1 1)\n(cross 0 2 0)\n(cross 0 3 0)\n(cross 1 2 0)\n(cross 1 3 0)\n(cross 2 3 0)\n)\n"
   pub both_ways_lem : printed_couples both_ways 0 1 ≡ bytes "(cross 0 1 1\n(couple (pair 1s 0 0s) (pair 0s 1))\n)\n"
   pub words_both : fitting_words 6 (couples (plan_of both_ways) 0 1) ≡ 1 ∷ 1 ∷ 2 ∷ 2 ∷ 0 ∷ 0 ∷ []
-  pub grown : printed_crossings grown_opposed ≡ bytes "(crossings\n(cross 0 1 1)\n(cross 0 2 1)\n(cross 1 2 0)\n)\n"
-  pub last-copy : printed_couples grown_opposed 2 0 ≡ bytes "(cross 2 0 1\n(couple (pair 0 1) (pair 1 0))\n)\n"
-  pub past-highest : printed_couples grown_opposed 0 3 ≡ bytes "(refused 14 0)\n"

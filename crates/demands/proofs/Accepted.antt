@@ -14,7 +14,6 @@ use Rattle.laws.proofs.Tests.{first-none}
 use Rattle.text.specs.Lines.{forms_of, unreadable_line, IsText}
 use Rattle.text.proofs.Splits.{readable-written, text-written}
 use Rattle.semantics.specs.Plan.{LockPlan, Ranks}
-use Rattle.semantics.specs.Ranges.{RangedPlan, highest}
 use Rattle.semantics.specs.Calls.{Recursive, Reachable}
 use Rattle.semantics.specs.Sizes.{size_of, thread_sizes}
 use Rattle.semantics.specs.Pairs.{pair_list}
@@ -23,8 +22,8 @@ use Rattle.semantics.proofs.Calls.Ranks.{acyclic-ranks}
 use Rattle.semantics.proofs.Critical.PairList.{pair_list-critical}
 use Rattle.semantics.proofs.Critical.CriticalLanguage.{critical-is-published}
 use Rattle.semantics.proofs.Conflicts.Characterisation.{Ranked}
-use Rattle.plan.specs.Grammar.{forms, tree_in, plan_in}
-use Rattle.plan.specs.Rules.{refused_if, grammar_refusal, too_large, tree_of, plan_of, plan_refusal, too_few_entries, verdict_refusal}
+use Rattle.plan.specs.Grammar.{forms, plan_in}
+use Rattle.plan.specs.Rules.{refused_if, grammar_refusal, too_large, plan_of, plan_refusal, too_few_entries, verdict_refusal}
 use Rattle.plan.specs.Rules.{pairs_refusal, copy_refusal, crossings_refusal}
 use Rattle.plan.proofs.Kept.{unflagged}
 use Rattle.plan.proofs.TwoThreads.{crossings-kept}
@@ -35,7 +34,6 @@ use Rattle.plan.proofs.ReachableProcs.{idle-exactly}
 use Rattle.demands.specs.Broken.{TooLarge, plan_rules, AllUnbroken, AcceptedText}
 use Rattle.demands.proofs.Firsts.{below}
 use Rattle.demands.proofs.Lowest.{none-lowest, lowest-none}
-use Rattle.demands.proofs.ProcRules.{reached-highest}
 use Rattle.demands.proofs.Refusals.{plan-refuses}
 
 not-above : (n : ℕ) → (max_size < n → ⊥) → n ≤ max_size
@@ -43,7 +41,7 @@ not-above n h = omega arith
 
 module _ (text : List ℕ) where
   accepted : plan_refusal text ≡ none → AcceptedText text
-  unfolding tree_of too_large
+  unfolding plan_of too_large
   accepted e =
       let fs = forms_of text in
       let ps = (plan_in fs).procs in
@@ -51,11 +49,11 @@ module _ (text : List ℕ) where
       let written = accepted-text text e in
       record {
         short = r.short;
-        plan = tree_of text;
+        plan = plan_of text;
         written = subst (IsText text) written (readable-written text r.readable);
         settled = accepted-settled text e;
         acyclic = (recursive-exactly fs).0 r.acyclic;
-        reachable = λ p h. (reached-highest (tree_in fs) (accepted-settled text e).in_range p).0 ((idle-exactly fs).0 r.reachable p h);
+        reachable = (idle-exactly fs).0 r.reachable;
         sizes = λ p h. not-above (size_of ps p) (none-lowest fs written (λ p. ltb max_size (size_of ps p)) TooLarge (λ p h. below max_size (size_of ps p)) 9 r.sizes p h);
       }
 
@@ -63,26 +61,22 @@ module _ (text : List ℕ) where
     same-forms : (unreadable_line text ≡ none) × (forms_of text ≡ forms x.plan)
     same-forms = (text-written text (forms x.plan)).1 x.written
 
-    kept-rules : (grammar_refusal (forms_of text) ≡ none) × (tree_in (forms_of text) ≡ x.plan)
+    kept-rules : (grammar_refusal (forms_of text) ≡ none) × (plan_in (forms_of text) ≡ x.plan)
     kept-rules = (rules-plan (forms_of text) x.plan).1 (x.settled, same-forms.1)
 
     -- the plan is the one that is read
-    pub accepted_tree : tree_of text ≡ x.plan
-    unfolding tree_of
-    accepted_tree = kept-rules.1
+    pub accepted-plan : plan_of text ≡ x.plan
+    unfolding plan_of
+    accepted-plan = kept-rules.1
 
-    -- and at the highest counts
-    pub accepted-plan : plan_of text ≡ highest x.plan
-    accepted-plan = ap highest accepted_tree
-
-    forms-written : forms_of text ≡ forms (tree_in (forms_of text))
+    forms-written : forms_of text ≡ forms (plan_in (forms_of text))
     forms-written = same-forms.1 ∙ ap forms (sym kept-rules.1)
 
     ranks : Ranks x.plan.procs
     ranks = acyclic-ranks x.plan.procs x.acyclic x.settled.callees_present x.settled.filled
 
     -- what the theory asks of a plan
-    pub plan-ranked : Ranked (highest x.plan)
+    pub plan-ranked : Ranked x.plan
     plan-ranked = settled-ranked x.plan x.settled ranks
 
     unrefused : plan_refusal text ≡ none
@@ -91,11 +85,11 @@ module _ (text : List ℕ) where
         let fs = forms_of text in
         let ps = (plan_in fs).procs in
         let same = kept-rules.1 in
-        let acyclic : (p : ℕ) → Recursive ps p → ⊥ = subst (λ (q : RangedPlan). (p : ℕ) → Recursive q.procs p → ⊥) (sym same) x.acyclic in
+        let acyclic : (p : ℕ) → Recursive ps p → ⊥ = subst (λ (q : LockPlan). (p : ℕ) → Recursive q.procs p → ⊥) (sym same) x.acyclic in
         let reachable : (p : ℕ) → p < length ps → Reachable (plan_in fs) p =
-        subst (λ (q : RangedPlan). (p : ℕ) → p < length q.procs → Reachable (highest q) p) (sym same) (λ p h. (reached-highest x.plan x.settled.in_range p).1 (x.reachable p h)) in
+        subst (λ (q : LockPlan). (p : ℕ) → p < length q.procs → Reachable q p) (sym same) x.reachable in
         let sizes : (p : ℕ) → p < length ps → size_of ps p ≤ max_size =
-        subst (λ (q : RangedPlan). (p : ℕ) → p < length q.procs → size_of q.procs p ≤ max_size) (sym same) x.sizes in
+        subst (λ (q : LockPlan). (p : ℕ) → p < length q.procs → size_of q.procs p ≤ max_size) (sym same) x.sizes in
         rules-accepted text (record {
           short = x.short;
           readable = same-forms.0;
@@ -112,7 +106,7 @@ module _ (text : List ℕ) where
         let ps = x.plan.procs in
         let listed = pair_list-critical ps ranks.rank ranks.sound p (ranks.below p h) w in
         let published = critical-is-published ps ranks.rank ranks.sound p w in
-        rw accepted_tree (λ m. published.0 (listed.0 m), λ k. listed.1 (published.1 k))
+        rw accepted-plan (λ m. published.0 (listed.0 m), λ k. listed.1 (published.1 k))
 
   pub accepted-exactly : (plan_refusal text ≡ none) ↔ AcceptedText text
   accepted-exactly = (accepted, unrefused)
@@ -133,14 +127,14 @@ module _ (text : List ℕ) where
   copy-accepted-exactly lent = lent-exactly max_bytes lent
 
   -- with rule 1 behind the plan's
-  pub verdict-accepted-exactly : (lent : ℕ) → (verdict_refusal text lent ≡ none) ↔ ((x : AcceptedText text) × (thread_sizes (highest x.plan) ≤ lent))
+  pub verdict-accepted-exactly : (lent : ℕ) → (verdict_refusal text lent ≡ none) ↔ ((x : AcceptedText text) × (thread_sizes x.plan ≤ lent))
   unfolding verdict_refusal too_few_entries or_else
   verdict-accepted-exactly lent = (
     λ e.
         let y = first-none (plan_refusal text) (too_few_entries (plan_of text) lent) e in
         let x = accepted y.0 in
         (x, subst (λ (q : LockPlan). thread_sizes q ≤ lent) (accepted-plan x) (ltb-false lent (thread_sizes (plan_of text)) (unflagged 1 _ y.1))),
-    λ y. rw (unrefused y.0, accepted_tree y.0, le-ltb lent (thread_sizes (highest y.0.plan)) y.1),
+    λ y. rw (unrefused y.0, accepted-plan y.0, le-ltb lent (thread_sizes y.0.plan) y.1),
   )
 
   -- with rules 1 and 11
@@ -156,18 +150,18 @@ module _ (text : List ℕ) where
               x,
               subst (λ (q : LockPlan). p < length q.procs) (accepted-plan x) (leb-false (length (plan_of text).procs) p (unflagged 11 _ z.1)),
             ),
-        λ y. rw (le-ltb lent max_pair_words y.0, unrefused y.1, accepted_tree y.1, lt-leb (length y.1.plan.procs) p y.2),
+        λ y. rw (le-ltb lent max_pair_words y.0, unrefused y.1, accepted-plan y.1, lt-leb (length y.1.plan.procs) p y.2),
       )
 
   -- with rule 14 behind the plan's
   pub crossings-accepted-exactly : (t u : ℕ)
-      → (crossings_refusal text t u ≡ none) ↔ ((x : AcceptedText text) × (t < length (highest x.plan).threads) × (u < length (highest x.plan).threads) × (t ≢ u))
+      → (crossings_refusal text t u ≡ none) ↔ ((x : AcceptedText text) × (t < length x.plan.threads) × (u < length x.plan.threads) × (t ≢ u))
   crossings-accepted-exactly t u =
       let k = crossings-kept text t u in (
         λ e.
             let (a, b, d, two) = k.0 e in
             let x = accepted a in
-            let there : (i : ℕ) → i < length (plan_of text).threads → i < length (highest x.plan).threads = λ i h. subst (λ (q : LockPlan). i < length q.threads) (accepted-plan x) h in
+            let there : (i : ℕ) → i < length (plan_of text).threads → i < length x.plan.threads = λ i h. subst (λ (q : LockPlan). i < length q.threads) (accepted-plan x) h in
             (x, there t b, there u d, two),
-        λ y. k.1 (rw (unrefused y.0, accepted_tree y.0) (refl, y.1, y.2, y.3)),
+        λ y. k.1 (rw (unrefused y.0, accepted-plan y.0) (refl, y.1, y.2, y.3)),
       )

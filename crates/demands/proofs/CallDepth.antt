@@ -1,4 +1,4 @@
--- Calls go to lower ranks, and ranks are below the number of procedures: so that depth cuts off no call (`ranks_follow`), in a plan that rules 4 to 8, 15 and 12 let pass
+-- Calls go to lower ranks, and ranks are below the number of procedures: so that depth cuts off no call (`ranks_follow`), in a plan that rules 4 to 8 and 12 let pass
 -- (`follows-calls`) and in every accepted one (`accepted-follows-calls`).
 use Prim.Native.Nat.{ℕ, zero, suc, ◌<◌}
 use mathlib.Core.List.{List}
@@ -6,7 +6,6 @@ use mathlib.Core.Path.{◌≡◌, ◌∙◌}
 use native.Mathlib.Omega.{arith}
 use lib.ListN.{length}
 use Rattle.semantics.specs.Plan.{Block, LockPlan, body_in, Ranks}
-use Rattle.semantics.specs.Ranges.{RangedPlan}
 use Rattle.semantics.specs.Calls.{Recursive}
 use Rattle.semantics.specs.Sizes.{size_with, size_at, size_of}
 use Rattle.semantics.proofs.Ground.SizeDepth.{size-agree, size-depth, size_of-body}
@@ -16,7 +15,7 @@ use Rattle.plan.specs.Settled.{Settled}
 use Rattle.plan.specs.Rules.{plan_of}
 use Rattle.demands.specs.Broken.{AcceptedText}
 use Rattle.demands.specs.CallDepth.{FollowsCalls}
-use Rattle.demands.proofs.Accepted.{accepted_tree}
+use Rattle.demands.proofs.Accepted.{accepted-plan}
 
 module _ (ps : List Block) (r : Ranks ps) where
   -- s solves the sizes' equations
@@ -39,9 +38,9 @@ module _ (ps : List Block) (r : Ranks ps) where
         pairs-deeper = λ d p k h. pairs-depth ps r.rank r.sound d n p (omega (arith, r.below p h)) (r.below p h);
       }
 
--- what rules 4 to 8 and 15 settle, and rule 12
-pub follows-calls : (plan : RangedPlan) → Settled plan → ((p : ℕ) → Recursive plan.procs p → ⊥) → FollowsCalls plan.procs
+-- what rules 4 to 8 settle, and rule 12
+pub follows-calls : (plan : LockPlan) → Settled plan → ((p : ℕ) → Recursive plan.procs p → ⊥) → FollowsCalls plan.procs
 follows-calls plan s acyclic = ranks_follow plan.procs (acyclic-ranks plan.procs acyclic s.callees_present s.filled)
 
 pub accepted-follows-calls : (text : List ℕ) → AcceptedText text → FollowsCalls (plan_of text).procs
-accepted-follows-calls text x = rw (accepted_tree text x) (follows-calls x.plan x.settled x.acyclic)
+accepted-follows-calls text x = rw (accepted-plan text x) (follows-calls x.plan x.settled x.acyclic)

@@ -8,11 +8,9 @@ use native.Mathlib.Omega.{arith}
 use lib.ListN.{length}
 use Rattle.text.specs.declared.Form.{Form}
 use Rattle.text.specs.declared.Form.TheVariants.{Proc}
-use Rattle.text.specs.Forms.{most_in, kind_in, is_proc, is_statement}
+use Rattle.text.specs.Forms.{kind_in, is_proc, is_thread, is_statement}
 use Rattle.plan.specs.declared.Counts.{Counts}
-use Rattle.plan.proofs.Passes.{copies-sum}
 use Rattle.plan.specs.Limits.{add_if, counted, no_counts, count_if}
-use Rattle.demands.specs.Broken.{all_copies}
 
 pub count_append : (kind : Form → Bool) (fs gs : List Form) → count_if kind (fs ++ gs) ≡ count_if kind fs + count_if kind gs
 unfolding count_if
@@ -39,28 +37,19 @@ counts_snoc fs f = foldl-append counted no_counts fs (f ∷ [])
 pub record Counted (fs : List Form) (c : Counts) : Type 0 where
   pub procs : c.procs ≡ count_if is_proc fs
   pub statements : c.statements ≡ count_if is_statement fs
-  pub threads : c.threads ≡ all_copies fs
+  pub threads : c.threads ≡ count_if is_thread fs
 
 -- what one form adds
 add_one_if : (b : Bool) (n : ℕ) → add_if b n ≡ n + cond b 1 0
 add_one_if true n = refl
 add_one_if false n = omega arith
 
-pub copies_append : (fs gs : List Form) → all_copies (fs ++ gs) ≡ all_copies fs + all_copies gs
-unfolding all_copies
-copies_append [] gs = omega arith
-copies_append (f ∷ fs) gs = omega (arith, copies_append fs gs)
-
-pub copies_snoc : (fs : List Form) (f : Form) → all_copies (fs ++ f ∷ []) ≡ all_copies fs + most_in f
-unfolding all_copies
-copies_snoc fs f = omega (arith, copies_append fs (f ∷ []))
-
 pub counted-more : (fs : List Form) (f : Form) (c : Counts) → Counted fs c → Counted (fs ++ f ∷ []) (counted c f)
 unfolding counted
 counted-more fs f c x = record {
   procs = omega (arith, add_one_if (is_proc f) c.procs, x.procs, count_snoc is_proc fs f);
   statements = omega (arith, add_one_if (is_statement f) c.statements, x.statements, count_snoc is_statement fs f);
-  threads = omega (arith, copies-sum f c.threads, x.threads, copies_snoc fs f);
+  threads = omega (arith, add_one_if (is_thread f) c.threads, x.threads, count_snoc is_thread fs f);
 }
 
 -- ---- the `(proc` forms

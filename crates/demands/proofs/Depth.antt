@@ -116,8 +116,8 @@ unfolding Open levels counted kind_in
 open_step begins-plan fs c x = record { none-begun = count_snoc is_proc fs Plan ∙ omega (arith, x.none-begun); depth = x.depth }
 open_step first fs c x = new_within fs c.depth x.depth
 open_step next fs c x = new_within fs c.depth x.depth
-open_step (first-thread {p} {a} {b}) fs c x = ended-more fs (Thread p a b) _ _ refl refl x.depth x
-open_step (more-threads {p} {a} {b}) fs c x = ended-more fs (Thread p a b) _ _ refl refl x.depth x
+open_step (first-thread {n}) fs c x = ended-more fs (Thread n) _ _ refl refl x.depth x
+open_step (more-threads {n}) fs c x = ended-more fs (Thread n) _ _ refl refl x.depth x
 open_step ends-plan fs c x = ended-more fs Close _ _ refl refl (omega (arith, x.depth)) x
 open_step (skips {ks}) fs c x = within_more fs Skip _ _ refl (levels ks) (levels ks) refl x.depth x
 open_step (calls {ks} {n}) fs c x = within_more fs (Call n) _ _ refl (levels ks) (levels ks) refl x.depth x

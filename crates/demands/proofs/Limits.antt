@@ -1,30 +1,30 @@
--- Rules 5 to 8 and 15: the pass of each names the first form that breaks the rule, that of rule 5 in the forms of a plan. A form breaks a rule of 6 to 8 exactly if the rule tests
--- its number and that is too high (`number-breaks`), and rule 15 if it is a thread line whose counts are none (`range-breaks`).
+-- Rules 5 to 8: the pass of each names the first form that breaks the rule, that of rule 5 in the forms of a plan. A form breaks a rule of 6 to 8 exactly if the rule tests
+-- its number and that is too high (`number-breaks`).
 use Prim.Native.Nat.{ℕ, ◌<◌, ◌≤◌}
 use mathlib.Core.Bool.{Bool, true, false, ◌||◌, cond}
 use mathlib.Core.List.{List, [], ◌∷◌, ◌++◌}
-use mathlib.Core.Logic.{◌⊎◌, inl, inr, ⊎_elim, ◌↔◌, ◌≢◌}
+use mathlib.Core.Logic.{◌⊎◌, inl, inr, ⊎_elim, ◌↔◌}
 use mathlib.Core.Option.{none}
 use mathlib.Core.Path.{◌≡◌, refl, sym, ap, subst, ◌∙◌}
 use native.Mathlib.Omega.{arith}
-use lib.Dec.{eqb, ltb, leb}
+use lib.Dec.{eqb, leb}
 use lib.Seq.{append_snoc}
-use borrow.Author.Tests.{ne_eqb, lt-ltb, le-ltb}
+use borrow.Author.Tests.{lt-ltb, le-ltb}
 use Rattle.limits.specs.Limits.{max_procs, max_statements, max_threads, max_brackets}
 use Rattle.laws.specs.Choice.{pick}
 use Rattle.laws.proofs.Tests.{lt_or_le, eqb-cases}
 use Rattle.text.specs.declared.Form.{Form}
 use Rattle.text.specs.declared.Form.TheVariants.{Thread, Call, Hold, Share}
-use Rattle.text.specs.Forms.{number_in, least_in, most_in, kind_number, kind_in, is_proc, is_thread, is_call, is_hold, is_share, takes_lock}
+use Rattle.text.specs.Forms.{number_in, kind_number, kind_in, is_proc, is_thread, is_call, is_hold, is_share, takes_lock}
 use Rattle.text.proofs.Matches.{kind-form}
 use Rattle.plan.specs.declared.Counts.{Counts}
-use Rattle.plan.specs.Limits.{over_limit, past_limit_form, tested_by, least_bad, bad_range, breaks, count_if, breaking_form}
+use Rattle.plan.specs.Limits.{over_limit, past_limit_form, tested_by, least_bad, breaks, count_if, breaking_form}
 use Rattle.plan.specs.Structure.{misplaced_form}
 use Rattle.plan.proofs.States.{State}
 use Rattle.demands.specs.Lines.{First, FormWhere}
-use Rattle.demands.specs.Broken.{PastLimit, procedures, statements, threads, brackets, HighLock, AbsentCallee, AbsentProc, BadRange}
+use Rattle.demands.specs.Broken.{PastLimit, procedures, statements, threads, brackets, HighLock, AbsentCallee, AbsentProc}
 use Rattle.demands.proofs.Order.{Names}
-use Rattle.demands.proofs.Firsts.{Decides, decides_iff, at_most, below}
+use Rattle.demands.proofs.Firsts.{Decides, decides_iff, at_most}
 use Rattle.demands.proofs.Counting.{counts_of}
 use Rattle.demands.proofs.Depth.{open_deep}
 use Rattle.demands.proofs.Reading.{Along, reached}
@@ -68,11 +68,11 @@ limits-names fs structured = limits-scan (λ before f. PastLimit (before ++ f �
     let x = reached fs structured read after (e ∙ sym (append_snoc before f after)) in
     past_limit read (counts_of read) x.0 x.1)
 
--- ---- 6 to 8 and 15
+-- ---- 6 to 8
 
 -- the forms by the rule that tests their number
 data Tested : ℕ → Form → Type 0 where
-  thread : (p a b : ℕ) → Tested 8 (Thread p a b)
+  thread : (n : ℕ) → Tested 8 (Thread n)
   call : (n : ℕ) → Tested 7 (Call n)
   hold : (l : ℕ) → Tested 6 (Hold l)
   share : (l : ℕ) → Tested 6 (Share l)
@@ -92,7 +92,7 @@ unfolding tested_by
 tested rule f e = subst (λ r. Tested r f) e (go (is_thread f) refl (is_call f) refl (takes_lock f) refl)
   where
     go : (a : Bool) → is_thread f ≡ a → (b : Bool) → is_call f ≡ b → (c : Bool) → takes_lock f ≡ c → Tested (cond a 8 (cond b 7 (cond c 6 0))) f
-    go true h b i c j = subst (Tested 8) (sym (kind-form (Thread 0 1 1) f h)) (thread (number_in f) (least_in f) (most_in f))
+    go true h b i c j = subst (Tested 8) (sym (kind-form (Thread 0) f h)) (thread (number_in f))
     go false h true i c j = subst (Tested 7) (sym (kind-form (Call 0) f i)) (call (number_in f))
     go false h false i true j =
         ⊎_elim (λ k. subst (Tested 6) (sym (kind-form (Hold 0) f k)) (hold (number_in f)))
@@ -108,72 +108,45 @@ tested-call : {f : Form} → Tested 7 f → f ≡ Call (number_in f)
 unfolding number_in
 tested-call (call n) = refl
 
-tested-thread : {f : Form} → Tested 8 f → f ≡ Thread (number_in f) (least_in f) (most_in f)
-unfolding number_in least_in most_in
-tested-thread (thread p a b) = refl
+tested-thread : {f : Form} → Tested 8 f → f ≡ Thread (number_in f)
+unfolding number_in
+tested-thread (thread n) = refl
 
 -- the rule tests the form's number, which is too high where there are n procedures
 abbrev TooHigh : ℕ → ℕ → Form → Type 0
 TooHigh rule n f = (tested_by f ≡ rule) × (least_bad rule n ≤ number_in f)
 
-number-breaks : (rule n : ℕ) (f : Form) → rule ≢ 15 → Decides (breaks rule n f) (TooHigh rule n f)
+number-breaks : (rule n : ℕ) (f : Form) → Decides (breaks rule n f) (TooHigh rule n f)
 unfolding breaks pick
-number-breaks rule n f other =
+number-breaks rule n f =
     let least = least_bad rule n in
-    rw (ne_eqb rule 15 other)
-    (⊎_elim (λ x. rw x.1 (decides_iff (leb least (number_in f)) _ _ (λ h. (x.0, h), λ y. y.1) (at_most least (number_in f))))
+    ⊎_elim (λ x. rw x.1 (decides_iff (leb least (number_in f)) _ _ (λ h. (x.0, h), λ y. y.1) (at_most least (number_in f))))
     (λ x. rw x.1 (inr (refl, λ y. x.0 y.0)))
-    (eqb-cases (tested_by f) rule))
-
--- 15
-range-breaks : (n : ℕ) (f : Form) → Decides (breaks 15 n f) (BadRange f)
-unfolding breaks bad_range pick least_in most_in kind_in
-range-breaks n f = go (is_thread f) refl
-  where
-    most_of : (x : BadRange f) → most_in f ≡ x.most
-    most_of x = ap most_in x.thread
-
-    least_of : (x : BadRange f) → least_in f ≡ x.least
-    least_of x = ap least_in x.thread
-
-    go : (t : Bool) → is_thread f ≡ t → Decides (cond t (pick (eqb (most_in f) 0) true (ltb (most_in f) (least_in f))) false) (BadRange f)
-    go false h = inr (refl, λ x. let z : true ≡ false = sym (ap is_thread x.thread) ∙ h in let w : ◌≡◌ {A = ℕ} 0 1 = cc in omega arith)
-    go true h =
-        let e = kind-form (Thread 0 1 1) f h in
-        ⊎_elim
-        (λ x. rw x.1 (inl (refl, record { proc = number_in f; least = least_in f; most = most_in f; thread = e; bad = inl x.0 })))
-        (λ x. rw x.1 (decides_iff (ltb (most_in f) (least_in f)) _ _ (
-          λ k. record { proc = number_in f; least = least_in f; most = most_in f; thread = e; bad = inr k },
-          λ y. ⊎_elim (λ (z : y.most ≡ 0). absurd (x.0 (most_of y ∙ z))) (λ (k : y.most < y.least). omega (arith, most_of y, least_of y)) y.bad,
-        ) (below (most_in f) (least_in f))))
-        (eqb-cases (most_in f) 0)
+    (eqb-cases (tested_by f) rule)
 
 module _ (fs : List Form) where
-  numbers-names : (rule : ℕ) → rule ≢ 15 → (P : Form → Type 0) → ((f : Form) → TooHigh rule (count_if is_proc fs) f ↔ P f)
+  numbers-names : (rule : ℕ) (P : Form → Type 0) → ((f : Form) → TooHigh rule (count_if is_proc fs) f ↔ P f)
       → Names (breaking_form rule fs) (First (FormWhere (λ before f. P f) fs))
-  numbers-names rule other P says = numbers-scan (λ before f. P f) fs rule
-      (λ before f. decides_iff _ _ _ (says f) (number-breaks rule (count_if is_proc fs) f other))
+  numbers-names rule P says = numbers-scan (λ before f. P f) fs rule
+      (λ before f. decides_iff _ _ _ (says f) (number-breaks rule (count_if is_proc fs) f))
 
   pub locks-names : Names (breaking_form 6 fs) (First (FormWhere (λ before f. HighLock f) fs))
   unfolding least_bad tested_by number_in pick kind_in
-  locks-names = numbers-names 6 (λ e. omega arith) HighLock (λ f. (
+  locks-names = numbers-names 6 HighLock (λ f. (
     λ x. record { lock = number_in f; takes = tested-lock (tested 6 f x.0); above = x.1 },
     λ y. ⊎_elim (λ h. (ap tested_by h, omega (arith, y.above, ap number_in h))) (λ h. (ap tested_by h, omega (arith, y.above, ap number_in h))) y.takes,
   ))
 
   pub calls-names : Names (breaking_form 7 fs) (First (FormWhere (λ before f. AbsentCallee fs f) fs))
   unfolding least_bad tested_by number_in pick kind_in
-  calls-names = numbers-names 7 (λ e. omega arith) (AbsentCallee fs) (λ f. (
+  calls-names = numbers-names 7 (AbsentCallee fs) (λ f. (
     λ x. record { callee = number_in f; call = tested-call (tested 7 f x.0); absent = x.1 },
     λ y. (ap tested_by y.call, omega (arith, y.absent, ap number_in y.call)),
   ))
 
   pub threads-names : Names (breaking_form 8 fs) (First (FormWhere (λ before f. AbsentProc fs f) fs))
   unfolding least_bad tested_by number_in pick kind_in
-  threads-names = numbers-names 8 (λ e. omega arith) (AbsentProc fs) (λ f. (
-    λ x. record { proc = number_in f; least = least_in f; most = most_in f; thread = tested-thread (tested 8 f x.0); absent = x.1 },
+  threads-names = numbers-names 8 (AbsentProc fs) (λ f. (
+    λ x. record { proc = number_in f; thread = tested-thread (tested 8 f x.0); absent = x.1 },
     λ y. (ap tested_by y.thread, omega (arith, y.absent, ap number_in y.thread)),
   ))
-
-  pub ranges-names : Names (breaking_form 15 fs) (First (FormWhere (λ before f. BadRange f) fs))
-  ranges-names = numbers-scan (λ before f. BadRange f) fs 15 (λ before f. range-breaks (count_if is_proc fs) f)

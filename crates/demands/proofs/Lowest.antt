@@ -12,8 +12,8 @@ use Rattle.text.specs.declared.Form.{Form}
 use Rattle.text.specs.declared.Form.TheVariants.{Proc}
 use Rattle.text.specs.Forms.{kind_in, is_proc}
 use Rattle.text.proofs.Matches.{kind-form}
-use Rattle.semantics.specs.Ranges.{RangedPlan}
-use Rattle.plan.specs.Grammar.{forms, tree_in, plan_in}
+use Rattle.semantics.specs.Plan.{LockPlan}
+use Rattle.plan.specs.Grammar.{forms, plan_in}
 use Rattle.plan.specs.Limits.{count_if}
 use Rattle.plan.specs.Rules.{proc_form_from, proc_form, lowest_from, proc_refusal}
 use Rattle.plan.proofs.Counting.{count-forms}
@@ -92,25 +92,25 @@ proc-number fs p n h x =
 
 -- ---- the rule
 
-module _ (fs : List Form) (written : fs ≡ forms (tree_in fs)) (test : ℕ → Bool) (P : RangedPlan → ℕ → Type 0)
-    (decide : (p : ℕ) → p < length (plan_in fs).procs → Decides (test p) (P (tree_in fs) p)) where
+module _ (fs : List Form) (written : fs ≡ forms (plan_in fs)) (test : ℕ → Bool) (P : LockPlan → ℕ → Type 0)
+    (decide : (p : ℕ) → p < length (plan_in fs).procs → Decides (test p) (P (plan_in fs) p)) where
   there : (p : ℕ) → p < length (plan_in fs).procs → p < count_if is_proc fs
-  there p h = omega (arith, ap (count_if is_proc) written, count-forms (tree_in fs))
+  there p h = omega (arith, ap (count_if is_proc) written, count-forms (plan_in fs))
 
   abbrev n : ℕ
   n = length (plan_in fs).procs
 
-  holds : (p : ℕ) → p < n → test p ≡ true → P (tree_in fs) p
+  holds : (p : ℕ) → p < n → test p ≡ true → P (plan_in fs) p
   holds p h e = holds_where (test p) _ (decide p h) e
 
-  fails : (p : ℕ) → p < n → test p ≡ false → P (tree_in fs) p → ⊥
+  fails : (p : ℕ) → p < n → test p ≡ false → P (plan_in fs) p → ⊥
   fails p h e r = fails_where (test p) _ (decide p h) e r
 
-  names : (o : Option ℕ) → Lowest test 0 n o → Names (proc_form fs o) (LowestProc P (tree_in fs))
+  names : (o : Option ℕ) → Lowest test 0 n o → Names (proc_form fs o) (LowestProc P (plan_in fs))
   names none x m = (λ e. absurd (none-ne-some m e), λ y. absurd (fails y.proc y.present (x y.proc (omega arith) (omega (arith, y.present))) y.lowest.here))
   names (some p) x m =
       let present : p < n = omega (arith, x.1) in
-      let first : First (P (tree_in fs)) p =
+      let first : First (P (plan_in fs)) p =
       record { here = holds p present x.2; none_before = λ q h. fails q (omega arith) (x.3 q (omega arith) h) } in (
         λ e. record {
           proc = p;
@@ -119,17 +119,17 @@ module _ (fs : List Form) (written : fs ≡ forms (tree_in fs)) (test : ℕ → 
           begins = subst (λ gs. FormWhere (BeginsProc p) gs m) written (number-proc fs p m (there p present) (some-injective (proc_form_from 1 p fs) m e));
         },
         λ y.
-            let same : y.proc ≡ p = first-unique (P (tree_in fs)) y.proc p y.lowest first in
+            let same : y.proc ≡ p = first-unique (P (plan_in fs)) y.proc p y.lowest first in
             let at : FormWhere (BeginsProc p) fs m = rw (same, ← written) at y.begins in
             ap {B = Option ℕ} some (proc-number fs p m (there p present) at),
       )
 
-  pub lowest-names : Names (proc_form fs (lowest_from test 0 (length (plan_in fs).procs))) (LowestProc P (tree_in fs))
+  pub lowest-names : Names (proc_form fs (lowest_from test 0 (length (plan_in fs).procs))) (LowestProc P (plan_in fs))
   lowest-names = names (lowest_from test 0 n) (lowest test n 0)
 
   -- the rule refuses nothing exactly where P holds of no procedure
-  pub none-lowest : (rule : ℕ) → proc_refusal rule fs test ≡ none → (p : ℕ) → p < length (plan_in fs).procs → P (tree_in fs) p → ⊥
+  pub none-lowest : (rule : ℕ) → proc_refusal rule fs test ≡ none → (p : ℕ) → p < length (plan_in fs).procs → P (plan_in fs) p → ⊥
   none-lowest rule e p h = fails p h (proc_refusal-none rule fs test e p h)
 
-  pub lowest-none : (rule : ℕ) → ((p : ℕ) → p < length (plan_in fs).procs → P (tree_in fs) p → ⊥) → proc_refusal rule fs test ≡ none
+  pub lowest-none : (rule : ℕ) → ((p : ℕ) → p < length (plan_in fs).procs → P (plan_in fs) p → ⊥) → proc_refusal rule fs test ≡ none
   lowest-none rule h = none-proc_refusal rule fs test (λ p b. false_where (test p) _ (decide p b) (h p b))

@@ -1,13 +1,11 @@
 -- A rule of procedures says by its test which ones break it (`reaches_itself`, `no_thread_reaches`), and those behind it refuse by other numbers: so a text that keeps the rules
--- before is refused by it exactly if some procedure breaks it, by 12 for recursion (`recursion_refused_exactly`), by 13 for an idle one (`idle-refused-exactly`). The threads at the
--- highest counts run just what the thread lines name, since rule 15 leaves no line without a copy (`reached-highest`).
+-- before is refused by it exactly if some procedure breaks it, by 12 for recursion (`recursion_refused_exactly`), by 13 for an idle one (`idle-refused-exactly`).
 use Prim.Native.Nat.{ℕ, ◌<◌}
 use mathlib.Core.Bool.{Bool, not}
-use mathlib.Core.List.Memᴰ
-use mathlib.Core.List.{List, Memᴰ}
+use mathlib.Core.List.{List}
 use mathlib.Core.Logic.{◌↔◌}
 use mathlib.Core.Option.{Option, none, some, none-ne-some, some-injective, or_else}
-use mathlib.Core.Path.{◌≡◌, refl, sym, ap, subst}
+use mathlib.Core.Path.{◌≡◌, refl, ap}
 use native.Mathlib.Omega.{arith}
 use lib.Dec.{ltb}
 use lib.ListN.{length}
@@ -17,19 +15,15 @@ use Rattle.text.specs.declared.Form.{Form}
 use Rattle.text.specs.declared.Refusal.{Refusal}
 use Rattle.text.specs.Lines.{refusal, forms_of, line_of}
 use Rattle.semantics.specs.Plan.{Block, LockPlan}
-use Rattle.semantics.specs.Calls.{Recursive, Reachable, named, through-calls, Idle}
-use Rattle.semantics.specs.Ranges.{RangedPlan, highest, AllInRange}
+use Rattle.semantics.specs.Calls.{Recursive, Idle}
 use Rattle.semantics.specs.CallMasks.{reaches, reachable}
 use Rattle.semantics.specs.Sizes.{size_of}
 use Rattle.semantics.proofs.Calls.Closure.{reaches-is, reacher_present}
 use Rattle.semantics.proofs.Calls.Reachable.{reachable-is}
-use Rattle.semantics.proofs.Conflicts.Ranges.{named-highest}
-use Rattle.plan.specs.Grammar.{tree_in, plan_in}
+use Rattle.plan.specs.Grammar.{plan_in}
 use Rattle.plan.specs.Rules.{refused_at, lines_refusal, grammar_refusal, proc_form_from, proc_form, lowest_from, proc_refusal, recursive, idle, too_large}
-use Rattle.plan.specs.Rules.{forms_refusal, refusal_in_file, in_file, tree_of, plan_of, plan_refusal}
+use Rattle.plan.specs.Rules.{forms_refusal, refusal_in_file, in_file, plan_of, plan_refusal}
 use Rattle.plan.proofs.Lowest.{Lowest, lowest}
-use Rattle.plan.proofs.Sound.{forms-settled}
-use Rattle.demands.specs.Broken.{one_each}
 use Rattle.demands.proofs.Firsts.{Decides, holds_where, fails_where, decides_iff, decides_itself, decides_not}
 
 -- ---- the tests
@@ -39,26 +33,6 @@ reaches_itself ps p = decides_iff (reaches ps p p) _ _ (reaches-is ps p p) (deci
 
 pub no_thread_reaches : (plan : LockPlan) (p : ℕ) → Decides (not (reachable plan p)) (Idle plan p)
 no_thread_reaches plan p = decides_not (reachable plan p) _ (decides_iff (reachable plan p) _ _ (reachable-is plan p) (decides_itself (reachable plan p)))
-
--- what is reachable goes by which procedures the threads run, however many run each
-same-reachable : (ps : List Block) (ns ms : List ℕ) → ((q : ℕ) → Memᴰ q ns → Memᴰ q ms) → (p : ℕ)
-    → Reachable (record { procs = ps; threads = ns }) p → Reachable (record { procs = ps; threads = ms }) p
-same-reachable ps ns ms h p (named m) = named (h p m)
-same-reachable ps ns ms h p (through-calls {q} m r) = through-calls (h q m) r
-
--- rule 13 goes by the threads at the highest counts, and these run what the lines name
-pub reached-highest : (plan : RangedPlan) → AllInRange plan.lines → (p : ℕ) → Reachable (highest plan) p ↔ Reachable (one_each plan) p
-reached-highest plan ranges p =
-    let ns = (highest plan).threads in
-    let ms = (one_each plan).threads in (
-      same-reachable plan.procs ns ms (λ q m. let (l, i, e) = (named-highest plan ranges q).0 m in subst (λ s. Memᴰ s ms) (sym e) (Memᴰ.map (λ l. l.proc) i)) p,
-      same-reachable plan.procs ms ns (λ q m. let (l, i, e) = Memᴰ.of_map (λ l. l.proc) plan.lines m in (named-highest plan ranges q).1 (l, i, sym e)) p,
-    )
-
-pub no_line-reaches : (plan : RangedPlan) → AllInRange plan.lines → (p : ℕ) → Decides (not (reachable (highest plan) p)) (Idle (one_each plan) p)
-no_line-reaches plan ranges p =
-    let r = reached-highest plan ranges p in
-    decides_iff (not (reachable (highest plan) p)) (Idle (highest plan) p) (Idle (one_each plan) p) (λ i x. i (r.1 x), λ i x. i (r.0 x)) (no_thread_reaches (highest plan) p)
 
 -- ---- the numbers by which rules refuse
 
@@ -127,15 +101,15 @@ module _ (text : List ℕ) (lines : lines_refusal text ≡ none) (formed : gramm
   later-idle = other_or 12 (idle forms) (too_large forms) (other-proc 12 13 forms (λ p. not (reachable plan p)) (λ e. omega arith)) (later-large 12 (λ e. omega arith))
 
   pub recursion_refused_exactly : ((l : ℕ) × (plan_refusal text ≡ some (refusal 12 l))) ↔ ((p : ℕ) × Recursive (plan_of text).procs p)
-  unfolding tree_of plan_refusal forms_refusal recursive or_else
+  unfolding plan_of plan_refusal forms_refusal recursive or_else
   recursion_refused_exactly =
       let x = refused_exactly_by text 12 (λ p. reaches plan.procs p p) (Recursive plan.procs) (λ p h. reaches_itself plan.procs p) _ later-idle in
       rw (lines, formed, first_assoc (recursive forms) (idle forms) (too_large forms))
       (λ y. let z = x.0 y in (z.0, z.2), λ y. x.1 (y.0, reacher_present plan.procs y.1, y.1))
 
   pub idle-refused-exactly : recursive (forms_of text) ≡ none
-      → ((l : ℕ) × (plan_refusal text ≡ some (refusal 13 l))) ↔ ((p : ℕ) × (p < length (tree_of text).procs) × Idle (one_each (tree_of text)) p)
-  unfolding tree_of plan_refusal forms_refusal idle or_else
+      → ((l : ℕ) × (plan_refusal text ≡ some (refusal 13 l))) ↔ ((p : ℕ) × (p < length (plan_of text).procs) × Idle (plan_of text) p)
+  unfolding plan_of plan_refusal forms_refusal idle or_else
   idle-refused-exactly acyclic =
       rw (lines, formed, acyclic)
-      (refused_exactly_by text 13 (λ p. not (reachable plan p)) (Idle (one_each (tree_in forms))) (λ p h. no_line-reaches (tree_in forms) (forms-settled forms formed).in_range p) (too_large forms) (later-large 13 (λ e. omega arith)))
+      (refused_exactly_by text 13 (λ p. not (reachable plan p)) (Idle plan) (λ p h. no_thread_reaches plan p) (too_large forms) (later-large 13 (λ e. omega arith)))

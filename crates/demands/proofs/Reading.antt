@@ -10,7 +10,6 @@ use Rattle.plan.specs.declared.Counts.{Counts}
 use Rattle.plan.specs.Limits.{counted, count_if}
 use Rattle.plan.specs.Structure.{misplaced_form}
 use Rattle.plan.proofs.States.{State, initial, Step, mode_of, stack_of, misplaced_from, after-step, step_or_refused}
-use Rattle.demands.specs.Broken.{all_copies}
 use Rattle.demands.proofs.Counting.{Counted, counted-more, counts_of, counts_snoc}
 use Rattle.demands.proofs.Depth.{Open, open_step}
 
@@ -39,7 +38,7 @@ reached-from later (f ∷ mid) before s number a h =
     (step_or_refused s f)
 
 at-start : Along initial [] (counts_of [])
-unfolding counts_of Open count_if all_copies
+unfolding counts_of Open count_if
 at-start = record { counts = record { procs = refl; statements = refl; threads = refl }; brackets = record { none-begun = refl; depth = refl } }
 
 pub reached : (fs : List Form) → misplaced_form fs ≡ none → (read later : List Form) → fs ≡ read ++ later → Reached read

@@ -13,32 +13,31 @@ use Rattle.laws.proofs.Tests.{first-none}
 use Rattle.text.specs.declared.Form.{Form}
 use Rattle.text.specs.Lines.{refusal, forms_of, unreadable_line, IsText}
 use Rattle.text.proofs.Splits.{readable-written, text-written}
-use Rattle.semantics.specs.Ranges.{RangedPlan, highest}
+use Rattle.semantics.specs.Plan.{LockPlan}
 use Rattle.semantics.specs.Calls.{Recursive, Idle}
 use Rattle.semantics.specs.CallMasks.{reaches, reachable}
 use Rattle.semantics.specs.Sizes.{size_of, thread_sizes}
-use Rattle.plan.specs.Grammar.{forms, tree_in, plan_in}
+use Rattle.plan.specs.Grammar.{forms, plan_in}
 use Rattle.plan.specs.Structure.{misplaced_form}
 use Rattle.plan.specs.Limits.{past_limit_form, breaking_form}
 use Rattle.plan.specs.Rules.{refused_at, refused_if, too_long, lines_refusal, references_refusal, grammar_refusal, proc_form, lowest_from, proc_refusal, recursive, idle, too_large}
-use Rattle.plan.specs.Rules.{forms_refusal, tree_of, plan_of, plan_refusal, too_few_entries, verdict_refusal, pairs_refusal, copy_refusal, are_no_two, no_two_threads, crossings_refusal}
-use Rattle.plan.proofs.Trees.{tree_of-forms}
+use Rattle.plan.specs.Rules.{forms_refusal, plan_of, plan_refusal, too_few_entries, verdict_refusal, pairs_refusal, copy_refusal, are_no_two, no_two_threads, crossings_refusal}
+use Rattle.plan.proofs.Trees.{plan_of-forms}
 use Rattle.plan.proofs.Denotes.{accepted_denotes}
-use Rattle.plan.proofs.Sound.{forms-settled}
 use Rattle.plan.proofs.FirstMisplaced.{structure_first}
 use Rattle.plan.proofs.Kept.{kept, no_line}
 use Rattle.plan.proofs.AcceptedTable.{accepted-rules}
 use Rattle.demands.specs.Lines.{First, FormWhere}
-use Rattle.demands.specs.Broken.{TooShort, TooLong, Unreadable, OfForms, FirstForm, Misplaced, PastLimit, HighLock, AbsentCallee, AbsentProc, BadRange}
-use Rattle.demands.specs.Broken.{OfPlan, LowestProc, one_each, TooLarge, TooFewEntries, AbsentRequest, NoTwoThreads}
+use Rattle.demands.specs.Broken.{TooShort, TooLong, Unreadable, OfForms, FirstForm, Misplaced, PastLimit, HighLock, AbsentCallee, AbsentProc}
+use Rattle.demands.specs.Broken.{OfPlan, LowestProc, TooLarge, TooFewEntries, AbsentRequest, NoTwoThreads}
 use Rattle.demands.specs.Broken.{Rule, rule, form_rules, plan_rules, verdict_rules, pairs_rules, copy_rules, crossings_rules, FirstBroken}
 use Rattle.demands.proofs.Order.{Names, RefusesBy, by_rule, then}
 use Rattle.demands.proofs.InFile.{refuses-in_file}
 use Rattle.demands.proofs.Firsts.{Decides, decides_or, below, at_most, equal}
 use Rattle.demands.proofs.Readable.{readable_names}
-use Rattle.demands.proofs.Limits.{limits-names, locks-names, calls-names, threads-names, ranges-names}
+use Rattle.demands.proofs.Limits.{limits-names, locks-names, calls-names, threads-names}
 use Rattle.demands.proofs.Lowest.{lowest-names}
-use Rattle.demands.proofs.ProcRules.{reaches_itself, no_line-reaches}
+use Rattle.demands.proofs.ProcRules.{reaches_itself, no_thread_reaches}
 
 -- a rule that names no line
 flag_names : (b : Bool) (P : Type 0) → Decides b P → Names (cond b (some 0) none) (λ n. P × (n ≡ 0))
@@ -87,20 +86,20 @@ module _ (text : List ℕ) where
     structured : misplaced_form (forms_of text) ≡ none
     structured = (kept (forms_of text) formed).0
 
-    plan : RangedPlan
-    plan = tree_in (forms_of text)
+    plan : LockPlan
+    plan = plan_in (forms_of text)
 
-    of_plan : (P : RangedPlan → ℕ → Type 0) (o : Option ℕ) → Names o (P plan) → Names o (OfPlan P text)
+    of_plan : (P : LockPlan → ℕ → Type 0) (o : Option ℕ) → Names o (P plan) → Names o (OfPlan P text)
     unfolding plan
     of_plan P o h n =
         let d = accepted_denotes (forms_of text) structured in (
           λ e. record { plan = plan; grammatical = d.0; written = subst (IsText text) d.1 (readable-written text readable); broken = (h n).0 e },
           λ y.
-              let same : plan ≡ y.plan = ap tree_in (same-forms readable (forms y.plan) y.written) ∙ tree_of-forms y.plan y.grammatical in
+              let same : plan ≡ y.plan = ap plan_in (same-forms readable (forms y.plan) y.written) ∙ plan_of-forms y.plan y.grammatical in
               (h n).1 (subst (λ q. P q n) (sym same) y.broken),
         )
 
-    by_proc : (number : ℕ) (P : RangedPlan → ℕ → Type 0) (test : ℕ → Bool) → ((p : ℕ) → p < length plan.procs → Decides (test p) (P plan p))
+    by_proc : (number : ℕ) (P : LockPlan → ℕ → Type 0) (test : ℕ → Bool) → ((p : ℕ) → p < length plan.procs → Decides (test p) (P plan p))
         → RefusesBy (rule number (OfPlan (LowestProc P) text) ∷ []) (proc_refusal number (forms_of text) test)
     unfolding plan proc_refusal
     by_proc number P test decide =
@@ -112,32 +111,32 @@ module _ (text : List ℕ) where
     unfolding recursive plan
     rule_12 = by_proc 12 (λ plan. Recursive plan.procs) (λ p. reaches plan.procs p p) (λ p h. reaches_itself plan.procs p)
 
-    rule_13 : RefusesBy (rule 13 (OfPlan (LowestProc (λ plan. Idle (one_each plan))) text) ∷ []) (idle (forms_of text))
+    rule_13 : RefusesBy (rule 13 (OfPlan (LowestProc Idle) text) ∷ []) (idle (forms_of text))
     unfolding idle plan
-    rule_13 = by_proc 13 (λ plan. Idle (one_each plan)) (λ p. not (reachable (highest plan) p)) (λ p h. no_line-reaches plan (forms-settled (forms_of text) formed).in_range p)
+    rule_13 = by_proc 13 Idle (λ p. not (reachable plan p)) (λ p h. no_thread_reaches plan p)
 
     rule_9 : RefusesBy (rule 9 (OfPlan (LowestProc TooLarge) text) ∷ []) (too_large (forms_of text))
     unfolding too_large plan
     rule_9 = by_proc 9 TooLarge (λ p. ltb max_size (size_of plan.procs p)) (λ p h. below max_size (size_of plan.procs p))
 
     -- that names no line
-    of_plan_if : (number : ℕ) (P : RangedPlan → Type 0) (b : Bool) → Decides b (P plan) → RefusesBy (rule number (OfPlan (λ q n. P q × (n ≡ 0)) text) ∷ []) (refused_if number b)
+    of_plan_if : (number : ℕ) (P : LockPlan → Type 0) (b : Bool) → Decides b (P plan) → RefusesBy (rule number (OfPlan (λ q n. P q × (n ≡ 0)) text) ∷ []) (refused_if number b)
     of_plan_if number P b d =
         by_flag (rule number (OfPlan (λ q n. P q × (n ≡ 0)) text)) b (of_plan (λ q n. P q × (n ≡ 0)) (cond b (some 0) none) (flag_names b (P plan) d))
 
     rule_1_entries : (lent : ℕ) → RefusesBy (rule 1 (OfPlan (TooFewEntries lent) text) ∷ []) (too_few_entries (plan_of text) lent)
-    unfolding tree_of plan too_few_entries
-    rule_1_entries lent = of_plan_if 1 (λ q. lent < thread_sizes (highest q)) (ltb lent (thread_sizes (highest plan))) (below lent (thread_sizes (highest plan)))
+    unfolding plan_of plan too_few_entries
+    rule_1_entries lent = of_plan_if 1 (λ q. lent < thread_sizes q) (ltb lent (thread_sizes plan)) (below lent (thread_sizes plan))
 
     rule_11 : (p : ℕ) → RefusesBy (rule 11 (OfPlan (AbsentRequest p) text) ∷ []) (refused_if 11 (leb (length (plan_of text).procs) p))
-    unfolding tree_of plan
+    unfolding plan_of plan
     rule_11 p = of_plan_if 11 (λ q. length q.procs ≤ p) (leb (length plan.procs) p) (at_most (length plan.procs) p)
 
     rule_14 : (t u : ℕ) → RefusesBy (rule 14 (OfPlan (NoTwoThreads t u) text) ∷ []) (no_two_threads (plan_of text) t u)
-    unfolding tree_of plan are_no_two
+    unfolding plan_of plan are_no_two
     rule_14 t u =
-        let n = length (highest plan).threads in
-        of_plan_if 14 (λ q. (length (highest q).threads ≤ t) ⊎ (length (highest q).threads ≤ u) ⊎ (t ≡ u)) (are_no_two n t u)
+        let n = length plan.threads in
+        of_plan_if 14 (λ q. (length q.threads ≤ t) ⊎ (length q.threads ≤ u) ⊎ (t ≡ u)) (are_no_two n t u)
         (decides_or (leb n t) (leb n u || eqb t u) _ _ (at_most n t) (decides_or (leb n u) (eqb t u) _ _ (at_most n u) (equal t u)))
 
 -- ---- the rules, one after the other
@@ -153,8 +152,7 @@ module _ (text : List ℕ) where
         (λ e. then (by_form text readable 5 (λ fs before f. PastLimit (before ++ f ∷ [])) (past_limit_form fs) (limits-names fs (no_line 4 (misplaced_form fs) e)))
         (λ _. then (by_form text readable 6 (λ fs before f. HighLock f) (breaking_form 6 fs) (locks-names fs))
         (λ _. then (by_form text readable 7 (λ fs before f. AbsentCallee fs f) (breaking_form 7 fs) (calls-names fs))
-        (λ _. then (by_form text readable 8 (λ fs before f. AbsentProc fs f) (breaking_form 8 fs) (threads-names fs))
-        (λ _. by_form text readable 15 (λ fs before f. BadRange f) (breaking_form 15 fs) (ranges-names fs)))))))
+        (λ _. by_form text readable 8 (λ fs before f. AbsentProc fs f) (breaking_form 8 fs) (threads-names fs))))))
         (λ formed. then (then (rule_12 text readable formed) (λ _. rule_13 text readable formed)) (λ _. rule_9 text readable formed))
 
   pub plan-refuses : RefusesBy (plan_rules text) (plan_refusal text)

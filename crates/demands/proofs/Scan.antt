@@ -1,5 +1,5 @@
 -- A pass over forms names the first form of which P holds, by its number, where its test of a form says whether P does (`scan-names`). The pass of rule 5 counts the forms
--- read (`limits-scan`), those of rules 6 to 8 and 15 do not (`numbers-scan`).
+-- read (`limits-scan`), those of rules 6 to 8 do not (`numbers-scan`).
 use Prim.Native.Nat.{ℕ, suc, ◌+◌, ◌<◌, ◌≤◌}
 use mathlib.Core.Bool.{Bool, true, false, cond}
 use mathlib.Core.List.{List, [], ◌∷◌, ◌++◌, append-nil, head-eq_of_cons-eq}

@@ -1,15 +1,14 @@
 -- What it means that a text breaks a rule, and at which line: said of the text, and of the forms or the plan that its lines spell. A text keeps the rules 2 to
--- 9, 12, 13 and 15 exactly when its plan is not refused (theorems `accepted-exactly`, `unbroken-exactly`), and (r, l) is the refusal exactly when rule r is the first one broken,
+-- 9, 12 and 13 exactly when its plan is not refused (theorems `accepted-exactly`, `unbroken-exactly`), and (r, l) is the refusal exactly when rule r is the first one broken,
 -- at line l (`refused-exactly`). Each rule is stated for texts that break none before it, as `FirstBroken` asks: the numbers of brackets count on rule 4, sizes on rules 7 and 12,
 -- their sum on rule 8 too. 01, "Rules, in checking order".
-use Rattle.std.specs.Prelude.{ℕ, ◌+◌, ◌<◌, ◌≤◌, List, [], ◌∷◌, ◌++◌, map, false, ◌⊎◌, ◌≡◌, length}
+use Rattle.std.specs.Prelude.{ℕ, ◌+◌, ◌<◌, ◌≤◌, List, [], ◌∷◌, ◌++◌, false, ◌⊎◌, ◌≡◌, length}
 use Rattle.limits.specs.Limits.{max_bytes, max_procs, max_statements, max_threads, max_brackets, lock_count, max_size, max_pair_words}
 use Rattle.text.specs.declared.Form.{Form}
 use Rattle.text.specs.declared.Form.TheVariants.{Proc, Thread, Call, Hold, Share}
-use Rattle.text.specs.Forms.{IsForm, most_in, is_proc, is_statement, is_bracket, is_close}
+use Rattle.text.specs.Forms.{IsForm, is_proc, is_thread, is_statement, is_bracket, is_close}
 use Rattle.text.specs.Lines.{split, ended_line, unindented, passed_over, IsText}
 use Rattle.semantics.specs.Plan.{LockPlan}
-use Rattle.semantics.specs.Ranges.{RangedPlan, highest}
 use Rattle.semantics.specs.Calls.{Recursive, Reachable, Idle}
 use Rattle.semantics.specs.Sizes.{size_of, thread_sizes}
 use Rattle.plan.specs.Grammar.{forms, Grammatical}
@@ -71,16 +70,11 @@ pub record TooDeep (fs : List Form) : Type 0 where
   pub last : count_if is_proc inside ≡ 0
   pub unclosed : count_if is_close inside + max_brackets < count_if is_bracket inside
 
--- 02, change 10: "Rule 5, the sizes' sum and thread numbers use the highest counts": how many threads the forms have, lines that rule 15 refuses counted too
-unfoldable pub all_copies : List Form → ℕ
-all_copies [] = 0
-all_copies (f ∷ fs) = most_in f + all_copies fs
-
 -- 5: "There are more than 64 procedures, 1,024 statements, 6 threads, or 16 brackets .. (first line past a limit)", among the forms up to one
 pub data PastLimit (fs : List Form) : Type 0 where
   procedures : max_procs < count_if is_proc fs → PastLimit fs
   statements : max_statements < count_if is_statement fs → PastLimit fs
-  threads : max_threads < all_copies fs → PastLimit fs
+  threads : max_threads < count_if is_thread fs → PastLimit fs
   brackets : TooDeep fs → PastLimit fs
 
 -- 6: "A hold names a lock above 31 (first such line)." 02, change 9, of a share: "with rule 6 for its lock"
@@ -98,24 +92,14 @@ pub record AbsentCallee (fs : List Form) (f : Form) : Type 0 where
 -- 8: "A thread names a procedure that is not there (first such line)."
 pub record AbsentProc (fs : List Form) (f : Form) : Type 0 where
   pub proc : ℕ
-  pub least : ℕ
-  pub most : ℕ
-  pub thread : f ≡ Thread proc least most
+  pub thread : f ≡ Thread proc
   pub absent : count_if is_proc fs ≤ proc
-
--- 15, 02, change 10: "B zero or A above B (first such line)"
-pub record BadRange (f : Form) : Type 0 where
-  pub proc : ℕ
-  pub least : ℕ
-  pub most : ℕ
-  pub thread : f ≡ Thread proc least most
-  pub bad : (most ≡ 0) ⊎ (most < least)
 
 -- ---- of the plan
 
 -- P, of the plan whose forms the text's lines spell, and of a form's number or of 0, no line
-pub record OfPlan (P : RangedPlan → ℕ → Type 0) (text : List ℕ) (n : ℕ) : Type 0 where
-  pub plan : RangedPlan
+pub record OfPlan (P : LockPlan → ℕ → Type 0) (text : List ℕ) (n : ℕ) : Type 0 where
+  pub plan : LockPlan
   pub grammatical : Grammatical plan
   pub written : IsText text (forms plan)
   pub broken : P plan n
@@ -125,7 +109,7 @@ abbrev pub BeginsProc : ℕ → List Form → Form → Type 0
 BeginsProc p before f = (f ≡ Proc) × (count_if is_proc before ≡ p)
 
 -- "`(proc` line of the lowest such", of the procedures of which P holds
-pub record LowestProc (P : RangedPlan → ℕ → Type 0) (plan : RangedPlan) (n : ℕ) : Type 0 where
+pub record LowestProc (P : LockPlan → ℕ → Type 0) (plan : LockPlan) (n : ℕ) : Type 0 where
   pub proc : ℕ
   pub present : proc < length plan.procs
   pub lowest : First (P plan) proc
@@ -133,26 +117,23 @@ pub record LowestProc (P : RangedPlan → ℕ → Type 0) (plan : RangedPlan) (n
 
 -- 12, 02, change 2: "a procedure that reaches itself, .. names the `(proc` line of the lowest such": `Recursive`
 
--- 13, 02, change 6: "a procedure that no thread names or reaches through calls", "naming the first idle procedure's `(proc` line"; change 10: "A procedure named on a thread
--- line counts as reached, whatever its counts": `Idle`, of the gateway with one thread for each line
-abbrev pub one_each : RangedPlan → LockPlan
-one_each plan = record { procs = plan.procs; threads = map (λ l. l.proc) plan.lines }
+-- 13, 02, change 6: "a procedure that no thread names or reaches through calls", "naming the first idle procedure's `(proc` line": `Idle`
 
 -- 9: "Some procedure's size exceeds 1,024"
-abbrev pub TooLarge : RangedPlan → ℕ → Type 0
+abbrev pub TooLarge : LockPlan → ℕ → Type 0
 TooLarge plan p = max_size < size_of plan.procs p
 
--- 1, for a schedule, by 02, change 4: "fewer entries than this sum", that of the threads' sizes, at the highest counts; 01: "(line 0)"
-abbrev pub TooFewEntries : ℕ → RangedPlan → ℕ → Type 0
-TooFewEntries lent plan = TooShort (thread_sizes (highest plan)) lent
+-- 1, for a schedule, by 02, change 4: "fewer entries than this sum", that of the threads' sizes; 01: "(line 0)"
+abbrev pub TooFewEntries : ℕ → LockPlan → ℕ → Type 0
+TooFewEntries lent plan = TooShort (thread_sizes plan) lent
 
 -- 11: "The pairs of a procedure that is not there are requested (line 0)."
-abbrev pub AbsentRequest : ℕ → RangedPlan → ℕ → Type 0
+abbrev pub AbsentRequest : ℕ → LockPlan → ℕ → Type 0
 AbsentRequest p plan n = (length plan.procs ≤ p) × (n ≡ 0)
 
--- 14, 02, change 7: "a thread not there or the same one twice", of the threads at the highest counts; it names no line
-abbrev pub NoTwoThreads : ℕ → ℕ → RangedPlan → ℕ → Type 0
-NoTwoThreads t u plan n = ((length (highest plan).threads ≤ t) ⊎ (length (highest plan).threads ≤ u) ⊎ (t ≡ u)) × (n ≡ 0)
+-- 14, 02, change 7: "a thread not there or the same one twice"; it names no line
+abbrev pub NoTwoThreads : ℕ → ℕ → LockPlan → ℕ → Type 0
+NoTwoThreads t u plan n = ((length plan.threads ≤ t) ⊎ (length plan.threads ≤ u) ⊎ (t ≡ u)) × (n ≡ 0)
 
 -- ---- the rules in checking order
 
@@ -164,7 +145,7 @@ pub record Rule : Type 1 where
 abbrev pub rule : ℕ → (ℕ → Type 0) → Rule
 rule n broken = record { number = n; broken = broken }
 
--- the rules that name a form by its number: 4 to 8, 15, which "stands between 8 and 12", 12, 13, which "stands after 12 and before 9", and 9
+-- the rules that name a form by its number: 4 to 8, 12, which "follows rule 8", 13, which "stands after 12 and before 9", and 9
 unfoldable pub form_rules : List ℕ → List Rule
 form_rules text =
     rule 4 (OfForms Misplaced text) ∷
@@ -172,9 +153,8 @@ form_rules text =
     rule 6 (FirstForm (λ fs before f. HighLock f) text) ∷
     rule 7 (FirstForm (λ fs before f. AbsentCallee fs f) text) ∷
     rule 8 (FirstForm (λ fs before f. AbsentProc fs f) text) ∷
-    rule 15 (FirstForm (λ fs before f. BadRange f) text) ∷
     rule 12 (OfPlan (LowestProc (λ plan. Recursive plan.procs)) text) ∷
-    rule 13 (OfPlan (LowestProc (λ plan. Idle (one_each plan))) text) ∷
+    rule 13 (OfPlan (LowestProc Idle) text) ∷
     rule 9 (OfPlan (LowestProc TooLarge) text) ∷
     []
 
@@ -220,12 +200,12 @@ FirstBroken (q ∷ qs) r l = ((q.number ≡ r) × q.broken l) ⊎ (Unbroken q ×
 
 -- ---- a text that keeps the rules
 
--- The text is short and its lines spell a plan that keeps what the rules say: `Settled` has those of 4 to 8 and 15, then 12, 13 and 9.
+-- The text is short and its lines spell a plan that keeps what the rules say: `Settled` has those of 4 to 8, then 12, 13 and 9.
 pub record AcceptedText (text : List ℕ) : Type 0 where
   pub short : length text ≤ max_bytes
-  pub plan : RangedPlan
+  pub plan : LockPlan
   pub written : IsText text (forms plan)
   pub settled : Settled plan
   pub acyclic : (p : ℕ) → Recursive plan.procs p → ⊥
-  pub reachable : (p : ℕ) → p < length plan.procs → Reachable (one_each plan) p
+  pub reachable : (p : ℕ) → p < length plan.procs → Reachable plan p
   pub sizes : (p : ℕ) → p < length plan.procs → size_of plan.procs p ≤ max_size

@@ -1,17 +1,17 @@
 -- The plans of 01's reference shelf as texts, each with the refusal, or with the pairs and the verdict, that it gets: the starred ones A to K (`reference`),
--- and texts at the limits of each rule, with later calls, with idle procedures, with ranges, with what is passed over and with shares (`limits`). That each gives what its row says
--- is the theorem `examples-facts`, of the starred ones alone `reference-facts`. 01, "Plans on the reference shelf".
+-- and texts at the limits of each rule, with later calls, with idle procedures, with what is passed over and with shares (`limits`). That each gives what its row says is the theorem
+-- `examples-facts`, of the starred ones alone `reference-facts`. 01, "Plans on the reference shelf".
 use Rattle.std.specs.Prelude.{ℕ, zero, suc, List, [], ◌∷◌, ◌++◌, map, ◌≡◌}
 use Rattle.std.proofs.Math.Option.{none, some}
 use Rattle.laws.specs.Bytes.{bytes}
 use Rattle.semantics.specs.Pairs.{pair_from}
 use Rattle.semantics.specs.HoldsOnly.{as_record}
-use Rattle.semantics.specs.Cases.{Expected, free, deadlock, grown, CaseFacts}
+use Rattle.semantics.specs.Cases.{Expected, free, deadlock, CaseFacts}
 use Rattle.text.specs.Forms.{decimal}
 use Rattle.text.specs.Lines.{refusal}
-use Rattle.plan.specs.Rules.{tree_of, plan_refusal}
+use Rattle.plan.specs.Rules.{plan_of, plan_refusal}
 
--- What comes of a text: a rule and a line; or the pairs of its first procedures, of as many as there are lists, and the verdict, which is true of its plan.
+-- What comes of a text: a rule and a line; or the pairs of its first procedures, of as many as there are lists, and the verdict.
 pub data Outcome : Type 0 where
   refused_by : ℕ → ℕ → Outcome
   accepted : List (List ℕ) → Expected → Outcome
@@ -30,7 +30,7 @@ records wss = map (λ ws. map as_record ws) wss
 -- a text that no rule refuses, and what its row says of its plan
 pub record AcceptedWith (text : List ℕ) (pairs : List (List ℕ)) (a : Expected) : Type 0 where
   pub kept : plan_refusal text ≡ none
-  pub facts : CaseFacts (tree_of text) pairs a
+  pub facts : CaseFacts (plan_of text) pairs a
 
 -- what an outcome says of a text
 abbrev pub Gives : List ℕ → Outcome → Type 0
@@ -227,44 +227,6 @@ idle_procs =
     (good ((0 ∷ 33 ∷ []) ∷ (1 ∷ []) ∷ (1 ∷ []) ∷ (1 ∷ []) ∷ (1 ∷ []) ∷ [])) ∷
     []
 
--- either of 0[1] or 1[0]
-abbrev uploader : List ℕ
-uploader = bytes "(either\n(one\n(hold 0\n(hold 1\n(skip)\n)\n)\n)\n(two\n(hold 1\n(hold 0\n(skip)\n)\n)\n)\n)\n"
-
--- 0[1] and 1[0]
-abbrev opposed : List ℕ
-opposed = proc (bytes "(hold 0\n(hold 1\n(skip)\n)\n)\n") ++ proc (bytes "(hold 1\n(hold 0\n(skip)\n)\n)\n")
-
--- 02, change 10. Six copies at most, of lines together too, also those of a line that rule 15 refuses; copies are counted and not lines; B zero; A above B; the first of two such lines;
--- rule 5 before 15, 8 before 15, 15 before 12, before 13 and before 9; a procedure that is named with a lowest count of zero is reached, and so is one that it calls.
--- Then the answers: an uploader of one copy that grows to two, and of two; no thread at all at the lowest counts, and a deadlock at the highest; a deadlock at the lowest, with more
--- threads stuck at the highest counts; 0[0] by up to six threads, free
-unfoldable pub ranges : List Example
-ranges =
-    example (plan (proc skip_line) (bytes "(thread 0 0 6)\n")) (good ([] ∷ [])) ∷
-    example (plan (proc skip_line) (bytes "(thread 0 0 7)\n")) (refused_by 5 5) ∷
-    example (plan (proc skip_line) (bytes "(thread 0 3 3)\n(thread 0 1 4)\n")) (refused_by 5 6) ∷
-    example (plan (proc skip_line) (bytes "(thread 0 999 999)\n")) (refused_by 5 5) ∷
-    example (plan (proc skip_line) (copies 7 (bytes "(thread 0 0 0)\n"))) (refused_by 15 5) ∷
-    example (plan (proc skip_line) (bytes "(thread 0 0 0)\n")) (refused_by 15 5) ∷
-    example (plan (proc skip_line) (bytes "(thread 0 2 1)\n")) (refused_by 15 5) ∷
-    example (plan (proc skip_line) (bytes "(thread 0 2 1)\n(thread 0 0 0)\n")) (refused_by 15 5) ∷
-    example (plan (proc skip_line) (bytes "(thread 0)\n(thread 0 9 5)\n")) (refused_by 15 6) ∷
-    example (plan (proc skip_line) (bytes "(thread 0)\n(thread 0 9 6)\n")) (refused_by 5 6) ∷
-    example (plan (proc skip_line) (bytes "(thread 0 1 0)\n(thread 1)\n")) (refused_by 8 6) ∷
-    example (plan (proc (bytes "(call 0)\n")) (bytes "(thread 0 0 0)\n")) (refused_by 15 5) ∷
-    example (plan (proc skip_line ++ proc skip_line) (bytes "(thread 0 1 0)\n")) (refused_by 15 8) ∷
-    example (plan (proc skip_line ++ doublings ++ proc (bytes "(call 8)\n(call 8)\n")) (bytes "(thread 9 2 1)\n")) (refused_by 15 41) ∷
-    example (plan (proc skip_line ++ proc skip_line) (bytes "(thread 0 1 1)\n(thread 1 0 1)\n")) (good ([] ∷ [] ∷ [])) ∷
-    example (plan (proc (bytes "(call 1)\n") ++ proc skip_line) (bytes "(thread 0 0 1)\n")) (good ([] ∷ [] ∷ [])) ∷
-    example (plan (proc skip_line) (bytes "(thread 0 1)\n")) (refused_by 3 5) ∷
-    example (plan (proc uploader) (bytes "(thread 0 1 2)\n")) (accepted [] (grown (8 ∷ 17 ∷ 0 ∷ 1 ∷ []) (0 ∷ 1 ∷ []))) ∷
-    example (plan (proc uploader) (bytes "(thread 0 2 2)\n")) (accepted [] (deadlock (8 ∷ 17 ∷ 0 ∷ 1 ∷ []) (0 ∷ 1 ∷ []))) ∷
-    example (plan opposed (bytes "(thread 0 0 1)\n(thread 1 0 1)\n")) (accepted [] (grown (0 ∷ 1 ∷ []) (0 ∷ 1 ∷ []))) ∷
-    example (plan opposed (bytes "(thread 0)\n(thread 1 1 2)\n")) (accepted [] (deadlock (0 ∷ 1 ∷ []) (0 ∷ 1 ∷ 2 ∷ []))) ∷
-    example (plan (proc (bytes "(hold 0\n(hold 0\n(skip)\n)\n)\n")) (bytes "(thread 0 0 6)\n")) (good ((0 ∷ []) ∷ [])) ∷
-    []
-
 -- "Procedure 0 a skip, each later one two calls of the one before", up to procedure 8 and to procedure 9
 abbrev pub to8 : List ℕ
 to8 = plan (proc skip_line ++ doublings) (bytes "(thread 8)\n")
@@ -277,7 +239,7 @@ unfoldable pub rule9 : List Example
 rule9 = example to8 (good []) ∷ example to9 (refused_by 9 37) ∷ []
 
 -- 02, change 1. Case A indented, with remarks before, within and behind it, and with empty and all-space lines; a line end alone; remarks alone; the text ends too early
--- behind a remark; the rules 4, 6, 7, 8, 15, 12, 13 and 9 at lines behind remarks; a tab; blanks and a remark behind a form; a remark and spaces that are not ended
+-- behind a remark; the rules 4, 6, 7, 8, 12, 13 and 9 at lines behind remarks; a tab; blanks and a remark behind a form; a remark and spaces that are not ended
 unfoldable pub remarks : List Example
 remarks =
     example (bytes "; the viaduct\n\n(plan\n  (proc\n    (hold 0\n      ; then 1\n      (hold 1\n        (skip)\n      )\n    )\n  )\n   \n" ++ bytes " (proc\n(hold 1\n(hold 0\n(skip)\n)\n)\n)\n"
@@ -289,7 +251,6 @@ remarks =
     example (bytes ";\n" ++ single (bytes "\n (hold 32\n(skip)\n)\n")) (refused_by 6 5) ∷
     example (single (bytes ";\n\n   (call 1)\n")) (refused_by 7 5) ∷
     example (plan (proc skip_line) (bytes "  ;(thread 1)\n(thread 0)\n  (thread 1)\n")) (refused_by 8 7) ∷
-    example (bytes ";\n" ++ plan (proc skip_line) (bytes "; none\n  (thread 0 3 2)\n")) (refused_by 15 7) ∷
     example (bytes ";\n" ++ single (bytes "\n  (call 0)\n")) (refused_by 12 3) ∷
     example (bytes ";\n" ++ plan (proc skip_line ++ bytes "; idle\n\n  " ++ proc skip_line) (bytes "(thread 0)\n;(thread 1)\n")) (refused_by 13 8) ∷
     example (bytes "; to procedure 9\n" ++ to9) (refused_by 9 38) ∷
@@ -368,6 +329,6 @@ shares =
 unfoldable pub reference : List Example
 reference = case_a ∷ case_b ∷ case_c ∷ case_d ∷ case_e ∷ case_f ∷ case_g ∷ case_h ∷ case_i ∷ case_j ∷ case_k ∷ []
 
--- texts at the limits of each rule, with calls of later procedures, with idle procedures, with ranges, with what is passed over, and with shares
+-- texts at the limits of each rule, with calls of later procedures, with idle procedures, with what is passed over, and with shares
 unfoldable pub limits : List Example
-limits = rule3 ++ (rule4 ++ (rule5 ++ (rule678 ++ (later_calls ++ (idle_procs ++ (ranges ++ (rule9 ++ (remarks ++ shares))))))))
+limits = rule3 ++ (rule4 ++ (rule5 ++ (rule678 ++ (later_calls ++ (idle_procs ++ (rule9 ++ (remarks ++ shares)))))))

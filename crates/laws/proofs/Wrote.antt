@@ -15,7 +15,7 @@ front : {A : Type 0} (l a : List A) (at next : ℕ) → next ≡ at + length a �
 front l a at next e h = let k : at ≤ length l = omega arith in rw (length-append, length-take-le at l k) (sym e)
 
 module _ {A : Type 0} (l l' : List A) (at i : ℕ) (a : List A) (w : Wrote l l' at i a) where
-  pub wrote-front : take i l' ≡ take at l ++ a
+  wrote-front : take i l' ≡ take at l ++ a
   wrote-front = rw w.written (take_at (take at l ++ a) (drop i l) i (front l a at i w.place w.fits))
 
   wrote-rest : (j : ℕ) → i ≤ j → drop j l' ≡ drop j l

@@ -21,7 +21,7 @@ use Rattle.plan.specs.declared.Reading.TheVariants as plan
 use Rattle.plan.specs.Settled.{table_plan}
 use Rattle.text.specs.declared.Refusal.{Refusal}
 use Rattle.text.specs.Lines.{refusal, forms_of}
-use Rattle.plan.specs.Rules.{refused_if, tree_of, plan_of, plan_refusal, pairs_refusal, Tabled}
+use Rattle.plan.specs.Rules.{refused_if, plan_of, plan_refusal, pairs_refusal, Tabled}
 use Rattle.buffers.specs.LittleEndian.{list_bytes}
 use Rattle.answers.specs.declared.Counted.{Counted}
 use Rattle.answers.specs.declared.Counted.TheVariants.{Count, Refused}
@@ -65,7 +65,7 @@ text-refused text p lent table before q x h t g =
 
 pub text-listed : (text : List ℕ) (p lent n : ℕ) (table before after : List ℕ) (q : Reading) (r : Counted) → max_pair_words ≤ lent → Tabled (plan_refusal text) text q table
     → q ≡ Accepted n → TablePairs (take (n - 0) table) p before r after → PairsFound text p lent before r after
-unfolding tree_of or_else
+unfolding plan_of or_else
 text-listed text p lent n table before after q r h t g w =
     rw (pairs-refusal text p lent h, plan-kept text table q n t g) (rw (plan-forms text table q n t g) at w)
 

@@ -12,7 +12,7 @@ use Rattle.laws.specs.Wrote.{Wrote}
 use Rattle.laws.proofs.Tests.{eq_or_ne}
 use Rattle.semantics.specs.Plan.{Block}
 use Rattle.semantics.specs.Pairs.{pair_list}
-use Rattle.plan.specs.Settled.{RulesKept, table_tree, table_plan}
+use Rattle.plan.specs.Settled.{RulesKept, table_plan}
 use Rattle.plan.proofs.WithinSize.{few-pairs}
 use Rattle.columns.specs.Rows.{lists_below, row, rows}
 use Rattle.procs.specs.declared.Layout.{Layout}

@@ -1,36 +1,33 @@
 -- What a call promises cites the refusals, the plan and the pairs that are computed; crate `demands` shows that these are the first rule broken, the plan that the text is written
--- of and the published critical pairs. A verdict gives one of the three answers, which is true of the plan's runs, and no two of them are (`given-exactly`). Which of the three it is, is
--- computed too: by the tests over the threads' pair lists at the highest counts and at the lowest (`answer-exactly`).
+-- of and the published critical pairs. The end of a deadlock's schedule is a moment that a run reaches, so free and deadlock exclude each other. Which
+-- of the two it is, is computed too: the test over the threads' pair lists fails exactly where no run reaches a stuck set (`plan-characterisation`).
 use Prim.Native.Nat.{ℕ, ◌/◌, ◌%◌, ◌<◌, ◌≤◌}
 use native.Mathlib.Omega.{arith}
-use mathlib.Core.Path.{◌≡◌, refl, sym, ap, subst, ◌∙◌}
+use mathlib.Core.Path.{◌≡◌, refl, sym, ap, ◌∙◌}
 use mathlib.Core.List.{List, [], ◌∷◌}
-use mathlib.Core.Logic.Iff
-use mathlib.Core.Logic.{◌↔◌, inl, inr}
+use mathlib.Core.Logic.{◌↔◌, ⊎_elim}
 use mathlib.Core.Option.{Option, none, some, none-ne-some, some-injective}
 use lib.ListN.{length}
 use Rattle.limits.specs.Limits.{max_pair_words}
 use Rattle.laws.specs.Ascending.{Ascends}
 use Rattle.laws.specs.Mask.{in_mask}
+use Rattle.laws.proofs.Tests.{T-dec, T_true, T_false}
 use Rattle.text.specs.declared.Refusal.{Refusal}
 use Rattle.text.specs.Lines.{refusal}
-use Rattle.semantics.specs.Ranges.{RangedPlan, most_counts, highest, AllInRange, Answer, free, deadlock, grown, TrueOf}
-use Rattle.semantics.specs.Stuck.{DeadlockFree, StuckReached, Schedule}
-use Rattle.semantics.specs.Conflict.{computed_answer}
+use Rattle.semantics.specs.Plan.{LockPlan}
 use Rattle.semantics.specs.Sizes.{thread_sizes}
 use Rattle.semantics.specs.Pairs.{words_of}
 use Rattle.semantics.proofs.Ground.Claims.{pair_order}
 use Rattle.semantics.proofs.Critical.PairList.{pair_list-ascends}
-use Rattle.semantics.proofs.Conflicts.Characterisation.{Ranked}
-use Rattle.semantics.proofs.Conflicts.Ranges.{highest-between, free-between, not_free, schedule-stuck, answer-exactly}
-use Rattle.plan.specs.Rules.{tree_of, plan_of, plan_refusal, verdict_refusal, pairs_refusal, copy_refusal, crossings_refusal}
+use Rattle.semantics.proofs.Conflicts.Characterisation.{Ranked, plan-characterisation}
+use Rattle.plan.specs.Rules.{plan_of, plan_refusal, verdict_refusal, pairs_refusal, copy_refusal, crossings_refusal}
 use Rattle.buffers.specs.LittleEndian.{list_bytes}
 use Rattle.demands.specs.Broken.{Rule, FirstBroken, AcceptedText}
 use Rattle.demands.proofs.Refusals.{refused-exactly, verdict-refused-exactly, pairs-refused-exactly, copy-refused-exactly, crossings-refused-exactly}
-use Rattle.demands.proofs.Accepted.{accepted_tree, plan-ranked, accepted-exactly, verdict-accepted-exactly, pairs-accepted-exactly, copy-accepted-exactly}
+use Rattle.demands.proofs.Accepted.{accepted-plan, plan-ranked, accepted-exactly, verdict-accepted-exactly, pairs-accepted-exactly, copy-accepted-exactly}
 use Rattle.demands.proofs.Accepted.{crossings-accepted-exactly, published-exactly}
 use Rattle.answers.specs.declared.Verdict.{Verdict}
-use Rattle.answers.specs.declared.Verdict.TheVariants.{Free, Deadlock, Refused, Grown}
+use Rattle.answers.specs.declared.Verdict.TheVariants.{Free, Deadlock, Refused}
 use Rattle.answers.specs.declared.Counted.{Counted}
 use Rattle.answers.specs.declared.Counted.TheVariants as counted
 use Rattle.answers.specs.Answers.{counted_of, counted_number, read_counted, verdict_number, read_verdict, written}
@@ -39,14 +36,13 @@ use Rattle.copies.specs.Copies.{tidy_of, straight_of, Copied, CopiedNumber}
 use Rattle.space.specs.Slip.{needed_entries, Needs, NeedsNumber}
 use Rattle.couples.specs.Fitting.{fitting_words, fitting_bytes}
 use Rattle.crossing.specs.Crossed.{couples_in, CrossedBytes}
-use Rattle.answers.specs.Judgement.{Judgement, answer_in}
+use Rattle.answers.specs.Judgement.{Judgement}
 use Rattle.verdict.specs.Judged.{JudgedBytes}
-use Rattle.lockplan.specs.VerdictKind.{verdict_kind, answer_kind, computed_kind}
-use Rattle.lockplan.specs.Demands.{RefusesExactly, VerdictRefuses, PairsRefuse, CopyRefuses, SpaceRefuses, CrossingsRefuse, Demand1, AscendInTurn, ListsExactly, Demand2, WithSchedule, JudgesExactly, Demand3}
+use Rattle.lockplan.specs.VerdictKind.{conflict_in, verdict_kind, computed_kind}
+use Rattle.lockplan.specs.Demands.{RefusesExactly, VerdictRefuses, PairsRefuse, CopyRefuses, SpaceRefuses, CrossingsRefuse, Demand1, AscendInTurn, ListsExactly, Demand2, JudgesExactly, Demand3}
 use Rattle.answers.proofs.LineBounds.{plan_bounded, pairs_bounded, copy_bounded, crossings_bounded}
 use Rattle.answers.proofs.Counts.{counted_is}
 use Rattle.answers.proofs.ReadBack.{verdict-read, counted-read}
-use Rattle.answers.proofs.ThreeAnswers.{given-exactly}
 
 -- ---- demand 1
 
@@ -63,24 +59,25 @@ by_refusal rules Kept Refuses a first kept is = record {
     unrefused (some x) h = absurd (h x refl)
 
 -- the verdict's case of a refusal
-pub refused-is : (a : Option Refusal) (plan : RangedPlan) (v : Verdict) (es : List ℕ) → Judgement a plan v es → (x : Refusal) → (v ≡ Refused x) ↔ (a ≡ some x)
+pub refused-is : (a : Option Refusal) (plan : LockPlan) (v : Verdict) (es : List ℕ) → Judgement a plan v es → (x : Refusal) → (v ≡ Refused x) ↔ (a ≡ some x)
 unfolding Judgement
 refused-is a plan Free es j x = (λ e. let z : ◌≡◌ {A = ℕ} 0 1 = cc in absurd (omega arith), λ e. absurd (none-ne-some x (sym j.0 ∙ e)))
 refused-is a plan (Deadlock n S) es j x = (λ e. let z : ◌≡◌ {A = ℕ} 0 1 = cc in absurd (omega arith), λ e. absurd (none-ne-some x (sym j.0 ∙ e)))
 refused-is a plan (Refused y) es j x = (λ e. let i : y ≡ x = cc in j.0 ∙ ap {B = Option Refusal} some i, λ e. ap Refused (some-injective y x (sym j.0 ∙ e)))
-refused-is a plan (Grown n S) es j x = (λ e. let z : ◌≡◌ {A = ℕ} 0 1 = cc in absurd (omega arith), λ e. absurd (none-ne-some x (sym j.0 ∙ e)))
 
-pub no_schedule : (a : Option Refusal) (plan : RangedPlan) (v : Verdict) (es : List ℕ) → Judgement a plan v es → (x : Refusal) → v ≡ Refused x → es ≡ []
+pub no_schedule : (a : Option Refusal) (plan : LockPlan) (v : Verdict) (es : List ℕ) → Judgement a plan v es → (x : Refusal) → v ≡ Refused x → es ≡ []
 unfolding Judgement
-no_schedule a plan v es j x e = (subst (λ y. Judgement a plan y es) e j).1
+no_schedule a plan Free es j x e = j.1
+no_schedule a plan (Deadlock n S) es j x e = let z : ◌≡◌ {A = ℕ} 0 1 = cc in absurd (omega arith)
+no_schedule a plan (Refused y) es j x e = j.1
 
-verdict-refuses : (text : List ℕ) (lent : ℕ) (v : Verdict) (es before after : List ℕ) → Judgement (verdict_refusal text lent) (tree_of text) v es → (es ≡ [] → after ≡ before)
+verdict-refuses : (text : List ℕ) (lent : ℕ) (v : Verdict) (es before after : List ℕ) → Judgement (verdict_refusal text lent) (plan_of text) v es → (es ≡ [] → after ≡ before)
     → VerdictRefuses text lent v before after
 verdict-refuses text lent v es before after j h =
     let a = verdict_refusal text lent in
     record {
-      exactly = by_refusal _ _ (λ x. v ≡ Refused x) a (λ r l. verdict-refused-exactly text r l lent) (verdict-accepted-exactly text lent) (refused-is a (tree_of text) v es j);
-      nothing_written = λ x e. h (no_schedule a (tree_of text) v es j x e);
+      exactly = by_refusal _ _ (λ x. v ≡ Refused x) a (λ r l. verdict-refused-exactly text r l lent) (verdict-accepted-exactly text lent) (refused-is a (plan_of text) v es j);
+      nothing_written = λ x e. h (no_schedule a (plan_of text) v es j x e);
     }
 
 -- an answer that says how much, or the refusal
@@ -204,93 +201,44 @@ demand_2 text before after = record {
 
 -- ---- demand 3
 
--- which of the three a verdict gives, by its case
-free-given : (v : Verdict) → (v ≡ Free) ↔ (answer_in v ≡ some free)
-unfolding answer_in
-free-given Free = (λ _. refl, λ _. refl)
-free-given (Deadlock n S) = (λ e. let z : ◌≡◌ {A = ℕ} 0 1 = cc in absurd (omega arith), λ e. let z : ◌≡◌ {A = ℕ} 0 1 = cc in absurd (omega arith))
-free-given (Refused x) = (λ e. let z : ◌≡◌ {A = ℕ} 0 1 = cc in absurd (omega arith), λ e. absurd (none-ne-some free e))
-free-given (Grown n S) = (λ e. let z : ◌≡◌ {A = ℕ} 0 1 = cc in absurd (omega arith), λ e. let z : ◌≡◌ {A = ℕ} 0 1 = cc in absurd (omega arith))
-
-deadlock-given : (v : Verdict) → ((n : ℕ) × (S : ℕ) × (v ≡ Deadlock n S)) ↔ (answer_in v ≡ some deadlock)
-unfolding answer_in
-deadlock-given Free = (λ d. let e = d.2 in let z : ◌≡◌ {A = ℕ} 0 1 = cc in absurd (omega arith), λ e. let z : ◌≡◌ {A = ℕ} 0 1 = cc in absurd (omega arith))
-deadlock-given (Deadlock n S) = (λ _. refl, λ _. (n, S, refl))
-deadlock-given (Refused x) = (λ d. let e = d.2 in let z : ◌≡◌ {A = ℕ} 0 1 = cc in absurd (omega arith), λ e. absurd (none-ne-some deadlock e))
-deadlock-given (Grown n S) = (λ d. let e = d.2 in let z : ◌≡◌ {A = ℕ} 0 1 = cc in absurd (omega arith), λ e. let z : ◌≡◌ {A = ℕ} 0 1 = cc in absurd (omega arith))
-
-grown-given : (v : Verdict) → ((n : ℕ) × (S : ℕ) × (v ≡ Grown n S)) ↔ (answer_in v ≡ some grown)
-unfolding answer_in
-grown-given Free = (λ d. let e = d.2 in let z : ◌≡◌ {A = ℕ} 0 1 = cc in absurd (omega arith), λ e. let z : ◌≡◌ {A = ℕ} 0 1 = cc in absurd (omega arith))
-grown-given (Deadlock n S) = (λ d. let e = d.2 in let z : ◌≡◌ {A = ℕ} 0 1 = cc in absurd (omega arith), λ e. let z : ◌≡◌ {A = ℕ} 0 1 = cc in absurd (omega arith))
-grown-given (Refused x) = (λ d. let e = d.2 in let z : ◌≡◌ {A = ℕ} 0 1 = cc in absurd (omega arith), λ e. absurd (none-ne-some grown e))
-grown-given (Grown n S) = (λ _. refl, λ _. (n, S, refl))
-
--- the schedule of a verdict that carries one
-with_schedule : (plan : RangedPlan) (v : Verdict) (es : List ℕ) → Judgement none plan v es → (n S : ℕ) → WithSchedule v n S → (length es ≡ n) × Schedule (highest plan) es (in_mask S)
+pub judges_exactly : (plan : LockPlan) (v : Verdict) (es : List ℕ) → Judgement none plan v es → JudgesExactly plan v es
 unfolding Judgement
-with_schedule plan v es j n S (inl e) = let d = subst (λ y. Judgement none plan y es) e j in (d.1, d.2)
-with_schedule plan v es j n S (inr e) = let d = subst (λ y. Judgement none plan y es) e j in (d.1, d.2)
+judges_exactly plan Free es j = record {
+  free = (λ _. j.2, λ _. refl);
+  deadlock = (λ d. let e = d.2 in let z : ◌≡◌ {A = ℕ} 0 1 = cc in absurd (omega arith), λ s. absurd (j.2 s.entries s.there s.set s.reached s.stuck));
+  scheduled = λ n S e. let z : ◌≡◌ {A = ℕ} 0 1 = cc in absurd (omega arith);
+}
+judges_exactly plan (Deadlock m T) es j =
+    let s = j.2 in
+    record {
+      free = (λ e. let z : ◌≡◌ {A = ℕ} 0 1 = cc in absurd (omega arith), λ f. absurd (f es s.there (in_mask T) s.reached s.largest.stuck));
+      deadlock = (λ _. record { entries = es; there = s.there; set = in_mask T; reached = s.reached; stuck = s.largest.stuck }, λ _. (m, T, refl));
+      scheduled = λ n S e.
+          let a : m ≡ n = cc in
+          let b : T ≡ S = cc in
+          (j.1 ∙ a, rw b at s);
+    }
+judges_exactly plan (Refused x) es j = absurd (none-ne-some x j.0)
 
-module _ (plan : RangedPlan) (ranked : Ranked (highest plan)) (ranges : AllInRange plan.lines) (es : List ℕ) where
-  -- free at all counts is free at the highest, and no verdict is one of the two others then
-  free-highest : TrueOf plan free ↔ DeadlockFree plan.procs (highest plan).threads
-  unfolding TrueOf
-  free-highest = (λ f. f (most_counts plan.lines) (highest-between plan.lines ranges), free-between plan ranked)
+module _ (text : List ℕ) (lent : ℕ) (x : AcceptedText text) (enough : thread_sizes x.plan ≤ lent) where
+  judged-exactly : (v : Verdict) (es : List ℕ) → Judgement (verdict_refusal text lent) (plan_of text) v es → JudgesExactly x.plan v es
+  judged-exactly v es j = judges_exactly x.plan v es (rw ((verdict-accepted-exactly text lent).1 (x, enough), accepted-plan text x) at j)
 
-  some-schedule : (v : Verdict) → Judgement none plan v es → StuckReached (highest plan) → (n : ℕ) × (S : ℕ) × WithSchedule v n S
-  unfolding Judgement
-  some-schedule Free j s = absurd (not_free (highest plan) s (free-highest.0 j.2))
-  some-schedule (Deadlock n S) j s = (n, S, inl refl)
-  some-schedule (Refused x) j s = absurd (none-ne-some x j.0)
-  some-schedule (Grown n S) j s = (n, S, inr refl)
+-- the kind, where the rules leave a plan with ranks or refuse it: a test over lists holds or fails, and it fails exactly where no run reaches a stuck set
+kind_computed : (a : Option Refusal) (plan : LockPlan) → (a ≡ none → Ranked plan) → (v : Verdict) (es : List ℕ) → Judgement a plan v es
+    → verdict_kind v ≡ computed_kind a (conflict_in plan)
+unfolding Judgement verdict_kind computed_kind conflict_in
+kind_computed a plan ranked Free es j = rw (j.0, T_false (conflict_in plan) ((plan-characterisation plan (ranked j.0)).free.1 j.2))
+kind_computed a plan ranked (Deadlock n S) es j =
+    let s = j.2 in
+    let free = (plan-characterisation plan (ranked j.0)).free in
+    ⊎_elim (λ t. rw (j.0, T_true (conflict_in plan) t)) (λ f. absurd (free.0 f es s.there (in_mask S) s.reached s.largest.stuck)) (T-dec (conflict_in plan))
+kind_computed a plan ranked (Refused x) es j = rw j.0
 
-  pub judges_exactly : (v : Verdict) → Judgement none plan v es → JudgesExactly plan v es
-  judges_exactly v j =
-      let given = given-exactly none plan v es refl j ranked ranges in
-      record {
-        free = Iff.trans (free-given v) (given free);
-        deadlock = Iff.trans (deadlock-given v) (given deadlock);
-        grown = Iff.trans (grown-given v) (given grown);
-        never = Iff.trans (free-given v) (Iff.trans (given free) free-highest);
-        some-run = (λ d. schedule-stuck (highest plan) es _ (with_schedule plan v es j d.0 d.1 d.2).1, some-schedule v j);
-        scheduled = with_schedule plan v es j;
-      }
-
-  -- the kind: of the three answers the true one is the one that is computed
-  kind_computed : (a : Option Refusal) (v : Verdict) → Judgement a plan v es → verdict_kind v ≡ computed_kind a (computed_answer plan)
-  unfolding Judgement verdict_kind computed_kind answer_kind
-  kind_computed a Free j = rw j.0 (ap answer_kind ((answer-exactly plan ranked ranges free).1 j.2))
-  kind_computed a (Deadlock n S) j = rw j.0 (ap answer_kind ((answer-exactly plan ranked ranges deadlock).1 j.3))
-  kind_computed a (Refused x) j = rw j.0
-  kind_computed a (Grown n S) j = rw j.0 (ap answer_kind ((answer-exactly plan ranked ranges grown).1 j.3))
-
-module _ (text : List ℕ) (lent : ℕ) where
-  -- a text that the verdict's rules refuse
-  kind-refused : (x : Refusal) (v : Verdict) (es : List ℕ) (plan : RangedPlan) → Judgement (some x) plan v es → (a : Answer) → verdict_kind v ≡ computed_kind (some x) a
-  unfolding Judgement verdict_kind computed_kind
-  kind-refused x Free es plan j a = absurd (none-ne-some x (sym j.0))
-  kind-refused x (Deadlock n S) es plan j a = absurd (none-ne-some x (sym j.0))
-  kind-refused x (Refused y) es plan j a = refl
-  kind-refused x (Grown n S) es plan j a = absurd (none-ne-some x (sym j.0))
-
-  judged-kind : (v : Verdict) (es : List ℕ) → Judgement (verdict_refusal text lent) (tree_of text) v es
-      → verdict_kind v ≡ computed_kind (verdict_refusal text lent) (computed_answer (tree_of text))
-  judged-kind v es j = go (verdict_refusal text lent) refl j
-    where
-      go : (a : Option Refusal) → verdict_refusal text lent ≡ a → Judgement a (tree_of text) v es → verdict_kind v ≡ computed_kind a (computed_answer (tree_of text))
-      go none e k =
-          let x = ((verdict-accepted-exactly text lent).0 e).0 in
-          kind_computed (tree_of text) (rw (accepted_tree text x) (plan-ranked text x)) (rw (accepted_tree text x) x.settled.in_range) es none v k
-      go (some x) e k = kind-refused x v es (tree_of text) k (computed_answer (tree_of text))
-
-  module _ (x : AcceptedText text) (enough : thread_sizes (highest x.plan) ≤ lent) where
-    -- what is judged of an accepted text
-    pub accepted-judged : (v : Verdict) (es : List ℕ) → Judgement (verdict_refusal text lent) (tree_of text) v es → Judgement none x.plan v es
-    accepted-judged v es j = rw ((verdict-accepted-exactly text lent).1 (x, enough), accepted_tree text x) at j
-
-    judged-exactly : (v : Verdict) (es : List ℕ) → Judgement (verdict_refusal text lent) (tree_of text) v es → JudgesExactly x.plan v es
-    judged-exactly v es j = judges_exactly x.plan (plan-ranked text x) x.settled.in_range es v (accepted-judged v es j)
+judged-kind : (text : List ℕ) (lent : ℕ) (v : Verdict) (es : List ℕ) → Judgement (verdict_refusal text lent) (plan_of text) v es
+    → verdict_kind v ≡ computed_kind (verdict_refusal text lent) (conflict_in (plan_of text))
+judged-kind text lent =
+    kind_computed (verdict_refusal text lent) (plan_of text) (λ e. let x = ((verdict-accepted-exactly text lent).0 e).0 in rw (accepted-plan text x) (plan-ranked text x))
 
 -- the lowest byte of a verdict's number is its kind
 number-kind : (v : Verdict) → verdict_number v % 256 ≡ verdict_kind v
@@ -298,7 +246,6 @@ unfolding verdict_number verdict_kind
 number-kind Free = refl
 number-kind (Deadlock n S) = omega arith
 number-kind (Refused x) = omega arith
-number-kind (Grown n S) = omega arith
 
 pub demand_3 : (text before after : List ℕ) → Demand3 text before after
 demand_3 text before after = record {

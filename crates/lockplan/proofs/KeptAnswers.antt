@@ -18,15 +18,14 @@ use Rattle.laws.specs.Mask.{bit, in_mask}
 use Rattle.laws.proofs.Bits.{bit-above, bit_below, bit-none, bit_quotient}
 use Rattle.laws.proofs.Tests.{T_and, and_T, eq→eqb, same_test, only}
 use Rattle.semantics.specs.Plan.{Block, LockPlan, thread_proc}
-use Rattle.semantics.specs.Ranges.{most_counts}
 use Rattle.semantics.specs.Pairs.{had_of, wanted_word, pair_list}
 use Rattle.semantics.specs.HoldsOnly.{pair_list01, locked_plan, as_record, Crosses01}
 use Rattle.semantics.proofs.HoldsOnly.KeptPairs.{crossing-kept, pairs_small}
-use Rattle.plan.specs.Rules.{tree_of, plan_of, plan_refusal}
+use Rattle.plan.specs.Rules.{plan_of, plan_refusal}
 use Rattle.plan.specs.Shareless.{NoShareLine}
 use Rattle.plan.proofs.WithoutShares.{accepted-without, accepted-locked, text-answers-kept}
 use Rattle.answers.specs.declared.Verdict.{Verdict}
-use Rattle.answers.specs.declared.Verdict.TheVariants.{Free, Deadlock, Refused, Grown}
+use Rattle.answers.specs.declared.Verdict.TheVariants.{Free, Deadlock, Refused}
 use Rattle.couples.specs.Couples.{Couple, couple, crosses, couples_with, couples_of, couples}
 use Rattle.couples.proofs.Members.{crosses-is}
 use Rattle.report_lines.specs.Lines.{digits, members, lines_of, behind_blank, wanted_text, held_text, shared_text, lock_text, had_text, pair_form, pair_line, proc_lines, report_open}
@@ -158,17 +157,16 @@ unfolding procedures
 procedures-kept Free plan = sym (length-map plan.procs _)
 procedures-kept (Deadlock n S) plan = sym (length-map plan.procs _)
 procedures-kept (Refused x) plan = refl
-procedures-kept (Grown n S) plan = sym (length-map plan.procs _)
 
 pub kept-answers : (text : List ℕ) → plan_refusal text ≡ none → NoShareLine text → KeptAnswers text
 unfolding couples parts_of parts_of01
 kept-answers text e n =
     let plan = plan_of text in
-    let kept = text-answers-kept text e n (most_counts (tree_of text).lines) in
+    let kept = text-answers-kept text e n in
     let small = pairs_small plan (accepted-without text e n) in
     record {
       read = accepted-locked text e n;
-      answers = text-answers-kept text e n;
+      answers = kept;
       couples = λ t u. rw (kept.pairs (thread_proc plan t), kept.pairs (thread_proc plan u)) (couples_of-kept _ _ (small (thread_proc plan t)) (small (thread_proc plan u)));
       report = λ v schedule. rw (procedures-kept v plan) (ap (◌∷◌ report_open) (parts_kept plan.procs (locked_plan plan).procs kept.pairs small _ 0 _));
     }

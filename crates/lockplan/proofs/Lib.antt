@@ -1,5 +1,5 @@
 -- The three demands, what is asked of tidy copies, of straightened ones, of the space that a schedule needs, of the limit of pairs, of the couples at which two threads
--- cross, of texts without share, and of thread counts as ranges, of every answer that the promises of the calls let them give.
+-- cross, and of texts without share, of every answer that the promises of the calls let them give.
 pub mod Demands
 pub mod SamePromises
 pub mod WrittenCopies
@@ -9,4 +9,3 @@ pub mod SpaceSuffices
 pub mod PairLimit
 pub mod ThreadCrossings
 pub mod KeptAnswers
-pub mod ThreadRanges

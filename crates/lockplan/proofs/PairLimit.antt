@@ -14,16 +14,16 @@ use Rattle.limits.specs.Limits.{max_pair_words}
 use Rattle.laws.proofs.Ascending.{ascends-length}
 use Rattle.text.specs.declared.Refusal.{Refusal}
 use Rattle.text.specs.Lines.{refusal}
-use Rattle.semantics.specs.Ranges.{RangedPlan}
+use Rattle.semantics.specs.Plan.{LockPlan}
 use Rattle.semantics.specs.Sizes.{size_of}
 use Rattle.semantics.specs.Pairs.{pair_list}
 use Rattle.semantics.proofs.Critical.PairList.{pair_list-ascends}
 use Rattle.semantics.proofs.Critical.PairBound.{pair_list_bound}
-use Rattle.plan.specs.Rules.{tree_of, plan_of, pairs_refusal}
+use Rattle.plan.specs.Rules.{plan_of, pairs_refusal}
 use Rattle.plan.proofs.AcceptedTable.{accepted-ranks}
 use Rattle.demands.specs.Broken.{Rule, rule, OfPlan, AbsentRequest, form_rules, rules_in_file, plan_rules, verdict_rules, pairs_rules, copy_rules, crossings_rules, FirstBroken, AcceptedText}
 use Rattle.demands.proofs.Refusals.{refused-exactly, pairs-refused-exactly, crossings-refused-exactly}
-use Rattle.demands.proofs.Accepted.{accepted_tree, accepted-exactly, published-exactly}
+use Rattle.demands.proofs.Accepted.{accepted-plan, accepted-exactly, published-exactly}
 use Rattle.answers.specs.declared.Verdict.TheVariants as verdict
 use Rattle.answers.specs.declared.Counted.{Counted}
 use Rattle.answers.specs.declared.Counted.TheVariants.{Refused}
@@ -40,9 +40,9 @@ use Rattle.lockplan.proofs.Demands.{listing_carried, demand_1}
 module _ (text : List ℕ) (x : AcceptedText text) (p : ℕ) (h : p < length x.plan.procs) where
   listed-size : 2 * length (pair_list (plan_of text).procs p) + 1 ≤ size_of x.plan.procs p
   listed-size =
-      let same : tree_of text ≡ x.plan = accepted_tree text x in
+      let same : plan_of text ≡ x.plan = accepted-plan text x in
       let ranks = accepted-ranks text ((accepted-exactly text).1 x) in
-      subst (λ (q : RangedPlan). 2 * length (pair_list (plan_of text).procs p) + 1 ≤ size_of q.procs p) same
+      subst (λ (q : LockPlan). 2 * length (pair_list (plan_of text).procs p) + 1 ≤ size_of q.procs p) same
       (pair_list_bound (plan_of text).procs ranks.rank ranks.sound p (rw same h))
 
   -- the list has all critical pairs

@@ -9,7 +9,7 @@ use Rattle.semantics.specs.Plan.{Block, LockPlan}
 use Rattle.semantics.specs.Pairs.{pair_list}
 use Rattle.plan.specs.Rules.{plan_refusal, plan_of, pairs_refusal, crossings_refusal}
 use Rattle.answers.specs.declared.Verdict.{Verdict}
-use Rattle.answers.specs.declared.Verdict.TheVariants.{Free, Deadlock, Refused, Grown}
+use Rattle.answers.specs.declared.Verdict.TheVariants.{Free, Deadlock, Refused}
 use Rattle.answers.specs.declared.Counted.{Counted}
 use Rattle.listing.specs.Listed.{pairs_of, Listed, ListedBytes}
 use Rattle.listing.proofs.ListedPairs.{exact_pairs}
@@ -101,7 +101,6 @@ unfolding procedures
 same-procedures Free plan plan' e = e
 same-procedures (Deadlock n S) plan plan' e = e
 same-procedures (Refused x) plan plan' e = refl
-same-procedures (Grown n S) plan plan' e = e
 
 pub same_parts : (s t : List ℕ) → AgreeInPairs s t → (v : Verdict) (schedule : List ℕ) → parts_of s v schedule ≡ parts_of t v schedule
 unfolding parts_of

@@ -3,7 +3,6 @@
 use Prim.Native.Nat.{ℕ, ◌/◌, ◌<◌, ◌≤◌}
 use native.Mathlib.Omega.{arith}
 use mathlib.Core.List.{List, [], ◌++◌}
-use mathlib.Core.Logic.{inl, inr}
 use mathlib.Core.Option.{Option, some, or_else, none-ne-some}
 use mathlib.Core.Path.{◌≡◌, refl, sym, ap, subst, ◌∙◌}
 use lib.ListN.{length}
@@ -11,31 +10,30 @@ use borrow.Author.Tests.{lt-ltb}
 use Rattle.text.specs.declared.Refusal.{Refusal}
 use Rattle.text.specs.Lines.{refusal}
 use Rattle.semantics.specs.Plan.{LockPlan}
-use Rattle.semantics.specs.Ranges.{RangedPlan, highest}
 use Rattle.semantics.specs.Sizes.{thread_size, thread_sizes}
-use Rattle.plan.specs.Rules.{tree_of, plan_of, plan_refusal, too_few_entries, verdict_refusal}
+use Rattle.plan.specs.Rules.{plan_of, plan_refusal, too_few_entries, verdict_refusal}
 use Rattle.plan.proofs.AcceptedTable.{accepted-sum}
 use Rattle.buffers.specs.LittleEndian.{list_bytes}
 use Rattle.demands.specs.Broken.{AcceptedText}
-use Rattle.demands.proofs.Accepted.{accepted_tree, accepted-plan, accepted-exactly, verdict-accepted-exactly}
+use Rattle.demands.proofs.Accepted.{accepted-plan, accepted-exactly, verdict-accepted-exactly}
 use Rattle.answers.specs.declared.Verdict.{Verdict}
-use Rattle.answers.specs.declared.Verdict.TheVariants.{Refused}
+use Rattle.answers.specs.declared.Verdict.TheVariants.{Free, Deadlock, Refused}
 use Rattle.answers.specs.declared.Counted.TheVariants.{Count}
 use Rattle.answers.specs.declared.Counted.TheVariants as counted
 use Rattle.answers.specs.Judgement.{Judgement}
 use Rattle.answers.proofs.Counts.{counted-kept, counted_is}
 use Rattle.space.specs.Slip.{needed_entries, Needs, size_lines, sum_line, slip_of, printed_slip}
-use Rattle.lockplan.specs.Demands.{WithSchedule}
 use Rattle.lockplan.specs.SpaceSuffices.{BufferOf, EntriesNeeded, RefusedAlike, SpaceSuffices}
 use Rattle.lockplan.proofs.Demands.{refused-is, no_schedule, verdict_carried, space_carried}
 
--- a schedule is no longer than the sum
-schedule-fits : (a : Option Refusal) (plan : RangedPlan) (v : Verdict) (es : List ℕ) → Judgement a plan v es → (n S : ℕ) → WithSchedule v n S → n ≤ thread_sizes (highest plan)
+-- a deadlock's schedule is no longer than the sum
+deadlock-fits : (a : Option Refusal) (plan : LockPlan) (v : Verdict) (es : List ℕ) → Judgement a plan v es → (n S : ℕ) → v ≡ Deadlock n S → n ≤ thread_sizes plan
 unfolding Judgement
-schedule-fits a plan v es j n S (inl e) = let d = subst (λ y. Judgement a plan y es) e j in omega (arith, d.1, d.2.short)
-schedule-fits a plan v es j n S (inr e) = let d = subst (λ y. Judgement a plan y es) e j in omega (arith, d.1, d.2.short)
+deadlock-fits a plan Free es j n S e = let z : ◌≡◌ {A = ℕ} 0 1 = cc in absurd (omega arith)
+deadlock-fits a plan (Deadlock m T) es j n S e = let k : m ≡ n = cc in omega (arith, j.1, j.2.short)
+deadlock-fits a plan (Refused x) es j n S e = let z : ◌≡◌ {A = ℕ} 0 1 = cc in absurd (omega arith)
 
-module _ (text : List ℕ) (x : AcceptedText text) (lent : ℕ) (v : Verdict) (es before after : List ℕ) (j : Judgement (verdict_refusal text lent) (tree_of text) v es)
+module _ (text : List ℕ) (x : AcceptedText text) (lent : ℕ) (v : Verdict) (es before after : List ℕ) (j : Judgement (verdict_refusal text lent) (plan_of text) v es)
     (kept : es ≡ [] → after ≡ before) where
   few : lent < thread_sizes (plan_of text) → verdict_refusal text lent ≡ some (refusal 1 0)
   unfolding verdict_refusal too_few_entries or_else
@@ -43,19 +41,19 @@ module _ (text : List ℕ) (x : AcceptedText text) (lent : ℕ) (v : Verdict) (e
 
   buffer_of : BufferOf lent (thread_sizes (plan_of text)) v before after
   buffer_of =
-      let is = refused-is (verdict_refusal text lent) (tree_of text) v es j in
+      let is = refused-is (verdict_refusal text lent) (plan_of text) v es j in
       record {
         suffices = λ h y e.
-            let enough : thread_sizes (highest x.plan) ≤ lent = subst (λ (q : LockPlan). thread_sizes q ≤ lent) (accepted-plan text x) h in
+            let enough : thread_sizes x.plan ≤ lent = subst (λ (q : LockPlan). thread_sizes q ≤ lent) (accepted-plan text x) h in
             none-ne-some y (sym ((verdict-accepted-exactly text lent).1 (x, enough)) ∙ (is y).0 e);
-        fits = schedule-fits (verdict_refusal text lent) (tree_of text) v es j;
-        fewer = λ h. let e = (is (refusal 1 0)).1 (few h) in (e, kept (no_schedule (verdict_refusal text lent) (tree_of text) v es j (refusal 1 0) e));
+        fits = deadlock-fits (verdict_refusal text lent) (plan_of text) v es j;
+        fewer = λ h. let e = (is (refusal 1 0)).1 (few h) in (e, kept (no_schedule (verdict_refusal text lent) (plan_of text) v es j (refusal 1 0) e));
       }
 
 module _ (text : List ℕ) where
-  slip-lines : (x : AcceptedText text) → printed_slip text ≡ size_lines (thread_size (highest x.plan)) (length (highest x.plan).threads) ++ sum_line (thread_sizes (plan_of text))
+  slip-lines : (x : AcceptedText text) → printed_slip text ≡ size_lines (thread_size x.plan) (length x.plan.threads) ++ sum_line (thread_sizes (plan_of text))
   unfolding printed_slip slip_of
-  slip-lines x = rw ((accepted-exactly text).1 x, accepted_tree text x)
+  slip-lines x = rw ((accepted-exactly text).1 x, accepted-plan text x)
 
   entries-needed : (n : ℕ) → Needs text (Count n) → EntriesNeeded text n
   unfolding needed_entries list_bytes
@@ -78,9 +76,9 @@ module _ (text : List ℕ) where
       let r : plan_refusal text ≡ some x = (counted_is (plan_refusal text) (thread_sizes (plan_of text)) x).0 (sym e) in
       let refused : (lent : ℕ) → verdict_refusal text lent ≡ some x = λ lent. rw r in
       record {
-        judge = λ before v after d. (refused-is (verdict_refusal text (length before)) (tree_of text) v d.schedule d.judged x).1 (refused (length before));
+        judge = λ before v after d. (refused-is (verdict_refusal text (length before)) (plan_of text) v d.schedule d.judged x).1 (refused (length before));
         lockplan_verdict = λ before m after d. verdict_carried text before after m d
-            ∙ (refused-is (verdict_refusal text (length before / 2)) (tree_of text) d.verdict d.schedule d.judged x).1 (refused (length before / 2));
+            ∙ (refused-is (verdict_refusal text (length before / 2)) (plan_of text) d.verdict d.schedule d.judged x).1 (refused (length before / 2));
         slip = rw r;
       }
 

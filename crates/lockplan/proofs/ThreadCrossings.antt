@@ -7,14 +7,13 @@ use mathlib.Core.Option.{none}
 use mathlib.Core.Path.{◌≡◌, refl, sym, ap, ◌∙◌}
 use lib.ListN.{length}
 use Rattle.semantics.specs.Plan.{LockPlan, thread_proc}
-use Rattle.semantics.specs.Ranges.{highest}
 use Rattle.semantics.specs.Pairs.{Critical}
 use Rattle.semantics.specs.Language.{PublishedCritical}
 use Rattle.semantics.proofs.Critical.CriticalLanguage.{critical-is-published}
 use Rattle.semantics.proofs.Conflicts.Characterisation.{Ranked}
-use Rattle.plan.specs.Rules.{crossings_refusal}
+use Rattle.plan.specs.Rules.{plan_of, crossings_refusal}
 use Rattle.demands.specs.Broken.{AcceptedText}
-use Rattle.demands.proofs.Accepted.{accepted_tree, plan-ranked, crossings-accepted-exactly}
+use Rattle.demands.proofs.Accepted.{accepted-plan, plan-ranked, crossings-accepted-exactly}
 use Rattle.answers.specs.declared.Counted.{Counted}
 use Rattle.answers.specs.declared.Counted.TheVariants.{Count}
 use Rattle.answers.specs.Answers.{counted_of, read_counted}
@@ -52,16 +51,16 @@ module _ (plan : LockPlan) (r : Ranked plan) (t u : ℕ) (b : t < length plan.th
 
 -- ---- over a text
 
-module _ (text : List ℕ) (x : AcceptedText text) (t u : ℕ) (b : t < length (highest x.plan).threads) (d : u < length (highest x.plan).threads) (two : t ≢ u) where
+module _ (text : List ℕ) (x : AcceptedText text) (t u : ℕ) (b : t < length x.plan.threads) (d : u < length x.plan.threads) (two : t ≢ u) where
   unrefused : crossings_refusal text t u ≡ none
   unrefused = (crossings-accepted-exactly text t u).1 (x, b, d, two)
 
-  crosses-exactly : (r : Counted) → r ≡ counted_of (crossings_refusal text t u) (length (couples_in text t u)) → CrossesExactly (highest x.plan) t u r (couples_in text t u)
+  crosses-exactly : (r : Counted) → r ≡ counted_of (crossings_refusal text t u) (length (couples_in text t u)) → CrossesExactly x.plan t u r (couples_in text t u)
   unfolding counted_of
   crosses-exactly r e =
-      let same = accepted_tree text x in
-      let is : r ≡ Count (length (couples (highest x.plan) t u)) = e ∙ rw (unrefused, same) in
-      rw (is, same) (plan-crosses (highest x.plan) (plan-ranked text x) t u b d two)
+      let same : plan_of text ≡ x.plan = accepted-plan text x in
+      let is : r ≡ Count (length (couples x.plan t u)) = e ∙ rw (unrefused, same) in
+      rw (is, same) (plan-crosses x.plan (plan-ranked text x) t u b d two)
 
 pub crossings-exact : (text before after : List ℕ) → Crossings text before after
 crossings-exact text before after = record {

@@ -8,12 +8,12 @@ use mathlib.Core.Option.{none}
 use mathlib.Core.Path.{◌≡◌, sym, ap, ◌∙◌}
 use lib.ListN.{length}
 use Rattle.text.specs.Lines.{text_of}
-use Rattle.semantics.specs.Ranges.{RangedPlan, highest}
+use Rattle.semantics.specs.Plan.{LockPlan}
 use Rattle.semantics.specs.Pairs.{pair_list}
 use Rattle.plan.specs.Grammar.{forms}
-use Rattle.plan.specs.Rules.{plan_refusal, tree_of, verdict_refusal, copy_refusal, crossings_refusal}
+use Rattle.plan.specs.Rules.{plan_refusal, plan_of, verdict_refusal, copy_refusal, crossings_refusal}
 use Rattle.demands.specs.Broken.{AcceptedText}
-use Rattle.demands.proofs.Accepted.{accepted_tree, accepted-exactly}
+use Rattle.demands.proofs.Accepted.{accepted-plan, accepted-exactly}
 use Rattle.answers.specs.declared.Verdict.{Verdict}
 use Rattle.answers.specs.declared.Counted.{Counted}
 use Rattle.answers.specs.Answers.{counted_number}
@@ -24,7 +24,7 @@ use Rattle.space.specs.Slip.{needed_entries, printed_slip}
 use Rattle.couple_lines.specs.CoupleLines.{printed_couples}
 use Rattle.crossings_text.specs.AllCrossings.{printed_crossings}
 use Rattle.report_text.specs.Report.{parts_of, Report}
-use Rattle.copies.proofs.Tidy.{tidy_tree, tidy-accepted, tidy-twice, tidy-same}
+use Rattle.copies.proofs.Tidy.{tidy-plan, tidy-accepted, tidy-twice, tidy-same}
 use Rattle.copies.proofs.Copies.{copy-fits}
 use Rattle.lockplan.specs.TidyCopies.{TidyCopy, TidyCopies}
 use Rattle.lockplan.proofs.Demands.{copied_carried}
@@ -33,13 +33,13 @@ use Rattle.lockplan.proofs.WrittenCopies.{written-copy, written_is}
 
 -- ---- promises that cite a text by its refusal and its plan
 
-module _ (s t : List ℕ) (refused : plan_refusal s ≡ plan_refusal t) (plans : tree_of s ≡ tree_of t) where
+module _ (s t : List ℕ) (refused : plan_refusal s ≡ plan_refusal t) (plans : plan_of s ≡ plan_of t) where
   agree : AgreeInPairs s t
   agree = record {
     refused = refused;
-    procs = ap (λ (q : RangedPlan). length q.procs) plans;
-    threads = ap (λ (q : RangedPlan). (highest q).threads) plans;
-    pairs = λ p. ap (λ (q : RangedPlan). pair_list q.procs p) plans;
+    procs = ap (λ (q : LockPlan). length q.procs) plans;
+    threads = ap (λ (q : LockPlan). q.threads) plans;
+    pairs = λ p. ap (λ (q : LockPlan). pair_list q.procs p) plans;
   }
 
   same-verdict : (before : List ℕ) (v : Verdict) (after : List ℕ) → Judged s before v after → Judged t before v after
@@ -79,13 +79,13 @@ module _ (text : List ℕ) (x : AcceptedText text) where
 
   bare-copy : copy ≡ text_of (forms x.plan)
   unfolding tidy_of bare_text
-  bare-copy = ap (λ p. text_of (forms p)) (accepted_tree text x)
+  bare-copy = ap (λ p. text_of (forms p)) (accepted-plan text x)
 
   same-refusal : plan_refusal text ≡ plan_refusal copy
   same-refusal = kept ∙ sym accepted-copy
 
-  same_plans : tree_of text ≡ tree_of copy
-  same_plans = sym (tidy_tree text kept)
+  same_plans : plan_of text ≡ plan_of copy
+  same_plans = sym (tidy-plan text kept)
 
   agrees : AgreeInPairs text copy
   agrees = agree text copy same-refusal same_plans
@@ -113,8 +113,8 @@ module _ (text : List ℕ) (x : AcceptedText text) where
   equal-copies : (text' : List ℕ) (x' : AcceptedText text') (copy' : List ℕ) → copy' ≡ tidy_of text' → (copy ≡ copy') ↔ (x.plan ≡ x'.plan)
   equal-copies text' x' copy' is =
       let same = tidy-same text text' kept ((accepted-exactly text').1 x') in
-      let a = accepted_tree text x in
-      let b = accepted_tree text' x' in
+      let a = accepted-plan text x in
+      let b = accepted-plan text' x' in
       (λ e. sym a ∙ same.0 (e ∙ is) ∙ b, λ e. same.1 (a ∙ e ∙ sym b) ∙ sym is)
 
   tidy-copy : TidyCopy text x copy
@@ -122,7 +122,7 @@ module _ (text : List ℕ) (x : AcceptedText text) where
     bare = bare-copy;
     fits = copy-fits text kept false;
     accepted = copy-accepted;
-    same-plan = sym (accepted_tree copy copy-accepted) ∙ sym same_plans ∙ accepted_tree text x;
+    same-plan = sym (accepted-plan copy copy-accepted) ∙ sym same_plans ∙ accepted-plan text x;
     equal = λ text' x' before r after copy' d e f. equal-copies text' x' copy' (written_is (tidy_of text') text' before r after copy' d e f);
     unaltered = λ before r after d h. rw (tidy-twice text kept) at (written-copy (tidy_of copy) copy copy-accepted before r after d h);
     verdicts = λ before v after. (same-verdict text copy same-refusal same_plans before v after, same-verdict copy text (sym same-refusal) (sym same_plans) before v after);

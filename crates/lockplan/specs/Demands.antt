@@ -1,23 +1,23 @@
 -- The three demands, of a call's answer and of what it leaves in the lent buffer: said of the text, of its plan, and of all runs of the plan's gateway. Each is a
 -- theorem, `demand_1`, `demand_2` and `demand_3`, about whatever the promises of the calls let them answer; of a call for C it is about the answer that its number carries.
-use Rattle.std.specs.Prelude.{ℕ, ◌/◌, ◌%◌, ◌<◌, ◌≤◌, ◌≢◌, ◌⊎◌, ◌↔◌, ◌≡◌, length}
+use Rattle.std.specs.Prelude.{ℕ, ◌/◌, ◌%◌, ◌<◌, ◌≤◌, Bool, ◌≢◌, ◌⊎◌, ◌↔◌, ◌≡◌, length}
 use mathlib.Core.List.{List, [], ◌∷◌, Memᴰ}
+use Rattle.std.proofs.Math.Option.{some}
 use Rattle.limits.specs.Limits.{max_bytes, max_pair_words}
 use Rattle.laws.specs.Mask.{in_mask}
 use Rattle.text.specs.declared.Refusal.{Refusal}
 use Rattle.text.specs.Lines.{refusal}
-use Rattle.semantics.specs.Plan.{Block}
-use Rattle.semantics.specs.Ranges.{RangedPlan, highest, free, deadlock, grown, TrueOf}
+use Rattle.semantics.specs.Plan.{Block, LockPlan}
 use Rattle.semantics.specs.Sizes.{thread_sizes}
-use Rattle.semantics.specs.Stuck.{DeadlockFree, StuckReached, Schedule}
+use Rattle.semantics.specs.Run.{ThreadState, run, start}
+use Rattle.semantics.specs.Stuck.{Stuck, DeadlockFree, Schedule}
 use Rattle.semantics.specs.Pairs.{held_word, shared_word, wanted_word, words_of}
-use Rattle.semantics.specs.Conflict.{computed_answer}
 use Rattle.semantics.specs.Language.{PublishedCritical}
-use Rattle.plan.specs.Rules.{tree_of, verdict_refusal}
+use Rattle.plan.specs.Rules.{plan_of, verdict_refusal}
 use Rattle.buffers.specs.LittleEndian.{list_bytes}
 use Rattle.demands.specs.Broken.{Rule, FirstBroken, plan_rules, verdict_rules, pairs_rules, copy_rules, crossings_rules, AcceptedText}
 use Rattle.answers.specs.declared.Verdict.{Verdict}
-use Rattle.answers.specs.declared.Verdict.TheVariants.{Free, Deadlock, Refused, Grown}
+use Rattle.answers.specs.declared.Verdict.TheVariants.{Free, Deadlock, Refused}
 use Rattle.answers.specs.declared.Counted.{Counted}
 use Rattle.answers.specs.declared.Counted.TheVariants.{Count}
 use Rattle.answers.specs.declared.Counted.TheVariants as counted
@@ -28,7 +28,7 @@ use Rattle.verdict.specs.Judged.{Judged, JudgedBytes}
 use Rattle.copies.specs.Copies.{Tidied, TidiedNumber, Straightened, StraightenedNumber}
 use Rattle.space.specs.Slip.{Needs, NeedsNumber}
 use Rattle.crossing.specs.Crossed.{Crossed, CrossedBytes}
-use Rattle.lockplan.specs.VerdictKind.{verdict_kind, computed_kind}
+use Rattle.lockplan.specs.VerdictKind.{conflict_in, verdict_kind, computed_kind}
 
 -- the answer is a refusal exactly by the first rule broken, in checking order, and by its line; it is none exactly where the rules are kept. `Refuses x` says that the answer
 -- is the refusal x, `Kept` that the rules are kept
@@ -44,7 +44,7 @@ pub record RefusesUnwritten (rules : List Rule) (Kept : Type 0) (Refuses : Refus
 -- of the verdict, where so many entries are lent
 abbrev pub VerdictRefuses : List ℕ → ℕ → Verdict → List ℕ → List ℕ → Type 0
 VerdictRefuses text lent v before after =
-    RefusesUnwritten (verdict_rules text lent) ((x : AcceptedText text) × (thread_sizes (highest x.plan) ≤ lent)) (λ x. v ≡ Refused x) before after
+    RefusesUnwritten (verdict_rules text lent) ((x : AcceptedText text) × (thread_sizes x.plan ≤ lent)) (λ x. v ≡ Refused x) before after
 
 -- of the pair list of procedure p, where so many words are lent
 abbrev pub PairsRefuse : List ℕ → ℕ → ℕ → Counted → List ℕ → List ℕ → Type 0
@@ -58,7 +58,7 @@ CopyRefuses text lent r before after = RefusesUnwritten (copy_rules text lent) (
 -- of the crossings of the threads t and u, where a buffer of any length is lent
 abbrev pub CrossingsRefuse : List ℕ → ℕ → ℕ → Counted → List ℕ → List ℕ → Type 0
 CrossingsRefuse text t u r before after =
-    RefusesUnwritten (crossings_rules text t u) ((x : AcceptedText text) × (t < length (highest x.plan).threads) × (u < length (highest x.plan).threads) × (t ≢ u))
+    RefusesUnwritten (crossings_rules text t u) ((x : AcceptedText text) × (t < length x.plan.threads) × (u < length x.plan.threads) × (t ≢ u))
     (λ x. r ≡ counted.Refused x) before after
 
 -- of the space that a schedule needs, for which no buffer is lent
@@ -103,29 +103,27 @@ pub record Demand2 (text before after : List ℕ) : Type 0 where
   pub lockplan_pairs : (p n : ℕ) → ListedBytes text p before n after → (x : AcceptedText text) → p < length x.plan.procs → max_pair_words ≤ length before / 8
       → (pairs : List ℕ) × ListsExactly x.plan.procs p (read_counted n) pairs × (after ≡ filled (list_bytes 8 (words_of pairs)) before)
 
--- the verdict is one of the two that carry a schedule, of n entries and the stuck set S
-abbrev pub WithSchedule : Verdict → ℕ → ℕ → Type 0
-WithSchedule v n S = (v ≡ Deadlock n S) ⊎ (v ≡ Grown n S)
+-- some run of the plan's gateway reaches a stuck set
+pub record StuckReached (plan : LockPlan) : Type 0 where
+  pub entries : List ℕ
+  pub there : List ThreadState
+  pub set : ℕ → Bool
+  pub reached : run plan.procs (start plan.procs plan.threads) entries ≡ some there
+  pub stuck : Stuck plan.procs there set
 
--- what is exact of a verdict on an accepted plan
-pub record JudgesExactly (plan : RangedPlan) (v : Verdict) (schedule : List ℕ) : Type 0 where
-  -- 02, change 10: "each of the three is given exactly when it is true of the gateway's runs at the counts it names"
-  pub free : (v ≡ Free) ↔ TrueOf plan free
-  pub deadlock : ((n : ℕ) × (S : ℕ) × (v ≡ Deadlock n S)) ↔ TrueOf plan deadlock
-  pub grown : ((n : ℕ) × (S : ℕ) × (v ≡ Grown n S)) ↔ TrueOf plan grown
-  -- "the two with a schedule count there as deadlock": at the highest counts the verdict is free exactly when no run reaches a stuck set, and one of these two exactly when some run does
-  pub never : (v ≡ Free) ↔ DeadlockFree plan.procs (highest plan).threads
-  pub some-run : ((n : ℕ) × (S : ℕ) × WithSchedule v n S) ↔ StuckReached (highest plan)
-  -- "the schedule's run and its stuck threads are the gateway's at the highest"
-  pub scheduled : (n S : ℕ) → WithSchedule v n S → (length schedule ≡ n) × Schedule (highest plan) schedule (in_mask S)
+-- the verdict is free exactly when no run reaches a stuck set, and deadlock exactly when some run does, then with a schedule and the largest stuck set at its end
+pub record JudgesExactly (plan : LockPlan) (v : Verdict) (schedule : List ℕ) : Type 0 where
+  pub free : (v ≡ Free) ↔ DeadlockFree plan.procs plan.threads
+  pub deadlock : ((n : ℕ) × (S : ℕ) × (v ≡ Deadlock n S)) ↔ StuckReached plan
+  pub scheduled : (n S : ℕ) → v ≡ Deadlock n S → (length schedule ≡ n) × Schedule plan schedule (in_mask S)
 
 -- Demand 3: of an accepted text the verdict is exact, and the entries of its schedule fill the buffer's start. A buffer of as many entries as the sum of the threads' sizes
--- at the highest counts suffices.
+-- suffices.
 pub record Demand3 (text before after : List ℕ) : Type 0 where
-  pub judge : (v : Verdict) → Judged text before v after → (x : AcceptedText text) → thread_sizes (highest x.plan) ≤ length before
+  pub judge : (v : Verdict) → Judged text before v after → (x : AcceptedText text) → thread_sizes x.plan ≤ length before
       → (schedule : List ℕ) × JudgesExactly x.plan v schedule × (after ≡ filled schedule before)
-  pub lockplan_verdict : (n : ℕ) → JudgedBytes text before n after → (x : AcceptedText text) → thread_sizes (highest x.plan) ≤ length before / 2
+  pub lockplan_verdict : (n : ℕ) → JudgedBytes text before n after → (x : AcceptedText text) → thread_sizes x.plan ≤ length before / 2
       → (schedule : List ℕ) × JudgesExactly x.plan (read_verdict n) schedule × (after ≡ filled (list_bytes 2 schedule) before)
   -- "by an equation with a definition": of every text, accepted or not, and every buffer, which kind of verdict it is. Of the number for C the kind is the lowest byte
-  pub judge_computed : (v : Verdict) → Judged text before v after → verdict_kind v ≡ computed_kind (verdict_refusal text (length before)) (computed_answer (tree_of text))
-  pub lockplan_verdict_computed : (n : ℕ) → JudgedBytes text before n after → n % 256 ≡ computed_kind (verdict_refusal text (length before / 2)) (computed_answer (tree_of text))
+  pub judge_computed : (v : Verdict) → Judged text before v after → verdict_kind v ≡ computed_kind (verdict_refusal text (length before)) (conflict_in (plan_of text))
+  pub lockplan_verdict_computed : (n : ℕ) → JudgedBytes text before n after → n % 256 ≡ computed_kind (verdict_refusal text (length before / 2)) (conflict_in (plan_of text))

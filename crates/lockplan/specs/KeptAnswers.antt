@@ -8,10 +8,9 @@ use Rattle.laws.specs.Bytes.{bytes}
 use Rattle.laws.specs.Mask.{bit}
 use Rattle.text.specs.Lines.{forms_of}
 use Rattle.semantics.specs.Plan.{Block, LockPlan, thread_proc}
-use Rattle.semantics.specs.Ranges.{at_counts}
 use Rattle.semantics.specs.HoldsOnly.{pair_list01, locked_plan, as_record, AnswersKept}
-use Rattle.plan.specs.Rules.{tree_of, plan_of}
-use Rattle.plan.specs.Shareless.{forms01, locked_tree}
+use Rattle.plan.specs.Rules.{plan_of}
+use Rattle.plan.specs.Shareless.{forms01}
 use Rattle.answers.specs.declared.Verdict.{Verdict}
 use Rattle.couples.specs.Couples.{Couple, couple}
 use Rattle.couples.specs.Couples as now
@@ -62,10 +61,10 @@ parts_of01 plan v schedule = report_open ∷ proc_parts01 plan.procs 0 (procedur
 -- ---- what is kept
 
 pub record KeptAnswers (text : List ℕ) : Type 0 where
-  -- the plan whose answers are kept is the one that 01 reads in the text, with change 10's thread lines
-  pub read : forms_of text ≡ forms01 (locked_tree (tree_of text))
-  -- at any counts: sizes, pairs "written as records", whether it is free, and which schedules lead to which stuck sets
-  pub answers : (ks : List ℕ) → AnswersKept (at_counts (tree_of text) ks)
+  -- the plan whose answers are kept is the one that 01 reads in the text
+  pub read : forms_of text ≡ forms01 (locked_plan (plan_of text))
+  -- sizes, pairs "written as records", whether it is free, and which schedules lead to which stuck sets
+  pub answers : AnswersKept (plan_of text)
   -- where two threads cross
   pub couples : (t u : ℕ) → now.couples (plan_of text) t u ≡ map as_records (couples07 (locked_plan (plan_of text)) t u)
   -- the report, byte for byte

@@ -1,5 +1,5 @@
 -- The kind of a verdict, computed; the three demands; what is asked of tidy copies, of straightened ones, of the space that a schedule needs, of the limit of pairs, of the
--- couples at which two threads cross, of texts without share, and of thread counts as ranges.
+-- couples at which two threads cross, and of texts without share.
 pub mod VerdictKind
 pub mod Demands
 pub mod TidyCopies
@@ -8,4 +8,3 @@ pub mod SpaceSuffices
 pub mod PairLimit
 pub mod ThreadCrossings
 pub mod KeptAnswers
-pub mod ThreadRanges

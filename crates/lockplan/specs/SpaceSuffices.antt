@@ -4,38 +4,36 @@ use Rattle.std.specs.Prelude.{ℕ, ◌/◌, ◌<◌, ◌≤◌, List, ◌++◌, 
 use Rattle.limits.specs.Limits.{max_entries}
 use Rattle.text.specs.declared.Refusal.{Refusal}
 use Rattle.text.specs.Lines.{refusal}
-use Rattle.semantics.specs.Ranges.{highest}
 use Rattle.semantics.specs.Sizes.{thread_size, thread_sizes}
 use Rattle.demands.specs.Broken.{AcceptedText}
 use Rattle.report_lines.specs.Lines.{refused_line}
 use Rattle.answers.specs.declared.Verdict.{Verdict}
-use Rattle.answers.specs.declared.Verdict.TheVariants.{Refused}
+use Rattle.answers.specs.declared.Verdict.TheVariants.{Deadlock, Refused}
 use Rattle.answers.specs.declared.Counted.TheVariants.{Count}
 use Rattle.answers.specs.declared.Counted.TheVariants as counted
 use Rattle.answers.specs.Answers.{read_counted, read_verdict}
 use Rattle.verdict.specs.Judged.{Judged, JudgedBytes}
 use Rattle.space.specs.Slip.{Needs, NeedsNumber, size_lines, sum_line, printed_slip}
-use Rattle.lockplan.specs.Demands.{WithSchedule}
 
 -- a verdict where so many entries are lent and n are needed
 pub record BufferOf (lent n : ℕ) (v : Verdict) (before after : List ℕ) : Type 0 where
   -- "A schedule buffer of that sum must always suffice for the schedule we report"
   pub suffices : n ≤ lent → (x : Refusal) → v ≡ Refused x → ⊥
-  pub fits : (entries S : ℕ) → WithSchedule v entries S → entries ≤ n
+  pub fits : (entries S : ℕ) → v ≡ Deadlock entries S → entries ≤ n
   -- "for schedules rule 1 now means fewer entries than this sum"; a refusal writes nothing
   pub fewer : lent < n → (v ≡ Refused (refusal 1 0)) × (after ≡ before)
 
 -- the number n of entries that a schedule needs
 pub record EntriesNeeded (text : List ℕ) (n : ℕ) : Type 0 where
-  -- the text is accepted, and n is the sum of the sizes of its plan's threads at the highest counts, which is never above 01's 6,144
+  -- the text is accepted, and n is the sum of the sizes of its plan's threads, which is never above 01's 6,144
   pub accepted : AcceptedText text
-  pub sum : n ≡ thread_sizes (highest accepted.plan)
+  pub sum : n ≡ thread_sizes accepted.plan
   pub most : n ≤ max_entries
   -- of the verdict
   pub judge : (before : List ℕ) (v : Verdict) (after : List ℕ) → Judged text before v after → BufferOf (length before) n v before after
   pub lockplan_verdict : (before : List ℕ) (m : ℕ) (after : List ℕ) → JudgedBytes text before m after → BufferOf (length before / 2) n (read_verdict m) before after
   -- of the slip: "`(size T S)` for each thread, then `(sum S)`", and S is n
-  pub slip : printed_slip text ≡ size_lines (thread_size (highest accepted.plan)) (length (highest accepted.plan).threads) ++ sum_line n
+  pub slip : printed_slip text ≡ size_lines (thread_size accepted.plan) (length accepted.plan.threads) ++ sum_line n
 
 -- a text that is refused with x: the verdict refuses it alike, whatever is lent, and the slip has "only its `(refused R L)`"
 pub record RefusedAlike (text : List ℕ) (x : Refusal) : Type 0 where

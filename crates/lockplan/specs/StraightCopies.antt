@@ -5,16 +5,15 @@ use mathlib.Core.List.{List, flatten}
 use Rattle.limits.specs.Limits.{max_bytes}
 use Rattle.laws.specs.Wrote.{filled}
 use Rattle.text.specs.Lines.{text_of}
-use Rattle.semantics.specs.Plan.{body_in}
-use Rattle.semantics.specs.Ranges.{RangedPlan, at_counts, highest, Between, Answer, TrueOf}
+use Rattle.semantics.specs.Plan.{LockPlan, body_in}
 use Rattle.semantics.specs.Sizes.{size_of, thread_sizes}
-use Rattle.semantics.specs.Stuck.{DeadlockFree, StuckReached}
+use Rattle.semantics.specs.Stuck.{DeadlockFree}
 use Rattle.semantics.specs.Language.{PublishedCritical}
 use Rattle.plan.specs.Grammar.{forms}
 use Rattle.demands.specs.Broken.{AcceptedText}
-use Rattle.straightening.specs.Straight.{straight_tree, StraightLine}
+use Rattle.straightening.specs.Straight.{straight_plan, StraightLine}
 use Rattle.answers.specs.declared.Verdict.{Verdict}
-use Rattle.answers.specs.declared.Verdict.TheVariants.{Free, Deadlock, Grown}
+use Rattle.answers.specs.declared.Verdict.TheVariants.{Free, Deadlock}
 use Rattle.answers.specs.declared.Counted.{Counted}
 use Rattle.answers.specs.declared.Counted.TheVariants.{Count}
 use Rattle.answers.specs.Answers.{read_counted, read_verdict}
@@ -24,34 +23,32 @@ use Rattle.copies.specs.Copies.{Tidied, Straightened, StraightenedNumber}
 use Rattle.space.specs.Slip.{Needs, NeedsNumber}
 use Rattle.crossing.specs.Crossed.{Crossed, CrossedBytes}
 use Rattle.report_text.specs.Report.{parts_of, Report}
+use Rattle.lockplan.specs.Demands.{StuckReached}
 
 -- a straightened plan beside its original
-pub record Straightening (plan straightened : RangedPlan) : Type 0 where
+pub record Straightening (plan straightened : LockPlan) : Type 0 where
   -- "every either replaced by its two blocks one after the other, every loop by its block"; none of them is left
-  pub is : straightened ≡ straight_tree plan
+  pub is : straightened ≡ straight_plan plan
   pub straight_line : (p : ℕ) → StraightLine (body_in straightened.procs p)
   -- "its pairs, procedure by procedure, .. are equal to the original's": of the published definition
   pub procedures : length straightened.procs ≡ length plan.procs
   pub pairs : (p : ℕ) → p < length plan.procs → (w : ℕ) → PublishedCritical straightened.procs p w ↔ PublishedCritical plan.procs p w
-  -- "and its free or deadlock": each of the three answers is true of the one exactly if it is of the other
-  pub answers : (a : Answer) → TrueOf straightened a ↔ TrueOf plan a
-  -- at any counts within the ranges no run of the one gateway reaches a stuck set exactly if none of the other's does, and some run exactly if some run of the other's does
-  pub free : (ks : List ℕ) → Between plan.lines ks → DeadlockFree straightened.procs (at_counts straightened ks).threads ↔ DeadlockFree plan.procs (at_counts plan ks).threads
-  pub deadlock : (ks : List ℕ) → Between plan.lines ks → StuckReached (at_counts straightened ks) ↔ StuckReached (at_counts plan ks)
+  -- "and its free or deadlock": no run of the one gateway reaches a stuck set exactly if none of the other's does, and some run exactly if some run of the other's does
+  pub free : DeadlockFree straightened.procs straightened.threads ↔ DeadlockFree plan.procs plan.threads
+  pub deadlock : StuckReached straightened ↔ StuckReached plan
   -- no size grows, and so no more entries are to be lent for a schedule
   pub sizes : (p : ℕ) → size_of straightened.procs p ≤ size_of plan.procs p
-  pub sum : thread_sizes (highest straightened) ≤ thread_sizes (highest plan)
+  pub sum : thread_sizes straightened ≤ thread_sizes plan
 
--- two verdicts that are the same one of three. "Its schedule may be another."
+-- two verdicts that are both free or both a deadlock. "Its schedule may be another."
 pub data SameVerdict (v v' : Verdict) : Type 0 where
   both-free : v ≡ Free → v' ≡ Free → SameVerdict v v'
   both-deadlock : (n S n' S' : ℕ) → v ≡ Deadlock n S → v' ≡ Deadlock n' S' → SameVerdict v v'
-  both-grown : (n S n' S' : ℕ) → v ≡ Grown n S → v' ≡ Grown n' S' → SameVerdict v v'
 
 -- a copy of the accepted text
 pub record StraightCopy (text : List ℕ) (x : AcceptedText text) (copy : List ℕ) : Type 0 where
   -- "in tidy form". "Reviewers read a shorter plan": at least it is no longer, and so it always fits
-  pub bare : copy ≡ text_of (forms (straight_tree x.plan))
+  pub bare : copy ≡ text_of (forms (straight_plan x.plan))
   pub no_longer : length copy ≤ length text
   -- "it is accepted whenever the original is", and its plan is the straightened one
   pub accepted : AcceptedText copy
@@ -62,11 +59,11 @@ pub record StraightCopy (text : List ℕ) (x : AcceptedText text) (copy : List �
   -- and so may the crossings
   pub crossings : (t u : ℕ) (before : List ℕ) (r : Counted) (after : List ℕ) → Crossed text t u before r after ↔ Crossed copy t u before r after
   pub lockplan_crossings : (t u : ℕ) (before : List ℕ) (n : ℕ) (after : List ℕ) → CrossedBytes text t u before n after ↔ CrossedBytes copy t u before n after
-  -- both are the same one of three, if each is lent the entries that it needs; what the text needs is enough for both
+  -- both are free or both a deadlock, if each is lent the entries that it needs; what the text needs is enough for both
   pub verdicts : (before : List ℕ) (v : Verdict) (after : List ℕ) → Judged text before v after → (before' : List ℕ) (v' : Verdict) (after' : List ℕ) → Judged copy before' v' after'
-      → thread_sizes (highest x.plan) ≤ length before → thread_sizes (highest accepted.plan) ≤ length before' → SameVerdict v v'
+      → thread_sizes x.plan ≤ length before → thread_sizes accepted.plan ≤ length before' → SameVerdict v v'
   pub lockplan_verdicts : (before : List ℕ) (n : ℕ) (after : List ℕ) → JudgedBytes text before n after → (before' : List ℕ) (n' : ℕ) (after' : List ℕ)
-      → JudgedBytes copy before' n' after' → thread_sizes (highest x.plan) ≤ length before / 2 → thread_sizes (highest accepted.plan) ≤ length before' / 2
+      → JudgedBytes copy before' n' after' → thread_sizes x.plan ≤ length before / 2 → thread_sizes accepted.plan ≤ length before' / 2
       → SameVerdict (read_verdict n) (read_verdict n')
   -- and so in print: a report on the copy has the procedures, with their pairs, of one on the text, and the same free or deadlock
   pub reports : (bytes bytes' : List ℕ) (d : Report text bytes) (d' : Report copy bytes')

@@ -4,7 +4,6 @@ use Rattle.std.specs.Prelude.{ℕ, ◌<◌, ◌≢◌, ◌↔◌, ◌≡◌, len
 use mathlib.Core.List.{List, Memᴰ}
 use Rattle.laws.specs.Wrote.{filled}
 use Rattle.semantics.specs.Plan.{LockPlan}
-use Rattle.semantics.specs.Ranges.{highest}
 use Rattle.semantics.specs.Stuck.{DeadlockFree}
 use Rattle.semantics.specs.Language.{PublishedCritical}
 use Rattle.demands.specs.Broken.{AcceptedText}
@@ -32,10 +31,10 @@ pub record CrossesExactly (plan : LockPlan) (t u : ℕ) (r : Counted) (cs : List
   -- so it is zero for any two threads of a plan that is free of deadlocks
   pub free : DeadlockFree plan.procs plan.threads → r ≡ Count 0
 
--- of the calls, where the text is accepted and the threads are there at the highest counts and two: "the lent buffer, of any length, takes the first ones that fit whole .. and keeps its
+-- of the calls, where the text is accepted and the threads are there and two: "the lent buffer, of any length, takes the first ones that fit whole .. and keeps its
 -- remainder"; change 9: "a crossing couple six" words
 pub record Crossings (text before after : List ℕ) : Type 0 where
-  pub crossings : (t u : ℕ) (r : Counted) → Crossed text t u before r after → (x : AcceptedText text) → t < length (highest x.plan).threads → u < length (highest x.plan).threads → t ≢ u
-      → (cs : List Couple) × CrossesExactly (highest x.plan) t u r cs × (after ≡ filled (fitting_words (length before) cs) before)
-  pub lockplan_crossings : (t u n : ℕ) → CrossedBytes text t u before n after → (x : AcceptedText text) → t < length (highest x.plan).threads → u < length (highest x.plan).threads → t ≢ u
-      → (cs : List Couple) × CrossesExactly (highest x.plan) t u (read_counted n) cs × (after ≡ filled (fitting_bytes (length before) cs) before)
+  pub crossings : (t u : ℕ) (r : Counted) → Crossed text t u before r after → (x : AcceptedText text) → t < length x.plan.threads → u < length x.plan.threads → t ≢ u
+      → (cs : List Couple) × CrossesExactly x.plan t u r cs × (after ≡ filled (fitting_words (length before) cs) before)
+  pub lockplan_crossings : (t u n : ℕ) → CrossedBytes text t u before n after → (x : AcceptedText text) → t < length x.plan.threads → u < length x.plan.threads → t ≢ u
+      → (cs : List Couple) × CrossesExactly x.plan t u (read_counted n) cs × (after ≡ filled (fitting_bytes (length before) cs) before)

@@ -15,7 +15,6 @@ use Rattle.text.specs.declared.Form.TheVariants.{Plan, Proc, Close, Skip, Call, 
 use Rattle.text.specs.Forms.{kind_in, begins_other}
 use Rattle.semantics.specs.Plan.{Block, done, skip, call, hold, loop, either, end, LockPlan, body_in}
 use Rattle.semantics.specs.Claims.{lock_of}
-use Rattle.semantics.specs.Ranges.{ThreadLine, RangedPlan}
 use Rattle.plan.specs.Grammar.{claim_form, block_forms, proc_forms, thread_forms, forms}
 use Rattle.plan.specs.Rules.{proc_form_from}
 use Rattle.plan.proofs.ClaimForms.{by_claim}
@@ -138,7 +137,7 @@ proc-at (b ∷ ps) gs (suc p) n h e =
       ends = r.ends;
     }
 
-begins-threads : (ns : List ThreadLine) (fs : List Form) → 0 < length ns → forms_before (thread_forms ns fs) ≡ 0
+begins-threads : (ns : List ℕ) (fs : List Form) → 0 < length ns → forms_before (thread_forms ns fs) ≡ 0
 unfolding thread_forms forms_before kind_in
 begins-threads [] fs h = absurd (omega arith)
 begins-threads (n ∷ ns) fs h = refl
@@ -195,18 +194,18 @@ before-some (either a b r) fs = omega arith
 before-some (end l r) fs = before-some r fs
 
 -- the forms of procedure p, from its `(proc`, which is form k, to its closing form
-pub record ProcForms (plan : RangedPlan) (p k : ℕ) : Type 0 where
+pub record ProcForms (plan : LockPlan) (p k : ℕ) : Type 0 where
   pub first : 1 ≤ k
   pub closing : forms_before (drop k (forms plan)) ≡ forms_to_closing 0 (drop k (forms plan))
   pub within : k + forms_to_closing 0 (drop k (forms plan)) ≤ length (forms plan)
   pub between : take (suc (forms_to_closing 0 (drop k (forms plan)))) (drop (k - 1) (forms plan)) ≡ proc_forms (body_in plan.procs p ∷ []) []
 
-pub proc-forms : (plan : RangedPlan) (p : ℕ) → p < length plan.procs → 0 < length plan.lines → (k : ℕ) → k ≡ proc_form_from 1 p (forms plan) → ProcForms plan p k
+pub proc-forms : (plan : LockPlan) (p : ℕ) → p < length plan.procs → 0 < length plan.threads → (k : ℕ) → k ≡ proc_form_from 1 p (forms plan) → ProcForms plan p k
 unfolding forms proc_form_from proc_forms kind_in
 proc-forms plan p h t k e =
-    let gs = thread_forms plan.lines (Close ∷ []) in
+    let gs = thread_forms plan.threads (Close ∷ []) in
     let fs = proc_forms plan.procs gs in
-    let r = proc-at plan.procs gs p 2 h (begins-threads plan.lines (Close ∷ []) t) in
+    let r = proc-at plan.procs gs p 2 h (begins-threads plan.threads (Close ∷ []) t) in
     let b = body_in plan.procs p in
     let at : k ≡ suc (suc r.place) = e ∙ r.number ∙ omega arith in
     let inside : drop k (Plan ∷ fs) ≡ block_forms b (Close ∷ r.later) =

@@ -53,7 +53,7 @@ no_claims = 0 ∷ 1 ∷ 2 ∷ 3 ∷ 4 ∷ 5 ∷ 7 ∷ 8 ∷ 9 ∷ 10 ∷ []
 pub claim-other : (f : Form) (r : ℕ) → OneOf (0 ∷ 1 ∷ 2 ∷ 3 ∷ 4 ∷ 5 ∷ 7 ∷ 8 ∷ 9 ∷ 10 ∷ []) (tag_of the_type f) → r ≡ 0 → r ≡ claim_in f
 claim-other Plan r h e = e
 claim-other Proc r h e = e
-claim-other (Thread p a b) r h e = e
+claim-other (Thread p) r h e = e
 claim-other Close r h e = e
 claim-other Skip r h e = e
 claim-other (Call p) r h e = e
@@ -68,7 +68,7 @@ claim-other (Share l) r h e = absurd (miss no_claims 11 tt h)
 pub claim-form : (f : Form) → OneOf (6 ∷ 11 ∷ []) (tag_of the_type f) → f ≡ claim_form (claim_in f)
 claim-form Plan h = absurd (miss (6 ∷ 11 ∷ []) 0 tt h)
 claim-form Proc h = absurd (miss (6 ∷ 11 ∷ []) 1 tt h)
-claim-form (Thread p a b) h = absurd (miss (6 ∷ 11 ∷ []) 2 tt h)
+claim-form (Thread p) h = absurd (miss (6 ∷ 11 ∷ []) 2 tt h)
 claim-form Close h = absurd (miss (6 ∷ 11 ∷ []) 3 tt h)
 claim-form Skip h = absurd (miss (6 ∷ 11 ∷ []) 4 tt h)
 claim-form (Call p) h = absurd (miss (6 ∷ 11 ∷ []) 5 tt h)

@@ -21,7 +21,7 @@ use Rattle.paths.specs.declared.Way.{Way}
 abbrev pub claim_in : Form → ℕ
 claim_in Plan = 0
 claim_in Proc = 0
-claim_in (Thread p a b) = 0
+claim_in (Thread p) = 0
 claim_in Close = 0
 claim_in Skip = 0
 claim_in (Call p) = 0

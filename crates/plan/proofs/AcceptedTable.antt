@@ -11,7 +11,6 @@ use Rattle.laws.proofs.Tests.{first-none}
 use borrow.Author.Tests.{ltb-false, le-ltb}
 use Rattle.limits.specs.Limits.{max_bytes, max_forms, max_pairs, max_entries}
 use Rattle.semantics.specs.Plan.{Ranks}
-use Rattle.semantics.specs.Ranges.{highest}
 use Rattle.semantics.specs.Sizes.{thread_sizes}
 use Rattle.semantics.specs.Pairs.{pair_list}
 use Rattle.semantics.proofs.Conflicts.Characterisation.{Ranked}
@@ -21,10 +20,10 @@ use Rattle.text.proofs.Splits.{few-forms}
 use Rattle.plan.specs.declared.Reading.{Reading}
 use Rattle.plan.specs.declared.Reading.TheVariants.{Accepted}
 use Rattle.plan.specs.Table.{form_at, table_forms, FormRoom}
-use Rattle.plan.specs.Grammar.{forms, tree_in}
-use Rattle.plan.specs.Settled.{Settled, table_tree, table_plan, PlanTable, RulesKept}
+use Rattle.plan.specs.Grammar.{forms, plan_in}
+use Rattle.plan.specs.Settled.{Settled, table_plan, PlanTable, RulesKept}
 use Rattle.plan.specs.Rules.{refused_at, too_long, lines_refusal, grammar_refusal, recursive, idle, too_large, reach_refusal, procs_refusal, forms_refusal}
-use Rattle.plan.specs.Rules.{in_file, plan_refusal, tree_of, plan_of, Tabled}
+use Rattle.plan.specs.Rules.{in_file, plan_refusal, plan_of, Tabled}
 use Rattle.plan.proofs.Kept.{kept, no_line, unflagged}
 use Rattle.plan.proofs.Denotes.{accepted_denotes}
 use Rattle.plan.proofs.Filling.{accepted-none, accepted-count}
@@ -75,33 +74,32 @@ pub rules-accepted : (text : List ℕ) → AcceptedRules text → plan_refusal t
 unfolding plan_refusal lines_refusal too_long forms_refusal or_else
 rules-accepted text r = rw (le-ltb max_bytes (length text) r.short, r.readable, r.formed, r.acyclic, r.reachable, r.sizes)
 
--- the forms of an accepted text are those of its plan; rules 4 to 8 and 15 settle the plan, with rule 12 its procedures have ranks, and with rule 9 they have few pairs
+-- the forms of an accepted text are those of its plan; rules 4 to 8 settle the plan, with rule 12 its procedures have ranks, and with rule 9 they have few pairs
 module _ (text : List ℕ) (e : plan_refusal text ≡ none) where
-  pub accepted-text : forms_of text ≡ forms (tree_of text)
-  unfolding tree_of
+  pub accepted-text : forms_of text ≡ forms (plan_of text)
+  unfolding plan_of
   accepted-text = (accepted_denotes (forms_of text) (kept (forms_of text) (accepted-rules text e).formed).0).1
 
-  pub accepted-settled : Settled (tree_of text)
-  unfolding tree_of
+  pub accepted-settled : Settled (plan_of text)
+  unfolding plan_of
   accepted-settled = forms-settled (forms_of text) (accepted-rules text e).formed
 
   pub accepted-ranks : Ranks (plan_of text).procs
-  unfolding tree_of
+  unfolding plan_of
   accepted-ranks = rules-ranks (forms_of text) accepted-settled (accepted-rules text e).acyclic
 
   pub accepted-ranked : Ranked (plan_of text)
-  unfolding tree_of
-  accepted-ranked = settled-ranked (tree_of text) accepted-settled accepted-ranks
+  accepted-ranked = settled-ranked (plan_of text) accepted-settled accepted-ranks
 
   pub accepted-sum : thread_sizes (plan_of text) ≤ max_entries
-  unfolding tree_of
+  unfolding plan_of
   accepted-sum = sum-within (forms_of text) accepted-settled (accepted-rules text e).sizes
 
   pub accepted-few : (p : ℕ) → p < length (plan_of text).procs → length (pair_list (plan_of text).procs p) ≤ max_pairs
-  unfolding tree_of
+  unfolding plan_of
   accepted-few = pairs-within (forms_of text) accepted-settled (accepted-rules text e).acyclic (accepted-rules text e).sizes
 
--- the table of forms that rules 4 to 8 and 15 do not refuse
+-- the table of forms that rules 4 to 8 do not refuse
 pub formed-table : (ws : List ℕ) → grammar_refusal (table_forms ws) ≡ none → PlanTable ws
 formed-table ws e = record { written = (accepted_denotes (table_forms ws) (kept (table_forms ws) e).0).1; settled = forms-settled (table_forms ws) e }
 
@@ -123,12 +121,9 @@ module _ (refused : Option Refusal) (text table : List ℕ) (q : Reading) (n : �
   pub tabled-size : length (take (n - 0) table) ≡ length (forms_of text)
   tabled-size = sym (length-map (take (n - 0) table) form_at) ∙ ap length tabled-forms
 
-  pub tabled_tree : table_tree (take (n - 0) table) ≡ tree_of text
-  unfolding tree_of
-  tabled_tree = ap tree_in tabled-forms
-
   pub tabled-same : table_plan (take (n - 0) table) ≡ plan_of text
-  tabled-same = ap highest tabled_tree
+  unfolding plan_of
+  tabled-same = ap plan_in tabled-forms
 
 -- by the plan's
 module _ (text table : List ℕ) (q : Reading) (n : ℕ) (t : Tabled (plan_refusal text) text q table) (g : q ≡ Accepted n) where
@@ -137,9 +132,6 @@ module _ (text table : List ℕ) (q : Reading) (n : ℕ) (t : Tabled (plan_refus
 
   pub plan-forms : table_forms (take (n - 0) table) ≡ forms_of text
   plan-forms = tabled-forms (plan_refusal text) text table q n t g
-
-  pub tree_same : table_tree (take (n - 0) table) ≡ tree_of text
-  tree_same = tabled_tree (plan_refusal text) text table q n t g
 
   pub plan-same : table_plan (take (n - 0) table) ≡ plan_of text
   plan-same = tabled-same (plan_refusal text) text table q n t g

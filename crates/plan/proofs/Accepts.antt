@@ -9,8 +9,7 @@ use native.Mathlib.Omega.{arith}
 use lib.ListN.{length}
 use Rattle.text.specs.declared.Form.{Form}
 use Rattle.text.specs.declared.Form.TheVariants.{Close}
-use Rattle.semantics.specs.Plan.{Block, done, skip, call, hold, loop, either, end, body_in, WellFormed}
-use Rattle.semantics.specs.Ranges.{ThreadLine, RangedPlan}
+use Rattle.semantics.specs.Plan.{Block, done, skip, call, hold, loop, either, end, LockPlan, body_in, WellFormed}
 use Rattle.plan.specs.Grammar.{block_forms, proc_forms, thread_forms, forms, Grammatical}
 use Rattle.plan.specs.Structure.{misplaced, misplaced_form}
 use Rattle.plan.proofs.Trees.{later-blocks}
@@ -50,12 +49,12 @@ accepts_procs [] fs w h = h
 accepts_procs (b ∷ bs) fs w h =
     accepts_step next _ (accepts_block b false (w 0 (omega arith)) [] _ (accepts_step ends-proc _ (accepts_procs bs fs (later-blocks b bs w) h)))
 
-accepts_threads : (ns : List ThreadLine) → Accepts next-thread (thread_forms ns (Close ∷ []))
+accepts_threads : (ns : List ℕ) → Accepts next-thread (thread_forms ns (Close ∷ []))
 unfolding thread_forms misplaced mode_of
 accepts_threads [] = accepts_step ends-plan [] (λ number. refl)
 accepts_threads (n ∷ ns) = accepts_step more-threads (thread_forms ns (Close ∷ [])) (accepts_threads ns)
 
-accepts_plan : (bs : List Block) (ns : List ThreadLine) → 0 < length bs → 0 < length ns → ((p : ℕ) → p < length bs → WellFormed false (body_in bs p))
+accepts_plan : (bs : List Block) (ns : List ℕ) → 0 < length bs → 0 < length ns → ((p : ℕ) → p < length bs → WellFormed false (body_in bs p))
     → Accepts first-proc (proc_forms bs (thread_forms ns (Close ∷ [])))
 unfolding proc_forms thread_forms body_in
 accepts_plan [] ns h k w = absurd (omega arith)
@@ -64,6 +63,6 @@ accepts_plan (b ∷ bs) (n ∷ ns) h k w =
     accepts_step first _ (accepts_block b false (w 0 (omega arith)) [] _ (accepts_step ends-proc _
     (accepts_procs bs _ (later-blocks b bs w) (accepts_step first-thread _ (accepts_threads ns)))))
 
-pub forms-accepted : (plan : RangedPlan) → Grammatical plan → misplaced_form (forms plan) ≡ none
+pub forms-accepted : (plan : LockPlan) → Grammatical plan → misplaced_form (forms plan) ≡ none
 unfolding forms misplaced_form mode_of stack_of
-forms-accepted plan g = accepts_step begins-plan _ (accepts_plan plan.procs plan.lines g.some_procedure g.some-line g.blocks) 1
+forms-accepted plan g = accepts_step begins-plan _ (accepts_plan plan.procs plan.threads g.some_procedure g.some-thread g.blocks) 1

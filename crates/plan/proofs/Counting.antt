@@ -7,8 +7,7 @@ use lib.ListN.{length}
 use Rattle.text.specs.declared.Form.{Form}
 use Rattle.text.specs.declared.Form.TheVariants.{Close, Two}
 use Rattle.text.specs.Forms.{kind_in, is_proc}
-use Rattle.semantics.specs.Plan.{Block, done, skip, call, hold, loop, either, end}
-use Rattle.semantics.specs.Ranges.{ThreadLine, RangedPlan}
+use Rattle.semantics.specs.Plan.{Block, done, skip, call, hold, loop, either, end, LockPlan}
 use Rattle.plan.specs.Grammar.{block_forms, proc_forms, thread_forms, forms}
 use Rattle.plan.specs.Limits.{count_if}
 use Rattle.plan.proofs.ClaimForms.{by_claim}
@@ -33,11 +32,11 @@ unfolding count_if kind_in proc_forms
 count-procs [] fs = omega arith
 count-procs (b ∷ bs) fs = omega (arith, count-block b (Close ∷ proc_forms bs fs), count-procs bs fs)
 
-count-threads : (ns : List ThreadLine) (fs : List Form) → count_if is_proc (thread_forms ns fs) ≡ count_if is_proc fs
+count-threads : (ns : List ℕ) (fs : List Form) → count_if is_proc (thread_forms ns fs) ≡ count_if is_proc fs
 unfolding count_if kind_in thread_forms
 count-threads [] fs = refl
 count-threads (n ∷ ns) fs = omega (arith, count-threads ns fs)
 
-pub count-forms : (plan : RangedPlan) → count_if is_proc (forms plan) ≡ length plan.procs
+pub count-forms : (plan : LockPlan) → count_if is_proc (forms plan) ≡ length plan.procs
 unfolding count_if kind_in forms
-count-forms plan = omega (arith, count-procs plan.procs (thread_forms plan.lines (Close ∷ [])), count-threads plan.lines (Close ∷ []))
+count-forms plan = omega (arith, count-procs plan.procs (thread_forms plan.threads (Close ∷ [])), count-threads plan.threads (Close ∷ []))

@@ -10,14 +10,13 @@ use native.Mathlib.Omega.{arith}
 use lib.ListN.{length}
 use Rattle.text.specs.declared.Form.{Form}
 use Rattle.text.specs.declared.Form.TheVariants.{Plan, Proc, Thread, Close, Skip, Call, Hold, Loop, Either, One, Two, Share}
-use Rattle.semantics.specs.Plan.{Block, done, skip, call, hold, loop, either, body_in, WellFormed}
-use Rattle.semantics.specs.Claims.{by_share, by_hold}
-use Rattle.semantics.specs.Ranges.{ThreadLine, thread_line, RangedPlan}
-use Rattle.plan.specs.Grammar.{claim_form, block_forms, proc_forms, thread_forms, forms, Grammatical, tree_in}
+use Rattle.semantics.specs.Plan.{Block, done, skip, call, hold, loop, either, LockPlan, body_in, WellFormed}
+use Rattle.plan.specs.Grammar.{claim_form, block_forms, proc_forms, thread_forms, forms, Grammatical, plan_in}
 use Rattle.plan.specs.Structure.{misplaced, misplaced_form}
 use Rattle.plan.specs.Places.{IsPlan}
+use Rattle.semantics.specs.Claims.{by_share, by_hold}
 use Rattle.plan.proofs.ClaimForms.{hold-form, share-form}
-use Rattle.plan.proofs.Trees.{tree_of-forms}
+use Rattle.plan.proofs.Trees.{plan_of-forms}
 use Rattle.plan.proofs.States.{Bracket, statement, one, two}
 use Rattle.plan.proofs.States.{State, initial, first-proc, next-proc, next-thread, finished, in_block, awaits_one, awaits_two, ends-either}
 use Rattle.plan.proofs.States.{mode_of, stack_of, misplaced_from, after-step, step_or_refused}
@@ -42,11 +41,11 @@ record BlockThen (empty : Bool) (K : List Form → Type 0) (fs : List Form) : Ty
 -- at least `least` procedures, threads, and the plan's end
 record Procs (least : ℕ) (fs : List Form) : Type 0 where
   procs : List Block
-  lines : List ThreadLine
+  threads : List ℕ
   enough : least ≤ length procs
-  some-line : 0 < length lines
+  some-thread : 0 < length threads
   blocks : (p : ℕ) → p < length procs → WellFormed false (body_in procs p)
-  split : fs ≡ proc_forms procs (thread_forms lines (Close ∷ []))
+  split : fs ≡ proc_forms procs (thread_forms threads (Close ∷ []))
 
 -- what follows the closing line of the innermost block
 unfoldable AfterBlock : List Bracket → List Form → Type 0
@@ -60,7 +59,7 @@ unfoldable Rest : State → List Form → Type 0
 Rest initial = Follows Plan (Procs 1)
 Rest first-proc = Procs 1
 Rest next-proc = Procs 0
-Rest next-thread = λ fs. (ns : List ThreadLine) × (fs ≡ thread_forms ns (Close ∷ []))
+Rest next-thread = λ fs. (ns : List ℕ) × (fs ≡ thread_forms ns (Close ∷ []))
 Rest finished = λ fs. fs ≡ []
 Rest (in_block empty ks) = BlockThen empty (AfterBlock ks)
 Rest (awaits_one ks) = Follows One (BlockThen false (AfterBlock (one ∷ ks)))
@@ -135,9 +134,9 @@ proc-front least h fs w =
     let k = w.goes_on in
     record {
       procs = w.block ∷ k.procs;
-      lines = k.lines;
+      threads = k.threads;
       enough = omega arith;
-      some-line = k.some-line;
+      some-thread = k.some-thread;
       blocks = each w.block k.procs w.well k.blocks;
       split = ap (λ x. Proc ∷ x) (w.split ∙ ap (λ x. block_forms w.block (Close ∷ x)) k.split);
     }
@@ -152,15 +151,15 @@ unfolding Rest AfterBlock proc_forms thread_forms
 rest-step begins-plan fs r = follows (Procs 1) fs Plan r
 rest-step first fs r = proc-front 1 (omega arith) fs r
 rest-step next fs r = proc-front 0 (omega arith) fs r
-rest-step (first-thread {p} {a} {b}) fs r = record {
+rest-step (first-thread {n}) fs r = record {
   procs = [];
-  lines = thread_line p a b ∷ r.0;
+  threads = n ∷ r.0;
   enough = omega arith;
-  some-line = omega arith;
+  some-thread = omega arith;
   blocks = λ p h. absurd (omega arith);
-  split = ap (λ x. Thread p a b ∷ x) r.1;
+  split = ap (λ x. Thread n ∷ x) r.1;
 }
-rest-step (more-threads {p} {a} {b}) fs r = (thread_line p a b ∷ r.0, ap (λ x. Thread p a b ∷ x) r.1)
+rest-step (more-threads {n}) fs r = (n ∷ r.0, ap (λ x. Thread n ∷ x) r.1)
 rest-step ends-plan fs r = ([], ap (λ x. Close ∷ x) r)
 rest-step (skips {e} {ks}) fs r = skip-front (AfterBlock ks) fs e r
 rest-step (calls {e} {ks} {n}) fs r = call-front (AfterBlock ks) fs e n r
@@ -204,8 +203,8 @@ accepted-plan fs h =
     let r : Follows Plan (Procs 1) fs = accepted-rest fs initial 1 h in
     let k = r.goes_on in
     record {
-      plan = record { procs = k.procs; lines = k.lines };
-      grammatical = record { some_procedure = k.enough; some-line = k.some-line; blocks = k.blocks };
+      plan = record { procs = k.procs; threads = k.threads };
+      grammatical = record { some_procedure = k.enough; some-thread = k.some-thread; blocks = k.blocks };
       written = r.split ∙ ap (λ x. Plan ∷ x) k.split;
     }
 
@@ -213,17 +212,17 @@ pub plan-accepted : (fs : List Form) → IsPlan fs → misplaced_form fs ≡ non
 plan-accepted fs x = rw x.written (forms-accepted x.plan x.grammatical)
 
 -- the tree of forms that are those of a plan is that plan
-pub tree_in-written : (fs : List Form) (x : IsPlan fs) → tree_in fs ≡ x.plan
-tree_in-written fs x = ap tree_in x.written ∙ tree_of-forms x.plan x.grammatical
+pub plan_in-written : (fs : List Form) (x : IsPlan fs) → plan_in fs ≡ x.plan
+plan_in-written fs x = ap plan_in x.written ∙ plan_of-forms x.plan x.grammatical
 
-pub accepted_denotes : (fs : List Form) → misplaced_form fs ≡ none → Grammatical (tree_in fs) × (fs ≡ forms (tree_in fs))
+pub accepted_denotes : (fs : List Form) → misplaced_form fs ≡ none → Grammatical (plan_in fs) × (fs ≡ forms (plan_in fs))
 accepted_denotes fs h =
     let x = accepted-plan fs h in
-    rw (tree_in-written fs x) (x.grammatical, x.written)
+    rw (plan_in-written fs x) (x.grammatical, x.written)
 
 -- Rule 4, "the text's structure": no form is misplaced in the text of a plan that the grammar has, and in no other
-pub structure_plan : (fs : List Form) (plan : RangedPlan) → ((misplaced_form fs ≡ none) × (tree_in fs ≡ plan)) ↔ (Grammatical plan × (fs ≡ forms plan))
+pub structure_plan : (fs : List Form) (plan : LockPlan) → ((misplaced_form fs ≡ none) × (plan_in fs ≡ plan)) ↔ (Grammatical plan × (fs ≡ forms plan))
 structure_plan fs plan = (
   λ h. rw h.1 at (accepted_denotes fs h.0),
-  λ h. let x : IsPlan fs = record { plan = plan; grammatical = h.0; written = h.1 } in (plan-accepted fs x, tree_in-written fs x),
+  λ h. let x : IsPlan fs = record { plan = plan; grammatical = h.0; written = h.1 } in (plan-accepted fs x, plan_in-written fs x),
 )

@@ -16,7 +16,6 @@ use Rattle.text.specs.declared.Line.{Line}
 use Rattle.text.specs.declared.Line.TheVariants.{Read}
 use Rattle.text.specs.declared.Line.TheVariants as line
 use Rattle.text.specs.declared.Place.{Place}
-use Rattle.text.specs.Forms.{ShortNumbers}
 use Rattle.text.specs.Lines.{refusal, line_at, forms_of, unreadable_line, line_of}
 use Rattle.text.specs.Passing.{place, ReadAlike, Stops}
 use Rattle.text.proofs.Reading.{forms_from, unreadable_from, next-forms, next-unreadable, next-later}
@@ -25,7 +24,7 @@ use Rattle.plan.specs.declared.Reading.{Reading}
 use Rattle.plan.specs.declared.Reading.TheVariants.{Accepted, Refused}
 use Rattle.plan.specs.Table.{code_of, form_at, table_forms, with_line, FormRoom}
 use Rattle.plan.specs.Rules.{refused_at, too_long, lines_refusal, in_file, reading_of, read_in_file, Tabled}
-use Rattle.plan.proofs.Codes.{Packed, form_of_code}
+use Rattle.plan.proofs.Codes.{form_of_code}
 
 -- the forms before the place p are in the table, n of them, each with a line end behind it; at p stands the next form, or the text's end
 pub record Filling (text table : List ℕ) (p : Place) (n : ℕ) : Type 0 where
@@ -41,10 +40,6 @@ unfolding forms_of unreadable_line
 filling_none text table p a s =
     record { pace = omega arith; within = a.within; counted = omega (arith, a.counted); stops = s; read = sym a.forms; readable = sym a.readable }
 
--- the numbers of a form that was read fit in its code
-packed : (f : Form) → ShortNumbers f → Packed f
-packed f s = record { number = omega (arith, s.number); least = omega (arith, s.least); most = omega (arith, s.most) }
-
 -- the line that was put into the table is the one that was read
 pub read_again : (q a r : Line) → q ≡ r → q ≡ a → r ≡ a
 read_again q a r g e = sym g ∙ e
@@ -59,7 +54,7 @@ module _ (text table : List ℕ) (p : Place) (n : ℕ) (q : Line) (s : Filling t
     filling_more table₀ table₁ k b c d h stops =
         let room : n < length table = omega (arith, s.pace, c.room) in
         let put : table₁ ≡ set table n (code_of f) = rw g at k in
-        let form : form_at (code_of f) ≡ f = form_of_code f (packed f (next_small text p.at p.line q e f next g)) in
+        let form : form_at (code_of f) ≡ f = form_of_code f (omega (arith, next_small text p.at p.line q e f next g)) in
         let one : table_forms (take (n + 1) table₁) ≡ table_forms (take n table) ++ (f ∷ []) =
         rw (put, add-one, take-suc-set table n (code_of f) room, map-append form_at (take n table) (code_of f ∷ []), form) in
         let later = next-later text p.at p.line q e f next g in

@@ -35,7 +35,7 @@ unfolding Completion misplaced mode_of
 no_more = ([], λ number. refl)
 
 a_thread : Completion next-proc
-a_thread = via (first-thread {p = 0} {a = 1} {b = 1}) (via ends-plan no_more)
+a_thread = via (first-thread {n = 0}) (via ends-plan no_more)
 
 close : (ks : List Bracket) → Completion (in_block true ks)
 close [] = via ends-proc a_thread

@@ -25,7 +25,6 @@ pub record Keeps (m : ℕ) (c : Counts) (f : Form) : Type 0 where
   pub lock : breaks 6 m f ≡ false
   pub callee : breaks 7 m f ≡ false
   pub thread : breaks 8 m f ≡ false
-  pub range : breaks 15 m f ≡ false
 
 -- the same of each form, from the counts c on
 unfoldable pub Kept : ℕ → Counts → List Form → Type 0
@@ -37,17 +36,16 @@ unnamed true number later h = absurd (some-ne-none number h)
 unnamed false number later h = (refl, h)
 
 kept_from : (fs : List Form) (m : ℕ) (c : Counts) (number : ℕ) → past_limit_from c number fs ≡ none → breaking 6 m number fs ≡ none → breaking 7 m number fs ≡ none
-    → breaking 8 m number fs ≡ none → breaking 15 m number fs ≡ none → Kept m c fs
+    → breaking 8 m number fs ≡ none → Kept m c fs
 unfolding Kept past_limit_from breaking
-kept_from [] m c number five six seven eight fifteen = tt
-kept_from (f ∷ fs) m c number five six seven eight fifteen =
+kept_from [] m c number five six seven eight = tt
+kept_from (f ∷ fs) m c number five six seven eight =
     let d = counted c f in
     let x = unnamed (over_limit d) number (past_limit_from d (suc number) fs) five in
     let y = unnamed (breaks 6 m f) number (breaking 6 m (suc number) fs) six in
     let z = unnamed (breaks 7 m f) number (breaking 7 m (suc number) fs) seven in
     let u = unnamed (breaks 8 m f) number (breaking 8 m (suc number) fs) eight in
-    let v = unnamed (breaks 15 m f) number (breaking 15 m (suc number) fs) fifteen in
-    (record { limits = x.0; lock = y.0; callee = z.0; thread = u.0; range = v.0 }, kept_from fs m d (suc number) x.1 y.1 z.1 u.1 v.1)
+    (record { limits = x.0; lock = y.0; callee = z.0; thread = u.0 }, kept_from fs m d (suc number) x.1 y.1 z.1 u.1)
 
 -- a rule that refuses nothing names nothing
 pub no_line : (rule : ℕ) (o : Option ℕ) → refused_at rule o ≡ none → o ≡ none
@@ -58,22 +56,21 @@ pub unflagged : (rule : ℕ) (b : Bool) → refused_if rule b ≡ none → b ≡
 unflagged rule true h = absurd (some-ne-none (refusal rule 0) h)
 unflagged rule false h = refl
 
--- what rules 4 to 8 and 15 say of forms that none of them refuses
+-- what rules 4 to 8 say of forms that none of them refuses
 pub kept : (fs : List Form) → grammar_refusal fs ≡ none → (misplaced_form fs ≡ none) × Kept (count_if is_proc fs) no_counts fs
 unfolding grammar_refusal references_refusal past_limit_form breaking_form
 kept fs h =
     let m = count_if is_proc fs in
     let r : ℕ → Option Refusal = λ rule. refused_at rule (breaking rule m 1 fs) in
     let over = refused_at 5 (past_limit_from no_counts 1 fs) in
-    let a = first-none (refused_at 4 (misplaced_form fs)) (or_else over (or_else (r 6) (or_else (r 7) (or_else (r 8) (r 15))))) h in
-    let b = first-none over (or_else (r 6) (or_else (r 7) (or_else (r 8) (r 15)))) a.1 in
-    let c = first-none (r 6) (or_else (r 7) (or_else (r 8) (r 15))) b.1 in
-    let d = first-none (r 7) (or_else (r 8) (r 15)) c.1 in
-    let e = first-none (r 8) (r 15) d.1 in (
+    let a = first-none (refused_at 4 (misplaced_form fs)) (or_else over (or_else (r 6) (or_else (r 7) (r 8)))) h in
+    let b = first-none over (or_else (r 6) (or_else (r 7) (r 8))) a.1 in
+    let c = first-none (r 6) (or_else (r 7) (r 8)) b.1 in
+    let d = first-none (r 7) (r 8) c.1 in (
       no_line 4 (misplaced_form fs) a.0,
       kept_from fs m no_counts 1
           (no_line 5 (past_limit_from no_counts 1 fs) b.0) (no_line 6 (breaking 6 m 1 fs) c.0)
-          (no_line 7 (breaking 7 m 1 fs) d.0) (no_line 8 (breaking 8 m 1 fs) e.0) (no_line 15 (breaking 15 m 1 fs) e.1),
+          (no_line 7 (breaking 7 m 1 fs) d.0) (no_line 8 (breaking 8 m 1 fs) d.1),
     )
 
 -- 5: "64 procedures, 1,024 statements, 6 threads, or 16 brackets"
@@ -83,7 +80,7 @@ pub record WithinLimits (c : Counts) : Type 0 where
   pub threads : c.threads ≤ max_threads
   pub depth : c.depth ≤ max_brackets
 
-pub neither : (a b : Bool) → pick a true b ≡ false → (a ≡ false) × (b ≡ false)
+neither : (a b : Bool) → pick a true b ≡ false → (a ≡ false) × (b ≡ false)
 unfolding pick
 neither true b h = absurd (let z : ◌≡◌ {A = ℕ} 0 1 = cc in omega arith)
 neither false b h = (refl, h)

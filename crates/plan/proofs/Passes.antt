@@ -7,7 +7,7 @@ use mathlib.Core.Bool.{Bool, true, false, cond}
 use mathlib.Core.List.{List, [], ◌∷◌, map, tail}
 use mathlib.Core.Option.{Option, none, some, or_else}
 use native.Mathlib.Nat.{le_refl}
-use lib.Dec.{eqb, ltb, leb}
+use lib.Dec.{eqb, leb}
 use denote.Enum.Declared.{tag_of}
 use types.Run.{OneOf}
 use borrow.Author.Tests.{eq-eqb, ne_eqb}
@@ -15,8 +15,8 @@ use lib.ListN.{length, drop, get_or, set, drop_of_length-le}
 use lib.Seq.{drop-cons, get_or-set_same, get_or-set_other}
 use Rattle.laws.specs.Choice.{pick}
 use Rattle.text.specs.declared.Form.{Form}
-use Rattle.text.specs.declared.Form.TheVariants.{Plan, Proc, Thread, Close, Skip, Call, Hold, Loop, Either, One, Two, Share}
-use Rattle.text.specs.Forms.{number_in, least_in, most_in, kind_in, is_proc, is_close, is_statement, is_bracket}
+use Rattle.text.specs.declared.Form.TheVariants.{Close}
+use Rattle.text.specs.Forms.{number_in, kind_in, is_proc, is_thread, is_close, is_statement, is_bracket}
 use Rattle.text.specs.contracts.Form.{the_type}
 use Rattle.text.proofs.Matches.{match_arm, kind-rest}
 use Rattle.plan.specs.declared.Advance.{Advance}
@@ -31,9 +31,7 @@ use Rattle.plan.specs.Structure.{innermost, stack_of, among, advance_of, go_on, 
 use Rattle.text.specs.declared.Refusal.{Refusal}
 use Rattle.text.specs.Lines.{refusal}
 use Rattle.plan.specs.Rules.{refused_at, limited_of, reading_of}
-use Rattle.limits.specs.Limits.{max_threads}
-use Rattle.plan.proofs.Kept.{within-limits}
-use Rattle.plan.specs.Limits.{Small, as_counts, no_counts, add_if, add_copies, bad_range, depth_after, counted, over_limit, past_limit_from, tested_by, least_bad, breaks, breaking, count_if, breaking_form}
+use Rattle.plan.specs.Limits.{Small, as_counts, no_counts, add_if, depth_after, counted, over_limit, past_limit_from, tested_by, least_bad, breaks, breaking, count_if, breaking_form}
 
 -- ---- a match on a form: what a definition says of it, by the arm
 
@@ -73,26 +71,6 @@ module _ (f : Form) where
   unfolding number_in
   number-rest r h e = e ∙ sym (match_arm number_in 0 (0 ∷ 1 ∷ 3 ∷ 4 ∷ 7 ∷ 8 ∷ 9 ∷ 10 ∷ []) f h refl)
 
-  pub copies-thread : (p a b r : ℕ) → f ≡ Thread p a b → r ≡ b → r ≡ most_in f
-  unfolding most_in
-  copies-thread p a b r e h = rw (e, h)
-
-  pub copies-rest : (r : ℕ) → OneOf (0 ∷ 1 ∷ 3 ∷ 4 ∷ 5 ∷ 6 ∷ 7 ∷ 8 ∷ 9 ∷ 10 ∷ 11 ∷ []) (tag_of the_type f) → r ≡ 0 → r ≡ most_in f
-  unfolding most_in
-  copies-rest r h e = e ∙ sym (match_arm most_in 0 (0 ∷ 1 ∷ 3 ∷ 4 ∷ 5 ∷ 6 ∷ 7 ∷ 8 ∷ 9 ∷ 10 ∷ 11 ∷ []) f h refl)
-
-  pub range-zero : (p a b : ℕ) (r : Bool) → f ≡ Thread p a b → b ≡ 0 → r ≡ true → r ≡ bad_range f
-  unfolding bad_range kind_in most_in least_in pick
-  range-zero p a b r e z h = rw (e, h, eq-eqb b 0 z)
-
-  pub range-below : (p a b : ℕ) (r : Bool) → f ≡ Thread p a b → (b ≡ 0 → ⊥) → r ≡ ltb b a → r ≡ bad_range f
-  unfolding bad_range kind_in most_in least_in pick
-  range-below p a b r e z h = rw (e, h, ne_eqb b 0 z)
-
-  pub range-rest : (r : Bool) → OneOf (0 ∷ 1 ∷ 3 ∷ 4 ∷ 5 ∷ 6 ∷ 7 ∷ 8 ∷ 9 ∷ 10 ∷ 11 ∷ []) (tag_of the_type f) → r ≡ false → r ≡ bad_range f
-  unfolding bad_range
-  range-rest r h e = rw (sym (kind-rest (Thread 0 1 1 ∷ []) f false h refl refl), e)
-
   pub depth-close : (d r : ℕ) → f ≡ Close → r ≡ d - 1 → r ≡ depth_after f d
   unfolding kind_in
   depth-close d r e h = rw (e, h)
@@ -100,38 +78,18 @@ module _ (f : Form) where
   pub depth-rest : (d r : ℕ) (q : Bool) → OneOf (0 ∷ 1 ∷ 2 ∷ 4 ∷ 5 ∷ 6 ∷ 7 ∷ 8 ∷ 9 ∷ 10 ∷ 11 ∷ []) (tag_of the_type f) → q ≡ is_bracket f → r ≡ add_if q d → r ≡ depth_after f d
   depth-rest d r q h e k = rw (sym (kind-rest (Close ∷ []) f false h refl refl), k, e)
 
--- a form that is no thread line has no copies
-pub copies-sum : (f : Form) (n : ℕ) → add_copies f n ≡ n + most_in f
-unfolding kind_in most_in
-copies-sum Plan n = omega arith
-copies-sum Proc n = omega arith
-copies-sum (Thread p a b) n = refl
-copies-sum Close n = omega arith
-copies-sum Skip n = omega arith
-copies-sum (Call p) n = omega arith
-copies-sum (Hold l) n = omega arith
-copies-sum Loop n = omega arith
-copies-sum Either n = omega arith
-copies-sum One n = omega arith
-copies-sum Two n = omega arith
-copies-sum (Share l) n = omega arith
-
-pub counts-more : (c : Counts) (f : Form) (p s k t d : ℕ) (isP isS : Bool) → isP ≡ is_proc f → isS ≡ is_statement f
-    → p ≡ add_if isP c.procs → s ≡ add_if isS c.statements → t ≡ c.threads + k → k ≡ most_in f → d ≡ depth_after f c.depth → as_counts p s t d ≡ counted c f
+pub counts-more : (c : Counts) (f : Form) (p s t d : ℕ) (isP isS isT : Bool) → isP ≡ is_proc f → isS ≡ is_statement f → isT ≡ is_thread f
+    → p ≡ add_if isP c.procs → s ≡ add_if isS c.statements → t ≡ add_if isT c.threads → d ≡ depth_after f c.depth → as_counts p s t d ≡ counted c f
 unfolding counted
-counts-more c f p s k t d isP isS i j x y z m u = rw (x, y, z, m, u, i, j, copies-sum f c.threads)
+counts-more c f p s t d isP isS isT i j k x y z u = rw (x, y, z, u, i, j, k)
 
-pub breaks-range : (rule n : ℕ) (f : Form) (r : Bool) → rule ≡ 15 → r ≡ bad_range f → r ≡ breaks rule n f
+pub breaks-number : (rule t a b n : ℕ) (f : Form) → t ≡ tested_by f → t ≡ rule → a ≡ least_bad rule n → b ≡ number_in f → leb a b ≡ breaks rule n f
 unfolding breaks pick
-breaks-range rule n f r h e = rw (e, eq-eqb rule 15 h)
+breaks-number rule t a b n f e h p q = rw (← e, eq-eqb t rule h, ← p, ← q)
 
-pub breaks-number : (rule t a b n : ℕ) (f : Form) → (rule ≡ 15 → ⊥) → t ≡ tested_by f → t ≡ rule → a ≡ least_bad rule n → b ≡ number_in f → leb a b ≡ breaks rule n f
+pub breaks-not : (rule t n : ℕ) (f : Form) → t ≡ tested_by f → (t ≡ rule → ⊥) → false ≡ breaks rule n f
 unfolding breaks pick
-breaks-number rule t a b n f d e h p q = rw (ne_eqb rule 15 d, ← e, eq-eqb t rule h, ← p, ← q)
-
-pub breaks-not : (rule t n : ℕ) (f : Form) → (rule ≡ 15 → ⊥) → t ≡ tested_by f → (t ≡ rule → ⊥) → false ≡ breaks rule n f
-unfolding breaks pick
-breaks-not rule t n f d e h = rw (ne_eqb rule 15 d, ← e, ne_eqb t rule h)
+breaks-not rule t n f e h = rw (← e, ne_eqb t rule h)
 
 -- ---- the stack in its buffer
 
@@ -213,19 +171,19 @@ module _ (table : List ℕ) (mode d i : ℕ) (stack : List ℕ) (r : Option ℕ)
 -- ---- rule 5, one form of a table on
 
 pub small-none : Small no_counts 0
-small-none = record { procs = le_refl 0; statements = le_refl 0; threads = omega arith; depth = le_refl 0 }
+small-none = record { procs = le_refl 0; statements = le_refl 0; threads = le_refl 0; depth = le_refl 0 }
 
 -- a count grows by one at most
 add_most : (b : Bool) (n i : ℕ) → n ≤ i → add_if b n ≤ i + 1
 add_most true n i h = omega arith
 add_most false n i h = omega arith
 
-grown : (c : Counts) (i : ℕ) → Small c i → (f : Form) → (counted c f).threads ≤ max_threads → Small (counted c f) (i + 1)
+grown : (c : Counts) (i : ℕ) → Small c i → (f : Form) → Small (counted c f) (i + 1)
 unfolding counted
-grown c i s f few = record {
+grown c i s f = record {
   procs = add_most (is_proc f) c.procs i s.procs;
   statements = add_most (is_statement f) c.statements i s.statements;
-  threads = few;
+  threads = add_most (is_thread f) c.threads i s.threads;
   depth = deeper (is_close f) (add_most (is_bracket f) c.depth i s.depth) s.depth;
 }
   where
@@ -233,11 +191,11 @@ grown c i s f few = record {
     deeper true h k = omega arith
     deeper false h k = h
 
-pub small-more : (c r : Counts) (f : Form) (i : ℕ) (q : Bool) → r ≡ counted c f → q ≡ over_limit r → q ≡ false → Small c i → Small r (i + 1)
-small-more c r f i q e b z s = rw e (grown c i s f (within-limits (counted c f) (rw (← e) (sym b ∙ z))).threads)
+pub small-more : (c r : Counts) (f : Form) (i : ℕ) → r ≡ counted c f → Small c i → Small r (i + 1)
+small-more c r f i e s = rw e (grown c i s f)
 
 pub small-below : (c : Counts) (i n : ℕ) → Small c i → i < n → n < 65536 → Small c 65536
-small-below c i n s h k = record { procs = omega arith; statements = omega arith; threads = s.threads; depth = omega arith }
+small-below c i n s h k = record { procs = omega arith; statements = omega arith; threads = omega arith; depth = omega arith }
 
 module _ (table : List ℕ) (i : ℕ) (c d : Counts) (f : Form) (q : Bool) (r : Option ℕ)
     (h : i < length table) (e : f ≡ form_at (get_or table i 0)) (k : d ≡ counted c f)
@@ -282,7 +240,7 @@ limits-kept table i n c r h p k =
     let e : c.procs ≡ n = omega arith in
     rw (← a, e)
 
--- ---- rules 6 to 8 and 15, one form of a table on
+-- ---- rules 6 to 8, one form of a table on
 
 pub rule-first : (rule m : ℕ) (fs : List Form) → m ≡ count_if is_proc fs → breaking rule m 1 fs ≡ breaking_form rule fs
 unfolding breaking_form

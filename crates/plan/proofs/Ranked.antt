@@ -9,19 +9,18 @@ use native.Mathlib.Omega.{arith}
 use lib.Dec.{T}
 use Rattle.laws.proofs.Tests.{T_false}
 use Rattle.text.specs.declared.Form.{Form}
-use Rattle.semantics.specs.Plan.{Ranks}
-use Rattle.semantics.specs.Ranges.{RangedPlan, highest}
+use Rattle.semantics.specs.Plan.{LockPlan, Ranks}
 use Rattle.semantics.specs.Calls.{Recursive}
 use Rattle.semantics.specs.CallMasks.{reaches}
 use Rattle.semantics.proofs.Calls.Closure.{reaches-is, reacher_present}
 use Rattle.semantics.proofs.Calls.Ranks.{acyclic-ranks}
 use Rattle.semantics.proofs.Conflicts.Characterisation.{Ranked}
-use Rattle.plan.specs.Grammar.{tree_in, plan_in}
+use Rattle.plan.specs.Grammar.{plan_in}
 use Rattle.plan.specs.Rules.{recursive}
 use Rattle.plan.specs.Settled.{Settled, table_plan, RulesKept}
 use Rattle.plan.proofs.Lowest.{proc_refusal-none, none-proc_refusal}
 
-pub settled-ranked : (plan : RangedPlan) → Settled plan → Ranks plan.procs → Ranked (highest plan)
+pub settled-ranked : (plan : LockPlan) → Settled plan → Ranks plan.procs → Ranked plan
 settled-ranked plan s r = record { ranks = r; there = s.threads-present; few = omega (arith, s.few-threads) }
 
 module _ (fs : List Form) where
@@ -33,7 +32,7 @@ module _ (fs : List Form) where
         λ h. none-proc_refusal 12 fs (λ q. reaches ps q q) (λ p b. T_false (reaches ps p p) (λ t. h p ((reaches-is ps p p).0 t))),
       )
 
-  pub rules-ranks : Settled (tree_in fs) → recursive fs ≡ none → Ranks (plan_in fs).procs
+  pub rules-ranks : Settled (plan_in fs) → recursive fs ≡ none → Ranks (plan_in fs).procs
   rules-ranks s e = acyclic-ranks (plan_in fs).procs (recursive-exactly.0 e) s.callees_present s.filled
 
 -- of a table that keeps the rules

@@ -1,28 +1,22 @@
--- What rules 4 to 8 and 15 settle of a plan's tree (`forms-settled`). The counts run along with the forms: a block adds its statements and leaves the
+-- What rules 4 to 8 settle of a plan's tree (`forms-settled`). The counts run along with the forms: a block adds its statements and leaves the
 -- other counts as they were. What calls and threads name is below the number of all procedures.
 use Prim.Native.Nat.{ℕ, zero, suc, ◌+◌, ◌-◌, ◌<◌, ◌≤◌}
 use mathlib.Core.Bool.{Bool, true, false}
-use mathlib.Core.List.Memᴰ
-use mathlib.Core.List.{List, [], ◌∷◌, Memᴰ}
-use mathlib.Core.Logic.{◌≢◌, ⊎_elim}
+use mathlib.Core.List.{List, [], ◌∷◌}
 use mathlib.Core.Option.{none}
-use mathlib.Core.Path.{◌≡◌, refl, sym, subst}
+use mathlib.Core.Path.{◌≡◌, refl, subst}
 use native.Mathlib.Omega.{arith}
 use native.Mathlib.Nat.{add-zero}
-use lib.Dec.{eqb, ltb}
-use lib.ListN.{length, replicate, length-append, length-replicate}
-use borrow.Author.Tests.{ltb-false, leb-false, eq-eqb}
+use lib.ListN.{length, get_or}
+use borrow.Author.Tests.{ltb-false, leb-false}
 use Rattle.limits.specs.Limits.{max_procs, max_statements, max_threads, max_brackets, lock_count}
 use Rattle.text.specs.declared.Form.{Form}
 use Rattle.text.specs.declared.Form.TheVariants.{Close, Two}
-use Rattle.semantics.specs.Plan.{Block, done, skip, call, hold, loop, either, end, body_in, WellFormed, Written}
-use Rattle.semantics.specs.Ranges.{ThreadLine, RangedPlan, copies_of, most_counts, highest, InRange, AllInRange}
-use Rattle.laws.proofs.Members.{get_or-mem}
-use Rattle.semantics.proofs.Conflicts.Ranges.{named_by}
-use Rattle.plan.specs.Grammar.{claim_form, block_forms, proc_forms, thread_forms, forms, Grammatical, tree_in}
+use Rattle.semantics.specs.Plan.{Block, done, skip, call, hold, loop, either, end, LockPlan, body_in, WellFormed, Written}
+use Rattle.plan.specs.Grammar.{claim_form, block_forms, proc_forms, thread_forms, forms, Grammatical, plan_in}
 use Rattle.laws.specs.Choice.{pick}
-use Rattle.text.specs.Forms.{number_in, least_in, most_in, kind_in, is_proc}
-use Rattle.plan.specs.Limits.{as_counts, counted, tested_by, least_bad, bad_range, breaks, count_if, no_counts}
+use Rattle.text.specs.Forms.{number_in, kind_in, is_proc}
+use Rattle.plan.specs.Limits.{as_counts, counted, tested_by, least_bad, breaks, count_if, no_counts}
 use Rattle.plan.specs.Settled.{statements, all_statements, nesting, Settled}
 use Rattle.plan.specs.Rules.{grammar_refusal}
 use Rattle.semantics.specs.Claims.{lock_of}
@@ -31,7 +25,7 @@ use Rattle.plan.proofs.ClaimForms.{by_claim}
 use Rattle.plan.proofs.Trees.{later-blocks}
 use Rattle.plan.proofs.Denotes.{accepted_denotes}
 use Rattle.plan.proofs.Counting.{count-forms}
-use Rattle.plan.proofs.Kept.{Kept, kept, neither, within-limits}
+use Rattle.plan.proofs.Kept.{Kept, kept, within-limits}
 
 -- In the n-th of m procedures, where t threads have been read:
 module _ (m n t : ℕ) where
@@ -146,67 +140,52 @@ kept-procs (b ∷ bs) w m n s fs k =
     each-nested o os zero = omega arith
     each-nested o os (suc p) = os p
 
--- what the forms of thread lines say, where t threads have been read
-record KeptThreads (m n s t : ℕ) (ls : List ThreadLine) : Type 0 where
-  present : (l : ThreadLine) → Memᴰ l ls → l.proc < m
-  ranges : AllInRange ls
+record KeptThreads (m n s t : ℕ) (ns : List ℕ) : Type 0 where
+  present : (i : ℕ) → i < length ns → get_or ns i 0 < m
   few-procs : n ≤ max_procs
   few-statements : s ≤ max_statements
-  few-threads : t + length (copies_of ls (most_counts ls)) ≤ max_threads
+  few-threads : t + length ns ≤ max_threads
 
--- the copies of a line, and those of the lines behind it
-pub length-copies : (l : ThreadLine) (ls : List ThreadLine) → length (copies_of (l ∷ ls) (most_counts (l ∷ ls))) ≡ l.most + length (copies_of ls (most_counts ls))
-unfolding copies_of
-length-copies l ls = omega (arith, length-append (replicate l.most l.proc) (copies_of ls (most_counts ls)), length-replicate l.most l.proc)
-
-kept-threads : (ls : List ThreadLine) (m n s t : ℕ) → Kept m (as_counts n s t 0) (thread_forms ls (Close ∷ [])) → KeptThreads m n s t ls
-unfolding Kept thread_forms counted breaks bad_range tested_by least_bad number_in least_in most_in pick kind_in copies_of
+kept-threads : (ns : List ℕ) (m n s t : ℕ) → Kept m (as_counts n s t 0) (thread_forms ns (Close ∷ [])) → KeptThreads m n s t ns
+unfolding Kept thread_forms counted breaks tested_by least_bad number_in pick kind_in
 kept-threads [] m n s t k =
     let x = within-limits (as_counts n s t 0) k.0.limits in
+    record { present = λ i h. absurd (omega arith); few-procs = x.procs; few-statements = x.statements; few-threads = omega (arith, x.threads) }
+kept-threads (p ∷ ns) m n s t k =
+    let x = kept-threads ns m n s (t + 1) k.1 in
     record {
-      present = λ l h. absurd (Memᴰ.not-nil h);
-      ranges = λ l h. absurd (Memᴰ.not-nil h);
-      few-procs = x.procs;
-      few-statements = x.statements;
-      few-threads = omega (arith, x.threads);
-    }
-kept-threads (l ∷ ls) m n s t k =
-    let x = kept-threads ls m n s (t + l.most) k.1 in
-    let r = neither (eqb l.most 0) (ltb l.most l.least) k.0.range in
-    let some-copy : l.most ≢ 0 = λ e. let z : ◌≡◌ {A = ℕ} 0 1 = cc (r.0, eq-eqb l.most 0 e) in omega arith in
-    record {
-      present = λ y h. ⊎_elim (λ (e : y ≡ l). subst (λ z. z.proc < m) (sym e) (leb-false m l.proc k.0.thread)) (x.present y) (Memᴰ.cases_cons h);
-      ranges = λ y h. ⊎_elim (λ (e : y ≡ l). subst InRange (sym e) (record { some-copy = omega arith; ordered = ltb-false l.most l.least r.1 })) (x.ranges y) (Memᴰ.cases_cons h);
+      present = each (leb-false m p k.0.thread) x.present;
       few-procs = x.few-procs;
       few-statements = x.few-statements;
-      few-threads = omega (arith, x.few-threads, length-copies l ls);
+      few-threads = omega (arith, x.few-threads);
     }
+  where
+    each : p < m → ((i : ℕ) → i < length ns → get_or ns i 0 < m) → (i : ℕ) → i < length (p ∷ ns) → get_or (p ∷ ns) i 0 < m
+    each b bs zero h = b
+    each b bs (suc i) h = bs i (omega arith)
 
 -- the forms of a plan that keep rules 5 to 8
-pub kept-settled : (plan : RangedPlan) → Grammatical plan → Kept (count_if is_proc (forms plan)) no_counts (forms plan) → Settled plan
+pub kept-settled : (plan : LockPlan) → Grammatical plan → Kept (count_if is_proc (forms plan)) no_counts (forms plan) → Settled plan
 unfolding Kept forms counted kind_in
 kept-settled plan g k =
     let m = length plan.procs in
     let j : Kept m no_counts (forms plan) = rw (count-forms plan) at k in
-    let x = kept-procs plan.procs g.blocks m 0 0 (thread_forms plan.lines (Close ∷ [])) j.1 in
-    let y = kept-threads plan.lines m (0 + length plan.procs) (0 + all_statements plan.procs) 0 x.later in
+    let x = kept-procs plan.procs g.blocks m 0 0 (thread_forms plan.threads (Close ∷ [])) j.1 in
+    let y = kept-threads plan.threads m (0 + length plan.procs) (0 + all_statements plan.procs) 0 x.later in
     record {
       callees_present = x.written;
       filled = g.blocks;
-      threads-present = λ t h.
-          let (l, i, e) = named_by plan.lines (most_counts plan.lines) _ (get_or-mem (highest plan).threads t 0 h) in
-          subst (λ q. q < m) (sym e) (y.present l i);
+      threads-present = y.present;
       some-proc = g.some_procedure;
-      some-line = g.some-line;
+      some-thread = g.some-thread;
       few-procs = omega (arith, y.few-procs);
       few-statements = omega (arith, y.few-statements);
       few-threads = omega (arith, y.few-threads);
       few_open = x.nested;
-      in_range = y.ranges;
     }
 
-pub forms-settled : (fs : List Form) → grammar_refusal fs ≡ none → Settled (tree_in fs)
+pub forms-settled : (fs : List Form) → grammar_refusal fs ≡ none → Settled (plan_in fs)
 forms-settled fs h =
     let k = kept fs h in
     let d = accepted_denotes fs k.0 in
-    kept-settled (tree_in fs) d.0 (subst (λ l. Kept (count_if is_proc l) no_counts l) d.1 k.1)
+    kept-settled (plan_in fs) d.0 (subst (λ l. Kept (count_if is_proc l) no_counts l) d.1 k.1)

@@ -63,8 +63,8 @@ pub data Step : State → Form → State → Type 0 where
   begins-plan : Step initial Plan first-proc
   first : Step first-proc Proc (in_block false [])
   next : Step next-proc Proc (in_block false [])
-  first-thread : {p a b : ℕ} → Step next-proc (Thread p a b) next-thread
-  more-threads : {p a b : ℕ} → Step next-thread (Thread p a b) next-thread
+  first-thread : {n : ℕ} → Step next-proc (Thread n) next-thread
+  more-threads : {n : ℕ} → Step next-thread (Thread n) next-thread
   ends-plan : Step next-thread Close finished
   skips : {e : Bool} {ks : List Bracket} → Step (in_block e ks) Skip (in_block true ks)
   calls : {e : Bool} {ks : List Bracket} {n : ℕ} → Step (in_block e ks) (Call n) (in_block true ks)
@@ -117,11 +117,11 @@ data Outcome (s : State) (f : Form) : Advance → Type 0 where
   refused : Outcome s f Misplaced
   steps : {t : State} {a : Advance} → Step s f t → Outcome s f a
 
-by_form : (P : Form → Type 0) → P Plan → P Proc → ((p a b : ℕ) → P (Thread p a b)) → P Close → P Skip → ((n : ℕ) → P (Call n)) → ((l : ℕ) → P (Hold l))
+by_form : (P : Form → Type 0) → P Plan → P Proc → ((n : ℕ) → P (Thread n)) → P Close → P Skip → ((n : ℕ) → P (Call n)) → ((l : ℕ) → P (Hold l))
     → P Loop → P Either → P One → P Two → ((l : ℕ) → P (Share l)) → (f : Form) → P f
 by_form P a b c d e f g h i j k m Plan = a
 by_form P a b c d e f g h i j k m Proc = b
-by_form P a b c d e f g h i j k m (Thread x y z) = c x y z
+by_form P a b c d e f g h i j k m (Thread n) = c n
 by_form P a b c d e f g h i j k m Close = d
 by_form P a b c d e f g h i j k m Skip = e
 by_form P a b c d e f g h i j k m (Call n) = f n
@@ -145,25 +145,25 @@ closing (two ∷ ks) = steps ends-two
 -- The states by the forms: first the plan's, a procedure's, a thread's and a closing form; then skip, call, hold, loop, either, one, two, share.
 place : (s : State) (f : Form) → Place s f
 unfolding mode_of stack_of brackets advance_of only among on_close close_block pick
-place initial = by_form (Place initial) (steps begins-plan) refused (λ p a b. refused) refused
+place initial = by_form (Place initial) (steps begins-plan) refused (λ n. refused) refused
     refused (λ n. refused) (λ l. refused) refused refused refused refused (λ l. refused)
-place first-proc = by_form (Place first-proc) refused (steps first) (λ p a b. refused) refused
+place first-proc = by_form (Place first-proc) refused (steps first) (λ n. refused) refused
     refused (λ n. refused) (λ l. refused) refused refused refused refused (λ l. refused)
-place next-proc = by_form (Place next-proc) refused (steps next) (λ p a b. steps first-thread) refused
+place next-proc = by_form (Place next-proc) refused (steps next) (λ n. steps first-thread) refused
     refused (λ n. refused) (λ l. refused) refused refused refused refused (λ l. refused)
-place next-thread = by_form (Place next-thread) refused refused (λ p a b. steps more-threads) (steps ends-plan)
+place next-thread = by_form (Place next-thread) refused refused (λ n. steps more-threads) (steps ends-plan)
     refused (λ n. refused) (λ l. refused) refused refused refused refused (λ l. refused)
-place finished = by_form (Place finished) refused refused (λ p a b. refused) refused
+place finished = by_form (Place finished) refused refused (λ n. refused) refused
     refused (λ n. refused) (λ l. refused) refused refused refused refused (λ l. refused)
-place (in_block false ks) = by_form (Place (in_block false ks)) refused refused (λ p a b. refused) refused
+place (in_block false ks) = by_form (Place (in_block false ks)) refused refused (λ n. refused) refused
     (steps skips) (λ n. steps calls) (λ l. steps holds) (steps loops) (steps chooses) refused refused (λ l. steps shares)
-place (in_block true ks) = by_form (Place (in_block true ks)) refused refused (λ p a b. refused) (closing ks)
+place (in_block true ks) = by_form (Place (in_block true ks)) refused refused (λ n. refused) (closing ks)
     (steps skips) (λ n. steps calls) (λ l. steps holds) (steps loops) (steps chooses) refused refused (λ l. steps shares)
-place (awaits_one ks) = by_form (Place (awaits_one ks)) refused refused (λ p a b. refused) refused
+place (awaits_one ks) = by_form (Place (awaits_one ks)) refused refused (λ n. refused) refused
     refused (λ n. refused) (λ l. refused) refused refused (steps begins-one) refused (λ l. refused)
-place (awaits_two ks) = by_form (Place (awaits_two ks)) refused refused (λ p a b. refused) refused
+place (awaits_two ks) = by_form (Place (awaits_two ks)) refused refused (λ n. refused) refused
     refused (λ n. refused) (λ l. refused) refused refused refused (steps begins-two) (λ l. refused)
-place (ends-either ks) = by_form (Place (ends-either ks)) refused refused (λ p a b. refused) (steps ends-choice)
+place (ends-either ks) = by_form (Place (ends-either ks)) refused refused (λ n. refused) (steps ends-choice)
     refused (λ n. refused) (λ l. refused) refused refused refused refused (λ l. refused)
 
 pub step_or_refused : (s : State) (f : Form) → ((t : State) × Step s f t) ⊎ ((number : ℕ) (fs : List Form) → misplaced_from s number (f ∷ fs) ≡ some number)

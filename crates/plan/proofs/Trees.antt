@@ -1,4 +1,4 @@
--- A plan is the tree of its own forms (`tree_of-forms`): read from the back, the forms of a block put that block in front of the innermost open one.
+-- A plan is the tree of its own forms (`plan_of-forms`): read from the back, the forms of a block put that block in front of the innermost open one.
 use Prim.Native.Nat.{ℕ, suc, ◌<◌}
 use mathlib.Core.Bool.{Bool, true, false}
 use mathlib.Core.List.{List, [], ◌∷◌}
@@ -7,17 +7,16 @@ use native.Mathlib.Omega.{arith}
 use lib.ListN.{length}
 use Rattle.text.specs.declared.Form.{Form}
 use Rattle.text.specs.declared.Form.TheVariants.{Proc, Thread, Close, Skip, Call, Loop, Either, Two}
-use Rattle.semantics.specs.Plan.{Block, done, skip, call, hold, loop, either, end, ◌⨾◌, body_in, WellFormed}
-use Rattle.semantics.specs.Ranges.{ThreadLine, RangedPlan}
+use Rattle.semantics.specs.Plan.{Block, done, skip, call, hold, loop, either, end, ◌⨾◌, LockPlan, body_in, WellFormed}
 use Rattle.semantics.proofs.Thread.Remainders.{⨾-done}
-use Rattle.plan.specs.Grammar.{block_forms, proc_forms, thread_forms, forms, Grammatical, claim_form, Behind, in_front, behind, tree_in}
+use Rattle.plan.specs.Grammar.{block_forms, proc_forms, thread_forms, forms, Grammatical, claim_form, Behind, in_front, behind, plan_in}
 use Rattle.plan.proofs.ClaimForms.{claim-front}
 
 -- what stands behind a place, part by part
-abbrev rest : List Block → List Block → List ThreadLine → Behind
-rest bs ps ts = record { blocks = bs; procs = ps; lines = ts }
+abbrev rest : List Block → List Block → List ℕ → Behind
+rest bs ps ts = record { blocks = bs; procs = ps; threads = ts }
 
-module _ (ps : List Block) (ts : List ThreadLine) where
+module _ (ps : List Block) (ts : List ℕ) where
   -- the forms of b put b in front of the innermost open block
   abbrev InFront : Block → Type 0
   InFront b = (fs : List Form) (t : Block) (bs : List Block) → behind fs ≡ rest (t ∷ bs) ps ts → behind (block_forms b fs) ≡ rest ((b ⨾ t) ∷ bs) ps ts
@@ -49,7 +48,7 @@ pub later-blocks : (b : Block) (bs : List Block) → ((p : ℕ) → p < length (
 unfolding body_in
 later-blocks b bs w p h = w (suc p) (omega arith)
 
-behind-procs : (bs : List Block) (ts : List ThreadLine) (fs : List Form) → ((p : ℕ) → p < length bs → WellFormed false (body_in bs p))
+behind-procs : (bs : List Block) (ts : List ℕ) (fs : List Form) → ((p : ℕ) → p < length bs → WellFormed false (body_in bs p))
     → behind fs ≡ rest (done ∷ []) [] ts → behind (proc_forms bs fs) ≡ rest (done ∷ []) bs ts
 unfolding behind in_front proc_forms body_in
 behind-procs [] ts fs w e = e
@@ -57,12 +56,12 @@ behind-procs (b ∷ bs) ts fs w e =
     let bs' = behind-procs bs ts fs (later-blocks b bs w) e in
     ap (in_front Proc) (opened bs ts b (behind-block bs ts false b (w 0 (omega arith))) (proc_forms bs fs) (done ∷ []) bs')
 
-behind-threads : (ns : List ThreadLine) → behind (thread_forms ns (Close ∷ [])) ≡ rest (done ∷ []) [] ns
+behind-threads : (ns : List ℕ) → behind (thread_forms ns (Close ∷ [])) ≡ rest (done ∷ []) [] ns
 unfolding behind in_front thread_forms
 behind-threads [] = refl
-behind-threads (n ∷ ns) = ap (in_front (Thread n.proc n.least n.most)) (behind-threads ns)
+behind-threads (n ∷ ns) = ap (in_front (Thread n)) (behind-threads ns)
 
-pub tree_of-forms : (plan : RangedPlan) → Grammatical plan → tree_in (forms plan) ≡ plan
-unfolding behind in_front tree_in forms
-tree_of-forms plan g =
-    ap (λ x. record { procs = x.procs; lines = x.lines }) (behind-procs plan.procs plan.lines _ g.blocks (behind-threads plan.lines))
+pub plan_of-forms : (plan : LockPlan) → Grammatical plan → plan_in (forms plan) ≡ plan
+unfolding behind in_front plan_in forms
+plan_of-forms plan g =
+    ap (λ x. record { procs = x.procs; threads = x.threads }) (behind-procs plan.procs plan.threads _ g.blocks (behind-threads plan.threads))

@@ -19,14 +19,13 @@ use Rattle.text.specs.Lines.{split, unindented, cons_form, forms_in, forms_of}
 use Rattle.text.proofs.Matches.{kind-form}
 use Rattle.text.proofs.Written.{kind-written}
 use Rattle.semantics.specs.Plan.{Block, done, skip, call, hold, loop, either, end, body_in, Written}
-use Rattle.semantics.specs.Ranges.{at_counts}
 use Rattle.semantics.specs.Claims.{lock_of, is_hold}
-use Rattle.semantics.specs.HoldsOnly.{WithoutShare, locked, AnswersKept}
+use Rattle.semantics.specs.HoldsOnly.{WithoutShare, locked, locked_plan, AnswersKept}
 use Rattle.semantics.proofs.HoldsOnly.KeptPairs.{answers-kept}
 use Rattle.plan.specs.Grammar.{claim_form, block_forms, proc_forms, thread_forms, forms}
 use Rattle.plan.specs.Limits.{count_if}
-use Rattle.plan.specs.Rules.{tree_of, plan_of, plan_refusal}
-use Rattle.plan.specs.Shareless.{NoShare, NoShareLine, block_forms01, proc_forms01, forms01, locked_tree}
+use Rattle.plan.specs.Rules.{plan_of, plan_refusal}
+use Rattle.plan.specs.Shareless.{NoShare, NoShareLine, block_forms01, proc_forms01, forms01}
 use Rattle.plan.proofs.AcceptedTable.{accepted-text, accepted-settled}
 
 -- lines none of which is a share have no such form
@@ -115,18 +114,18 @@ module _ (text : List ℕ) (e : plan_refusal text ≡ none) (n : NoShareLine tex
   unfolding forms_of
   no_share = lines-without (split text).ended n
 
-  pub accepted-without : (p : ℕ) → WithoutShare (body_in (tree_of text).procs p)
+  pub accepted-without : (p : ℕ) → WithoutShare (body_in (plan_of text).procs p)
   unfolding forms count_if kind_in
   accepted-without =
-      let plan = tree_of text in
+      let plan = plan_of text in
       let h : NoShare (forms plan) = subst NoShare (accepted-text text e) no_share in
-      procs-without (λ q. q < length plan.procs) plan.procs (accepted-settled text e).callees_present (thread_forms plan.lines (Close ∷ [])) (omega arith)
+      procs-without (λ q. q < length plan.procs) plan.procs (accepted-settled text e).callees_present (thread_forms plan.threads (Close ∷ [])) (omega arith)
 
   -- the text is the one of the plan as 01 has it
-  pub accepted-locked : forms_of text ≡ forms01 (locked_tree (tree_of text))
+  pub accepted-locked : forms_of text ≡ forms01 (locked_plan (plan_of text))
   unfolding forms forms01
-  accepted-locked = accepted-text text e ∙ ap (λ l. Plan ∷ l) (locked-procs (tree_of text).procs accepted-without _)
+  accepted-locked = accepted-text text e ∙ ap (λ l. Plan ∷ l) (locked-procs (plan_of text).procs accepted-without _)
 
-  -- "Plans without share keep their answers, written as records.": at any counts
-  pub text-answers-kept : (counts : List ℕ) → AnswersKept (at_counts (tree_of text) counts)
-  text-answers-kept counts = answers-kept (at_counts (tree_of text) counts) accepted-without
+  -- "Plans without share keep their answers, written as records."
+  pub text-answers-kept : AnswersKept (plan_of text)
+  text-answers-kept = answers-kept (plan_of text) accepted-without

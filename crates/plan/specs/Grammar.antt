@@ -4,7 +4,6 @@ use Rattle.text.specs.declared.Form.{Form}
 use Rattle.text.specs.declared.Form.TheVariants.{Plan, Proc, Thread, Close, Skip, Call, Hold, Loop, Either, One, Two, Share}
 use Rattle.semantics.specs.Plan.{Block, done, skip, call, hold, loop, either, end, LockPlan, body_in, WellFormed}
 use Rattle.semantics.specs.Claims.{by_share, by_hold, lock_of, is_hold}
-use Rattle.semantics.specs.Ranges.{ThreadLine, thread_line, RangedPlan, highest}
 
 -- the form that takes a claim: `(hold N` or `(share N`, by the way in which it has its lock
 unfoldable pub claim_form : ℕ → Form
@@ -26,26 +25,26 @@ unfoldable pub proc_forms : List Block → List Form → List Form
 proc_forms [] fs = fs
 proc_forms (b ∷ bs) fs = Proc ∷ block_forms b (Close ∷ proc_forms bs fs)
 
--- thread lines, 02, change 10: "`(thread P A B)` .. the old form means 1 and 1"
-unfoldable pub thread_forms : List ThreadLine → List Form → List Form
+-- lines `(thread N)`
+unfoldable pub thread_forms : List ℕ → List Form → List Form
 thread_forms [] fs = fs
-thread_forms (l ∷ ls) fs = Thread l.proc l.least l.most ∷ thread_forms ls fs
+thread_forms (n ∷ ns) fs = Thread n ∷ thread_forms ns fs
 
 -- "First line `(plan`, then one or more procedures, then one or more lines `(thread N)`, then `)`. Nothing follows."
-unfoldable pub forms : RangedPlan → List Form
-forms plan = Plan ∷ proc_forms plan.procs (thread_forms plan.lines (Close ∷ []))
+unfoldable pub forms : LockPlan → List Form
+forms plan = Plan ∷ proc_forms plan.procs (thread_forms plan.threads (Close ∷ []))
 
 -- the trees that the grammar has: "one or more procedures", "one or more lines `(thread N)`", and blocks of one or more statements
-pub record Grammatical (plan : RangedPlan) : Type 0 where
+pub record Grammatical (plan : LockPlan) : Type 0 where
   pub some_procedure : 0 < length plan.procs
-  pub some-line : 0 < length plan.lines
+  pub some-thread : 0 < length plan.threads
   pub blocks : (p : ℕ) → p < length plan.procs → WellFormed false (body_in plan.procs p)
 
--- What the forms behind a place denote: the blocks that are open there, innermost first, each from the place on; the procedures and thread lines behind it.
+-- What the forms behind a place denote: the blocks that are open there, innermost first, each from the place on; the procedures and threads that begin behind it.
 pub record Behind : Type 0 where
   pub blocks : List Block
   pub procs : List Block
-  pub lines : List ThreadLine
+  pub threads : List ℕ
 
 -- the innermost open block, with one statement in front
 abbrev pub at_top : (Block → Block) → List Block → List Block
@@ -67,18 +66,18 @@ at_four f (a ∷ b ∷ e ∷ []) = []
 at_four f (a ∷ b ∷ e ∷ r ∷ bs) = f a b r ∷ bs
 
 abbrev pub with_open : List Block → Behind → Behind
-with_open bs x = record { blocks = bs; procs = x.procs; lines = x.lines }
+with_open bs x = record { blocks = bs; procs = x.procs; threads = x.threads }
 
 -- a procedure that begins here
 abbrev pub begin_proc : List Block → Behind → Behind
 begin_proc [] x = x
-begin_proc (b ∷ bs) x = record { blocks = bs; procs = b ∷ x.procs; lines = x.lines }
+begin_proc (b ∷ bs) x = record { blocks = bs; procs = b ∷ x.procs; threads = x.threads }
 
 -- one form in front
 unfoldable pub in_front : Form → Behind → Behind
 in_front Plan x = x
 in_front Proc x = begin_proc x.blocks x
-in_front (Thread p a b) x = record { blocks = x.blocks; procs = x.procs; lines = thread_line p a b ∷ x.lines }
+in_front (Thread n) x = record { blocks = x.blocks; procs = x.procs; threads = n ∷ x.threads }
 in_front Close x = with_open (done ∷ x.blocks) x
 in_front Skip x = with_open (at_top skip x.blocks) x
 in_front (Call n) x = with_open (at_top (call n) x.blocks) x
@@ -90,13 +89,9 @@ in_front Two x = x
 in_front (Share l) x = with_open (at_two (hold (by_share l)) x.blocks) x
 
 unfoldable pub behind : List Form → Behind
-behind [] = record { blocks = []; procs = []; lines = [] }
+behind [] = record { blocks = []; procs = []; threads = [] }
 behind (f ∷ fs) = in_front f (behind fs)
 
--- the tree that forms denote: p where they are the forms of a grammatical p (theorem `tree_of-forms`)
-unfoldable pub tree_in : List Form → RangedPlan
-tree_in fs = record { procs = (behind fs).procs; lines = (behind fs).lines }
-
--- its gateway at the highest counts: "Rule 5, the sizes' sum and thread numbers use the highest counts"
-abbrev pub plan_in : List Form → LockPlan
-plan_in fs = highest (tree_in fs)
+-- the tree that forms denote: p where they are the forms of a grammatical p (theorem `plan_of-forms`)
+unfoldable pub plan_in : List Form → LockPlan
+plan_in fs = record { procs = (behind fs).procs; threads = (behind fs).threads }

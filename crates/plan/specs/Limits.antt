@@ -1,11 +1,10 @@
--- Rule 5, a test of the counts of what has been read, form after form; rules 6 to 8, a test of each form's number, and 15, a test of a thread
--- line's counts. 01, "Rules, in checking order"; 02, change 10.
+-- Rule 5, a test of the counts of what has been read, form after form; rules 6 to 8, a test of each form's number. 01, "Rules, in checking order".
 use Rattle.std.specs.Prelude.{ℕ, suc, ◌+◌, ◌-◌, ◌≤◌, Bool, true, false, cond, List, [], ◌∷◌, eqb, ltb, leb}
 use Rattle.std.proofs.Math.Option.{Option, none, some}
 use Rattle.limits.specs.Limits.{max_procs, max_statements, max_threads, max_brackets, lock_count}
 use Rattle.laws.specs.Choice.{pick}
 use Rattle.text.specs.declared.Form.{Form}
-use Rattle.text.specs.Forms.{number_in, least_in, most_in, is_proc, is_thread, is_close, is_call, takes_lock, is_statement, is_bracket}
+use Rattle.text.specs.Forms.{number_in, is_proc, is_thread, is_close, is_call, takes_lock, is_statement, is_bracket}
 use Rattle.plan.specs.declared.Counts.{Counts}
 
 -- ---- 5
@@ -18,11 +17,11 @@ as_counts p s t o = record { procs = p; statements = s; threads = t; depth = o }
 abbrev pub no_counts : Counts
 no_counts = as_counts 0 0 0 0
 
--- no count is above n, and that of the threads within its limit
+-- no count is above n
 pub record Small (c : Counts) (n : ℕ) : Type 0 where
   pub procs : c.procs ≤ n
   pub statements : c.statements ≤ n
-  pub threads : c.threads ≤ max_threads
+  pub threads : c.threads ≤ n
   pub depth : c.depth ≤ n
 
 -- one more, if b
@@ -33,13 +32,9 @@ add_if b n = cond b (n + 1) n
 abbrev pub depth_after : Form → ℕ → ℕ
 depth_after f d = cond (is_close f) (d - 1) (add_if (is_bracket f) d)
 
--- the copies of a thread line, at their highest count
-abbrev pub add_copies : Form → ℕ → ℕ
-add_copies f n = cond (is_thread f) (n + most_in f) n
-
 -- one form more
 unfoldable pub counted : Counts → Form → Counts
-counted c f = as_counts (add_if (is_proc f) c.procs) (add_if (is_statement f) c.statements) (add_copies f c.threads) (depth_after f c.depth)
+counted c f = as_counts (add_if (is_proc f) c.procs) (add_if (is_statement f) c.statements) (add_if (is_thread f) c.threads) (depth_after f c.depth)
 
 -- 5: "more than 64 procedures, 1,024 statements, 6 threads, or 16 brackets"
 unfoldable pub over_limit : Counts → Bool
@@ -54,7 +49,7 @@ past_limit_from c k (f ∷ fs) = cond (over_limit (counted c f)) (some k) (past_
 unfoldable pub past_limit_form : List Form → Option ℕ
 past_limit_form fs = past_limit_from no_counts 1 fs
 
--- ---- 6 to 8, and 15
+-- ---- 6 to 8
 
 -- the rule that tests a form's number: 6 a hold's or a share's lock, 7 a call's procedure, 8 a thread's; 0 where none does
 unfoldable pub tested_by : Form → ℕ
@@ -65,13 +60,9 @@ tested_by f = cond (is_thread f) 8 (cond (is_call f) 7 (cond (takes_lock f) 6 0)
 unfoldable pub least_bad : ℕ → ℕ → ℕ
 least_bad rule n = pick (eqb rule 6) lock_count n
 
--- 15, 02, change 10: "B zero or A above B"
-unfoldable pub bad_range : Form → Bool
-bad_range f = cond (is_thread f) (pick (eqb (most_in f) 0) true (ltb (most_in f) (least_in f))) false
-
--- whether a form breaks rule 6, 7, 8 or 15, where there are n procedures
+-- whether a form breaks rule 6, 7 or 8, where there are n procedures
 unfoldable pub breaks : ℕ → ℕ → Form → Bool
-breaks rule n f = pick (eqb rule 15) (bad_range f) (pick (eqb (tested_by f) rule) (leb (least_bad rule n) (number_in f)) false)
+breaks rule n f = pick (eqb (tested_by f) rule) (leb (least_bad rule n) (number_in f)) false
 
 -- the first form that breaks it, of the forms from number k on: "first such line"
 unfoldable pub breaking : ℕ → ℕ → ℕ → List Form → Option ℕ
@@ -83,6 +74,6 @@ unfoldable pub count_if : (Form → Bool) → List Form → ℕ
 count_if kind [] = 0
 count_if kind (f ∷ fs) = cond (kind f) 1 0 + count_if kind fs
 
--- rule 6, 7, 8 or 15 over the whole text, which has as many procedures as `(proc` forms
+-- rule 6, 7 or 8 over the whole text, which has as many procedures as `(proc` forms
 unfoldable pub breaking_form : ℕ → List Form → Option ℕ
 breaking_form rule fs = breaking rule (count_if is_proc fs) 1 fs

@@ -1,12 +1,12 @@
 -- Rule 4 as the grammar has it: forms that are a plan's, forms with which a plan begins, the first form without a place, forms that end too early. 01, rule 4.
 use Rattle.std.specs.Prelude.{ℕ, ◌+◌, ◌-◌, ◌≤◌, List, ◌++◌, ◌≡◌, length, take}
 use Rattle.text.specs.declared.Form.{Form}
-use Rattle.semantics.specs.Ranges.{RangedPlan}
+use Rattle.semantics.specs.Plan.{LockPlan}
 use Rattle.plan.specs.Grammar.{forms, Grammatical}
 
 -- forms that are those of a plan
 pub record IsPlan (fs : List Form) : Type 0 where
-  pub plan : RangedPlan
+  pub plan : LockPlan
   pub grammatical : Grammatical plan
   pub written : fs ≡ forms plan
 

@@ -1,6 +1,6 @@
 -- The rules in checking order, as five refusals: the plan's, the verdict's, the pair list's, a copy's, the crossings'. 01, "Rules, in checking order": "A refusal
--- returns its number and a line (0 where none is named) .. Each rule is tested over the whole text before the next." The rules 4 to 9, 12, 13 and 15 are said of the
--- list of forms and name a form by its number, from 1; `in_file` names its line in the file. 02, change 5, of rule 10: "take it out, its number unused".
+-- returns its number and a line (0 where none is named) .. Each rule is tested over the whole text before the next." The rules 4 to 9, 12 and 13 are said of the list of
+-- forms and name a form by its number, from 1; `in_file` names its line in the file. 02, change 5, of rule 10: "take it out, its number unused".
 use Rattle.std.specs.Prelude.{ℕ, zero, suc, ◌-◌, Bool, not, ◌&&◌, ◌||◌, cond, List, [], ◌∷◌, ◌≡◌, ltb, leb, eqb, length, take}
 use Rattle.std.proofs.Math.Option.{Option, none, some, or_else}
 use Rattle.limits.specs.Limits.{max_bytes, max_size, max_pair_words}
@@ -9,10 +9,9 @@ use Rattle.text.specs.declared.Refusal.{Refusal}
 use Rattle.text.specs.Forms.{is_proc}
 use Rattle.text.specs.Lines.{refusal, forms_of, unreadable_line, line_of}
 use Rattle.semantics.specs.Plan.{LockPlan}
-use Rattle.semantics.specs.Ranges.{RangedPlan, highest}
 use Rattle.semantics.specs.CallMasks.{reaches, reachable}
 use Rattle.semantics.specs.Sizes.{size_of, thread_sizes}
-use Rattle.plan.specs.Grammar.{tree_in, plan_in}
+use Rattle.plan.specs.Grammar.{plan_in}
 use Rattle.plan.specs.Structure.{misplaced_form}
 use Rattle.plan.specs.Table.{table_forms}
 use Rattle.plan.specs.Limits.{past_limit_form, breaking_form}
@@ -38,21 +37,17 @@ too_long text = refused_if 2 (ltb max_bytes (length text))
 unfoldable pub lines_refusal : List ℕ → Option Refusal
 lines_refusal text = or_else (too_long text) (refused_at 3 (unreadable_line text))
 
--- rules 6 to 8, of the forms of a text: what holds and shares, calls and threads name; and 15, which "stands between 8 and 12"
+-- rules 6 to 8, of the forms of a text: what holds and shares, calls and threads name
 unfoldable pub references_refusal : List Form → Option Refusal
-references_refusal fs =
-    or_else (refused_at 6 (breaking_form 6 fs)) (or_else (refused_at 7 (breaking_form 7 fs)) (or_else (refused_at 8 (breaking_form 8 fs)) (refused_at 15 (breaking_form 15 fs))))
+references_refusal fs = or_else (refused_at 6 (breaking_form 6 fs)) (or_else (refused_at 7 (breaking_form 7 fs)) (refused_at 8 (breaking_form 8 fs)))
 
--- rules 4 to 8 and 15
+-- rules 4 to 8
 unfoldable pub grammar_refusal : List Form → Option Refusal
 grammar_refusal fs = or_else (refused_at 4 (misplaced_form fs)) (or_else (refused_at 5 (past_limit_form fs)) (references_refusal fs))
 
--- the plan of a text that the rules 4 to 8 and 15 let pass, with its ranges, and its gateway at the highest counts
-unfoldable pub tree_of : List ℕ → RangedPlan
-tree_of text = tree_in (forms_of text)
-
-abbrev pub plan_of : List ℕ → LockPlan
-plan_of text = highest (tree_of text)
+-- the plan of a text that the rules up to 8 let pass
+unfoldable pub plan_of : List ℕ → LockPlan
+plan_of text = plan_in (forms_of text)
 
 -- "Procedures are numbered from 0 in text order": which form procedure p's `(proc` is, of the forms from number k on; 0 where there is none
 unfoldable pub proc_form_from : ℕ → ℕ → List Form → ℕ
@@ -77,8 +72,7 @@ proc_refusal rule fs test = refused_at rule (proc_form fs (lowest_from test 0 (l
 unfoldable pub recursive : List Form → Option Refusal
 recursive fs = proc_refusal 12 fs (λ p. reaches (plan_in fs).procs p p)
 
--- 13, 02, change 6: "a procedure that no thread names or reaches through calls", "naming the first idle procedure's `(proc` line". Change 10: "A procedure named on a thread line
--- counts as reached, whatever its counts": 15 stands before this rule, so at the highest counts each line has a thread (theorem `reached-highest`)
+-- 13, 02, change 6: "a procedure that no thread names or reaches through calls", "naming the first idle procedure's `(proc` line"
 unfoldable pub idle : List Form → Option Refusal
 idle fs = proc_refusal 13 fs (λ p. not (reachable (plan_in fs) p))
 
@@ -90,11 +84,11 @@ too_large fs = proc_refusal 9 fs (λ p. ltb max_size (size_of (plan_in fs).procs
 abbrev pub reach_refusal : List Form → Option Refusal
 reach_refusal fs = or_else (recursive fs) (idle fs)
 
--- rules 12, 13 and 9: 12 "follows rule 8" and, by change 10, 15, which "stands between 8 and 12"; 13 "stands after 12 and before 9"
+-- rules 12, 13 and 9: 12 "follows rule 8", 13 "stands after 12 and before 9"
 abbrev pub procs_refusal : List Form → Option Refusal
 procs_refusal fs = or_else (reach_refusal fs) (too_large fs)
 
--- the rules over the forms: 4 to 8, 15, 12, 13, 9
+-- the rules over the forms: 4 to 8, 12, 13, 9
 unfoldable pub forms_refusal : List Form → Option Refusal
 forms_refusal fs = or_else (grammar_refusal fs) (procs_refusal fs)
 
@@ -107,7 +101,7 @@ abbrev pub in_file : List ℕ → Option Refusal → Option Refusal
 in_file text none = none
 in_file text (some x) = some (refusal_in_file text x)
 
--- the plan's rules: 2 to 8, 15, 12, 13, 9. For the space that a schedule needs these are 02's, change 4: "every rule on it up to and with 9, in checking order"
+-- the plan's rules: 2 to 8, 12, 13, 9. For the space that a schedule needs these are 02's, change 4: "every rule on it up to and with 9, in checking order"
 unfoldable pub plan_refusal : List ℕ → Option Refusal
 plan_refusal text = or_else (lines_refusal text) (in_file text (forms_refusal (forms_of text)))
 

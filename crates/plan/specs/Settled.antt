@@ -1,10 +1,9 @@
--- What rules 4 to 8 and 15 settle of a plan's tree: exactly this (theorem `rules-plan`). Later crates rest on it. Rule 12 adds ranks (theorem `rules-ranks`).
+-- What rules 4 to 8 settle of a plan's tree: exactly this (theorem `rules-plan`). Later crates rest on it. Rule 12 adds ranks (theorem `rules-ranks`).
 use Rattle.std.specs.Prelude.{ℕ, ◌+◌, ◌<◌, ◌≤◌, max, false, List, [], ◌∷◌, ◌≡◌, length}
 use Rattle.std.proofs.Math.Option.{none}
 use Rattle.limits.specs.Limits.{max_procs, max_statements, max_threads, max_brackets}
 use Rattle.semantics.specs.Plan.{Block, done, skip, call, hold, loop, either, end, LockPlan, thread_proc, body_in, Written, WellFormed}
-use Rattle.semantics.specs.Ranges.{RangedPlan, highest, AllInRange}
-use Rattle.plan.specs.Grammar.{forms, tree_in, plan_in}
+use Rattle.plan.specs.Grammar.{forms, plan_in}
 use Rattle.plan.specs.Table.{table_forms}
 use Rattle.plan.specs.Rules.{recursive, too_large}
 
@@ -32,32 +31,28 @@ nesting (loop b r) = max (1 + nesting b) (nesting r)
 nesting (either a b r) = max (2 + nesting a) (max (2 + nesting b) (nesting r))
 nesting (end l r) = nesting r
 
--- What rules 4 to 8 and 15 settle of a plan: among others that callees are there and locks below 32, so claims below 64 (`callees_present`).
-pub record Settled (plan : RangedPlan) : Type 0 where
+-- What rules 4 to 8 settle of a plan: among others that callees are there and locks below 32, so claims below 64 (`callees_present`).
+pub record Settled (plan : LockPlan) : Type 0 where
   pub callees_present : (p : ℕ) → Written (λ q. q < length plan.procs) (body_in plan.procs p)
   pub filled : (p : ℕ) → p < length plan.procs → WellFormed false (body_in plan.procs p)
-  pub threads-present : (t : ℕ) → t < length (highest plan).threads → thread_proc (highest plan) t < length plan.procs
+  pub threads-present : (t : ℕ) → t < length plan.threads → thread_proc plan t < length plan.procs
   pub some-proc : 0 < length plan.procs
-  pub some-line : 0 < length plan.lines
+  pub some-thread : 0 < length plan.threads
   pub few-procs : length plan.procs ≤ max_procs
   pub few-statements : all_statements plan.procs ≤ max_statements
-  pub few-threads : length (highest plan).threads ≤ max_threads
+  pub few-threads : length plan.threads ≤ max_threads
   pub few_open : (p : ℕ) → nesting (body_in plan.procs p) ≤ max_brackets
-  pub in_range : AllInRange plan.lines
 
--- the plan of a table of forms, with its ranges, and at the highest counts
-abbrev pub table_tree : List ℕ → RangedPlan
-table_tree ws = tree_in (table_forms ws)
-
+-- the plan of a table of forms
 abbrev pub table_plan : List ℕ → LockPlan
 table_plan ws = plan_in (table_forms ws)
 
--- a table that holds the forms of a plan within rules 4 to 8 and 15: what an accepted text leaves (theorem `formed-table`)
+-- a table that holds the forms of a plan within rules 4 to 8: what an accepted text leaves (theorem `formed-table`)
 pub record PlanTable (ws : List ℕ) : Type 0 where
-  pub written : table_forms ws ≡ forms (table_tree ws)
-  pub settled : Settled (table_tree ws)
+  pub written : table_forms ws ≡ forms (table_plan ws)
+  pub settled : Settled (table_plan ws)
 
--- the table of a plan that keeps the rules 4 to 9, 12 and 15, as that of an accepted text does (theorem `rules-kept`). Rule 13 is not asked: nothing rests on it
+-- the table of a plan that keeps the rules 4 to 9 and 12, as that of an accepted text does (theorem `rules-kept`). Rule 13 is not asked: nothing rests on it
 pub record RulesKept (ws : List ℕ) : Type 0 where
   pub plan : PlanTable ws
   pub acyclic : recursive (table_forms ws) ≡ none

@@ -1,14 +1,11 @@
--- Texts without share, and how 01's grammar of blocks has their trees; thread lines are those of change 10. 02, change 9: "Plans without share keep their answers, written as
--- records." (theorem `text-answers-kept`).
+-- Texts without share, and how 01's grammar has their trees. 02, change 9: "Plans without share keep their answers, written as records." (theorem `text-answers-kept`).
 use Rattle.std.specs.Prelude.{ℕ, ◌≡◌}
-use mathlib.Core.List.{List, [], ◌∷◌, map, Memᴰ}
+use mathlib.Core.List.{List, [], ◌∷◌, Memᴰ}
 use Rattle.text.specs.declared.Form.{Form}
 use Rattle.text.specs.declared.Form.TheVariants.{Plan, Proc, Close, Skip, Call, Hold, Loop, Either, One, Two, Share}
 use Rattle.text.specs.Forms.{IsForm, is_share}
 use Rattle.text.specs.Lines.{split, unindented}
-use Rattle.semantics.specs.Plan.{Block, done, skip, call, hold, loop, either, end}
-use Rattle.semantics.specs.Ranges.{RangedPlan}
-use Rattle.semantics.specs.HoldsOnly.{locked}
+use Rattle.semantics.specs.Plan.{Block, done, skip, call, hold, loop, either, end, LockPlan}
 use Rattle.plan.specs.Grammar.{thread_forms}
 use Rattle.plan.specs.Limits.{count_if}
 
@@ -20,7 +17,7 @@ NoShare fs = count_if is_share fs ≡ 0
 abbrev pub NoShareLine : List ℕ → Type 0
 NoShareLine text = (line : List ℕ) → Memᴰ line (split text).ended → (n : ℕ) → IsForm (unindented line) (Share n) → ⊥
 
--- 01's grammar of blocks: the number of a hold in a tree is its lock. The forms of b, and then fs
+-- 01's grammar: the number of a hold in a tree is its lock. The forms of b, and then fs
 unfoldable pub block_forms01 : Block → List Form → List Form
 block_forms01 done fs = fs
 block_forms01 (skip r) fs = Skip ∷ block_forms01 r fs
@@ -34,9 +31,5 @@ unfoldable pub proc_forms01 : List Block → List Form → List Form
 proc_forms01 [] fs = fs
 proc_forms01 (b ∷ bs) fs = Proc ∷ block_forms01 b (Close ∷ proc_forms01 bs fs)
 
-unfoldable pub forms01 : RangedPlan → List Form
-forms01 plan = Plan ∷ proc_forms01 plan.procs (thread_forms plan.lines (Close ∷ []))
-
--- the plan with locks in the place of claims, as 01's blocks have them; thread lines are those of change 10
-abbrev pub locked_tree : RangedPlan → RangedPlan
-locked_tree plan = record { procs = map locked plan.procs; lines = plan.lines }
+unfoldable pub forms01 : LockPlan → List Form
+forms01 plan = Plan ∷ proc_forms01 plan.procs (thread_forms plan.threads (Close ∷ []))

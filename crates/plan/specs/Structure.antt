@@ -96,7 +96,7 @@ on_close mode top =
 unfoldable pub advance_of : ℕ → ℕ → Form → Advance
 advance_of mode top Plan = only at_start mode (Stay first_proc)
 advance_of mode top Proc = among first_proc next_proc mode (Stay first_statement)
-advance_of mode top (Thread p a b) = among next_proc next_thread mode (Stay next_thread)
+advance_of mode top (Thread n) = among next_proc next_thread mode (Stay next_thread)
 advance_of mode top Close = on_close mode top
 advance_of mode top Skip = in_block mode (Stay next_statement)
 advance_of mode top (Call n) = in_block mode (Stay next_statement)

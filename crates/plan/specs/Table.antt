@@ -1,33 +1,26 @@
--- A form as a code in a table: its kind plus 16 times its number; of a thread line plus 2 to the power 20 times its lowest count and 2 to the power 36 times its highest. A form is read
--- back from its code (theorem `form_of_code`).
+-- A form as a code in a table: its kind plus 16 times its number. A form is read back from its code (theorem `form_of_code`).
 use Rattle.std.specs.Prelude.{cond, ℕ, ◌+◌, ◌*◌, ◌/◌, ◌%◌, ◌≤◌, min, List, map, eqb, length, set}
 use Rattle.limits.specs.Limits.{max_bytes}
 use Rattle.text.specs.declared.Form.{Form}
 use Rattle.text.specs.declared.Form.TheVariants.{Plan, Proc, Thread, Close, Skip, Call, Hold, Loop, Either, One, Two, Share}
-use Rattle.text.specs.Forms.{kind_number, number_in, least_in, most_in, is_thread}
+use Rattle.text.specs.Forms.{kind_number, number_in}
 use Rattle.text.specs.declared.Line.{Line}
 use Rattle.text.specs.declared.Line.TheVariants.{Read, Refused}
 
 -- the code of a form
 unfoldable pub code_of : Form → ℕ
-code_of f = cond (is_thread f) (kind_number f + 16 * number_in f + 1048576 * least_in f + 68719476736 * most_in f) (kind_number f + 16 * number_in f)
+code_of f = kind_number f + 16 * number_in f
 
--- the number in a code, and the counts of a thread line
+-- the number in a code
 abbrev pub number_at : ℕ → ℕ
 number_at w = w / 16 % 65536
-
-abbrev pub least_at : ℕ → ℕ
-least_at w = w / 1048576 % 65536
-
-abbrev pub most_at : ℕ → ℕ
-most_at w = w / 68719476736 % 65536
 
 -- the form of a code; a code of no form reads as `)`
 unfoldable pub form_at : ℕ → Form
 form_at w =
     cond (eqb (w % 16) 0) Plan
     (cond (eqb (w % 16) 1) Proc
-    (cond (eqb (w % 16) 2) (Thread (number_at w) (least_at w) (most_at w))
+    (cond (eqb (w % 16) 2) (Thread (number_at w))
     (cond (eqb (w % 16) 4) Skip
     (cond (eqb (w % 16) 5) (Call (number_at w))
     (cond (eqb (w % 16) 6) (Hold (number_at w))

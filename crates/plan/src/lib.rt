@@ -1,12 +1,12 @@
-// The plan text as a table of forms (rules 2 and 3), and the rules 4 to 8 and 15: each is a pass over the table. A rule over the table names a form by its number, from 1,
-// in the place of a line; `in_file` gives the form's line.
+// The plan text as a table of forms (rules 2 and 3), and the rules 4 to 8: each is a pass over the table. A rule over the table names a form by its number, from 1, in the
+// place of a line; `in_file` gives the form's line.
 ghost use Rattle.std.specs.Prelude.{◌≡◌, ◌+◌, ◌-◌, ◌≤◌, ◌<◌, length};
 ghost use Rattle.limits.specs.Limits.{max_bytes};
-ghost use Rattle.text.specs.Forms.{number_in, most_in, is_proc};
+ghost use Rattle.text.specs.Forms.{number_in, is_proc};
 ghost use Rattle.text.specs.Lines.{line_at, unreadable_line};
 ghost use Rattle.plan.specs.Table.{code_of, form_at, table_forms, with_line, FormRoom};
 ghost use Rattle.plan.specs.Structure.{only, among, close_block, on_close, advance_of, misplaced_form, stack_of, innermost};
-ghost use Rattle.plan.specs.Limits.{Small, add_if, bad_range, depth_after, counted, over_limit, past_limit_form, tested_by, least_bad, breaks, breaking_form, count_if};
+ghost use Rattle.plan.specs.Limits.{Small, add_if, depth_after, counted, over_limit, past_limit_form, tested_by, least_bad, breaks, breaking_form, count_if};
 ghost use Rattle.plan.specs.Rules.{refused_at, lines_refusal, references_refusal, grammar_refusal, limited_of, reading_of, read_in_file, Tabled};
 
 use limits::{LOCK_COUNT, MAX_BRACKETS, MAX_BYTES, MAX_PROCS, MAX_STATEMENTS, MAX_THREADS};
@@ -44,16 +44,14 @@ pub enum Reading {
     Refused(Refusal),
 }
 
-// The code of a form: its kind plus 16 times its number; of a thread line its counts above.
+// The code of a form: its kind plus 16 times its number.
 fn code_of(form: Form) -> u64
     ensures { result ≡ code_of form }
 {
     match form {
         Form::Plan => 0,
         Form::Proc => 1,
-        Form::Thread(n, a, b) => {
-            2 + 16 * (n as u64) + 1048576 * (a as u64) + 68719476736 * (b as u64)
-        }
+        Form::Thread(n) => 2 + 16 * (n as u64),
         Form::Close => 3,
         Form::Skip => 4,
         Form::Call(n) => 5 + 16 * (n as u64),
@@ -75,11 +73,7 @@ pub fn form_at(code: u64) -> Form
     match kind {
         0 => Form::Plan,
         1 => Form::Proc,
-        2 => {
-            let least = (code / 1048576 % 65536) as u16;
-            let most = (code / 68719476736 % 65536) as u16;
-            Form::Thread(n, least, most)
-        }
+        2 => Form::Thread(n),
         4 => Form::Skip,
         5 => Form::Call(n),
         6 => Form::Hold(n),
@@ -143,7 +137,7 @@ fn advance_of(mode: u8, top: u8, form: Form) -> Advance
     match form {
         Form::Plan => in_mode(mode, 0, Advance::Stay(1)),
         Form::Proc => in_modes(mode, 1, 2, Advance::Stay(5)),
-        Form::Thread(_, _, _) => in_modes(mode, 2, 3, Advance::Stay(3)),
+        Form::Thread(_) => in_modes(mode, 2, 3, Advance::Stay(3)),
         Form::Close => on_close(mode, top),
         Form::Skip | Form::Call(_) => in_modes(mode, 5, 6, Advance::Stay(6)),
         Form::Hold(_) | Form::Loop | Form::Share(_) => in_modes(mode, 5, 6, Advance::Push(0)),
@@ -234,11 +228,10 @@ fn count(c: Counts, form: Form) -> Counts
     requires { Small c 65536 }
     ensures { result ≡ counted c form }
 {
-    let threads = c.threads + copies_in(form);
     Counts {
         procs: add_if(text::is_proc(form), c.procs),
         statements: add_if(text::is_statement(form), c.statements),
-        threads,
+        threads: add_if(text::is_thread(form), c.threads),
         depth: depth_after(form, c.depth),
     }
 }
@@ -286,7 +279,7 @@ fn tested_by(form: Form) -> u8
     ensures { result ≡ tested_by form }
 {
     match form {
-        Form::Thread(_, _, _) => 8,
+        Form::Thread(_) => 8,
         Form::Call(_) => 7,
         Form::Hold(_) | Form::Share(_) => 6,
         _ => 0,
@@ -298,21 +291,10 @@ pub fn number_in(form: Form) -> usize
     ensures { result ≡ number_in form }
 {
     match form {
-        Form::Thread(n, _, _) => n as usize,
+        Form::Thread(n) => n as usize,
         Form::Call(n) => n as usize,
         Form::Hold(n) => n as usize,
         Form::Share(n) => n as usize,
-        _ => 0,
-    }
-}
-
-// The highest count of a thread line; another form has no copies.
-pub fn copies_in(form: Form) -> usize
-    ensures value { result ≡ most_in form }
-    ensures upper_bound { result < 65536 }
-{
-    match form {
-        Form::Thread(_, _, b) => b as usize,
         _ => 0,
     }
 }
@@ -324,35 +306,17 @@ fn least_bad(rule: u8, procs: usize) -> usize
     if rule == 6 { LOCK_COUNT } else { procs }
 }
 
-// Rule 15: a thread line whose highest count is zero or below its lowest.
-fn bad_range(form: Form) -> bool
-    ensures { result ≡ bad_range form }
-{
-    match form {
-        Form::Thread(_, a, b) => {
-            if b == 0 {
-                return true;
-            }
-            b < a
-        }
-        _ => false,
-    }
-}
-
-// Whether a form breaks rule 6, 7, 8 or 15.
+// Whether a form breaks rule 6, 7 or 8.
 fn breaks_rule(rule: u8, procs: usize, form: Form) -> bool
     ensures { result ≡ breaks rule procs form }
 {
-    if rule == 15 {
-        return bad_range(form);
-    }
     if tested_by(form) == rule {
         return least_bad(rule, procs) <= number_in(form);
     }
     false
 }
 
-// Rule 6, 7, 8 or 15 over a table of so many procedures.
+// Rule 6, 7 or 8 over a table of so many procedures.
 fn check_numbers(table: &[u64], rule: u8, procs: usize) -> Reading
     requires { procs ≡ count_if is_proc (table_forms table.now) }
     ensures { result ≡ reading_of (refused_at rule (breaking_form rule (table_forms table.now))) (length table.now) }
@@ -368,7 +332,7 @@ fn check_numbers(table: &[u64], rule: u8, procs: usize) -> Reading
     Reading::Accepted(i)
 }
 
-// Rules 6 to 8 and 15 over a table of so many procedures.
+// Rules 6 to 8 over a table of so many procedures.
 fn check_references(table: &[u64], procs: usize) -> Reading
     requires { procs ≡ count_if is_proc (table_forms table.now) }
     ensures { result ≡ reading_of (references_refusal (table_forms table.now)) (length table.now) }
@@ -381,14 +345,10 @@ fn check_references(table: &[u64], procs: usize) -> Reading
     let Reading::Accepted(_) = calls else {
         return calls;
     };
-    let threads = check_numbers(table, 8, procs);
-    let Reading::Accepted(_) = threads else {
-        return threads;
-    };
-    check_numbers(table, 15, procs)
+    check_numbers(table, 8, procs)
 }
 
-// Rules 4 to 8 and 15 over a table, each over the whole of it before the next.
+// Rules 4 to 8 over a table, each over the whole of it before the next.
 pub fn check_forms(table: &[u64], stack: &mut [u8]) -> Reading
     requires { (length table.now < 65536) × (length table.now ≤ length stack.old) }
     ensures { result ≡ reading_of (grammar_refusal (table_forms table.now)) (length table.now) }

@@ -11,17 +11,16 @@ use lib.Dec.{ltb}
 use denote.Ref.{Bor}
 use borrow.Author.Tests.{lt-ltb, le-ltb, ltb-true}
 use Rattle.text.specs.Lines.{forms_of, unreadable_line, IsText}
-use Rattle.semantics.specs.Plan.{body_in}
-use Rattle.semantics.specs.Ranges.{RangedPlan}
+use Rattle.semantics.specs.Plan.{LockPlan, body_in}
 use Rattle.plan.specs.declared.Reading.{Reading}
 use Rattle.plan.specs.declared.Reading.TheVariants.{Accepted, Refused}
 use Rattle.text.specs.declared.Form.{Form}
 use Rattle.plan.specs.Grammar.{forms, proc_forms}
 use Rattle.plan.specs.Table.{form_at, table_forms}
-use Rattle.plan.specs.Settled.{PlanTable, table_tree, table_plan}
+use Rattle.plan.specs.Settled.{PlanTable, table_plan}
 use Rattle.plan.specs.Starts.{Starts}
 use Rattle.text.specs.declared.Refusal.{Refusal}
-use Rattle.plan.specs.Rules.{plan_refusal, tree_of, plan_of, proc_form_from, Tabled}
+use Rattle.plan.specs.Rules.{plan_refusal, plan_of, proc_form_from, Tabled}
 use Rattle.plan.proofs.Filling.{refused-is}
 use Rattle.parts.specs.Parts.{Span, span, bytes_in, PartAt, forms_span, forms_before, forms_to_closing}
 use Rattle.procs.proofs.Places.{map-drop}
@@ -45,7 +44,7 @@ module _ (ws : List ℕ) (p procs : ℕ) (c : procs ≡ length (table_plan ws).p
 
     pub start_first : PlanTable ws → 1 ≤ get_or starts p 0
     start_first t =
-        (proc-forms (table_tree ws) p (omega arith) t.settled.some-line (get_or starts p 0) (number ∙ ap (proc_form_from 1 p) t.written)).first
+        (proc-forms (table_plan ws) p (omega arith) t.settled.some-thread (get_or starts p 0) (number ∙ ap (proc_form_from 1 p) t.written)).first
 
     pub start-within : get_or starts p 0 ≤ length ws
     start-within = (s.stands p (omega arith)).within
@@ -64,8 +63,8 @@ lines-refused text p table q x t g = rw (refused-is (plan_refusal text) (length 
 
 -- a procedure of a table that holds the forms of a text's plan: its closing form is the last before the next procedure or thread
 module _ (text ws : List ℕ) (p : ℕ) (t : PlanTable ws) (e : table_forms ws ≡ forms_of text) where
-  forms-there : p < length (table_plan ws).procs → ProcForms (table_tree ws) p (proc_form_from 1 p (forms (table_tree ws)))
-  forms-there h = proc-forms (table_tree ws) p h t.settled.some-line (proc_form_from 1 p (forms (table_tree ws))) refl
+  forms-there : p < length (table_plan ws).procs → ProcForms (table_plan ws) p (proc_form_from 1 p (forms (table_plan ws)))
+  forms-there h = proc-forms (table_plan ws) p h t.settled.some-thread (proc_form_from 1 p (forms (table_plan ws))) refl
 
   table-lines : (b : Bool) → ltb p (length (table_plan ws).procs) ≡ b → table_lines text ws p ≡ or_empty none b (lines_of_proc text p)
   unfolding table_lines lines_of_proc
@@ -76,7 +75,7 @@ module _ (text ws : List ℕ) (p : ℕ) (t : PlanTable ws) (e : table_forms ws �
 
 pub text-lines : (text : List ℕ) (p n : ℕ) (table : List ℕ) (q : Reading) → Tabled (plan_refusal text) text q table → q ≡ Accepted n
     → table_lines text (take (n - 0) table) p ≡ proc_text text p
-unfolding proc_text tree_of
+unfolding proc_text plan_of
 text-lines text p n table q t g =
     let ws = take (n - 0) table in
     let fs = plan-forms text table q n t g in
@@ -90,8 +89,8 @@ text-part text r p n table q t g h = rw (← text-lines text.now p n table q t g
 -- ---- what the lines are
 
 -- the lines of procedure p of a readable text, whose forms are those of a plan
-spelled-lines : (text : List ℕ) (fs : List Form) (plan : RangedPlan) (p : ℕ) → unreadable_line text ≡ none → forms_of text ≡ fs → fs ≡ forms plan
-    → p < length plan.procs → 0 < length plan.lines
+spelled-lines : (text : List ℕ) (fs : List Form) (plan : LockPlan) (p : ℕ) → unreadable_line text ≡ none → forms_of text ≡ fs → fs ≡ forms plan
+    → p < length plan.procs → 0 < length plan.threads
     → IsText (bytes_in text (forms_span text (proc_form_from 1 p fs) (proc_form_from 1 p fs + forms_to_closing 0 (drop (proc_form_from 1 p fs) fs))))
     (proc_forms (body_in plan.procs p ∷ []) [])
 spelled-lines text fs plan p readable e f h t =
@@ -106,7 +105,7 @@ spelled-lines text fs plan p readable e f h t =
 -- of an accepted text: the lines of the part spell the forms of the procedure
 pub proc-written : (text : List ℕ) (p : ℕ) → plan_refusal text ≡ none → p < length (plan_of text).procs
     → IsText (bytes_in text (proc_text text p)) (proc_forms (body_in (plan_of text).procs p ∷ []) [])
-unfolding proc_text lines_of_proc tree_of
+unfolding proc_text lines_of_proc
 proc-written text p e h =
     rw (e, lt-ltb p (length (plan_of text).procs) h)
-    (spelled-lines text (forms_of text) (tree_of text) p (accepted-rules text e).readable refl (accepted-text text e) h (accepted-settled text e).some-line)
+    (spelled-lines text (forms_of text) (plan_of text) p (accepted-rules text e).readable refl (accepted-text text e) h (accepted-settled text e).some-thread)

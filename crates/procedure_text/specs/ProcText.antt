@@ -15,8 +15,7 @@ lines_of_proc text p =
     let k = proc_form_from 1 p (forms_of text) in
     forms_span text k (k + forms_to_closing 0 (drop k (forms_of text)))
 
--- "with an empty part and no number if a rule about the plan .. refuses it or the procedure is absent": 2 to 9, and 12, 13 and 15, of 02, changes 2, 6
--- and 10
+-- "with an empty part and no number if a rule about the plan .. refuses it or the procedure is absent": 2 to 9, and 12 and 13, of 02, changes 2 and 6
 abbrev pub or_empty : Option Refusal → Bool → Span → Span
 or_empty none there part = cond there part (span 0 0)
 or_empty (some r) there part = span 0 0

@@ -3,17 +3,15 @@
 use Prim.Native.Nat.{ℕ, ◌+◌, ◌<◌, ◌≤◌}
 use native.Mathlib.Numerals.{add-one}
 use native.Mathlib.Omega.{arith}
-use mathlib.Core.Path.{◌≡◌, refl, sym, ap, ◌∙◌}
+use mathlib.Core.Path.{◌≡◌, sym, ap, ◌∙◌}
 use mathlib.Core.Bool.{Bool, true, false}
-use mathlib.Core.List.{List, [], ◌∷◌, ◌++◌, map, append-nil, append_assoc}
-use lib.ListN.{length, take, drop, get_or, set, replicate, length-replicate, replicate-append-replicate, length-take, length-append, length-set, drop_of_length-le}
+use mathlib.Core.List.{List, ◌∷◌, ◌++◌, map, append-nil}
+use lib.ListN.{length, take, drop, get_or, set, length-take, length-append, length-set, drop_of_length-le}
 use lib.Seq.{drop-cons}
 use Rattle.limits.specs.Limits.{max_procs, max_threads}
-use Rattle.laws.specs.Wrote.{Wrote}
-use Rattle.laws.proofs.Wrote.{wrote-front, wrote_none, wrote_one, wrote-length}
 use Rattle.laws.proofs.Writes.{emit_more}
 use Rattle.text.specs.declared.Form.{Form}
-use Rattle.text.specs.Forms.{number_in, most_in, is_proc}
+use Rattle.text.specs.Forms.{number_in, is_proc, is_thread}
 use Rattle.plan.specs.Table.{form_at, table_forms}
 use Rattle.plan.specs.Settled.{PlanTable, table_plan}
 use Rattle.plan.specs.Starts.{Starts}
@@ -64,36 +62,23 @@ module _ (table o o₀ : List ℕ) (n i : ℕ) (t : PlanTable table) (len : leng
     all-threads : length (threads_from (table_forms table)) ≤ length o
     all-threads = omega (arith, ap length (table-threads table t), t.settled.few-threads)
 
-    module _ (f : Form) (m : ℕ) (h : i < length table) (e : f ≡ form_at (get_or table i 0)) (b : m ≡ most_in f) where
-      thread-turn : take n o ++ (replicate m (number_in f) ++ threads_from (map form_at (drop (i + 1) table))) ≡ threads_from (table_forms table)
+    module _ (f : Form) (q : Bool) (h : i < length table) (e : f ≡ form_at (get_or table i 0)) (b : q ≡ is_thread f) where
+      thread-turn : take n o ++ cons_if q (number_in f) (threads_from (map form_at (drop (i + 1) table))) ≡ threads_from (table_forms table)
       unfolding threads_from
       thread-turn = rw (b, e, add-one) (rw (drop-cons table i 0 h) at p)
 
-      pub copies-room : n + m ≤ length o
-      copies-room =
-          let rest = threads_from (map form_at (drop (i + 1) table)) in
-          omega (
-            arith,
-            length-take n o,
-            length-append (take n o) (replicate m (number_in f) ++ rest),
-            length-append (replicate m (number_in f)) rest,
-            length-replicate m (number_in f),
-            ap length thread-turn,
-            all-threads,
-          )
+      pub thread-none : q ≡ false → take n o ++ threads_from (map form_at (drop (i + 1) table)) ≡ threads_from (table_forms table)
+      thread-none z = rw z at thread-turn
 
-      pub copies-more : (o' : List ℕ) (v : ℕ) → v ≡ number_in f → Wrote o o' n (n + m) (replicate m v)
-          → take (n + m) o' ++ threads_from (map form_at (drop (i + 1) table)) ≡ threads_from (table_forms table)
-      copies-more o' v g w =
-          let rest = threads_from (map form_at (drop (i + 1) table)) in
-          ap (λ l. l ++ rest) (wrote-front o o' n (n + m) (replicate m v) w) ∙ append_assoc (take n o) (replicate m v) rest
-          ∙ ap (λ x. take n o ++ (replicate m x ++ rest)) g ∙ thread-turn
+      pub thread-room : q ≡ true → n < length o
+      thread-room z = room-more o _ _ n (number_in f) fits (rw z at thread-turn) all-threads
 
-      pub copies_length : (o' : List ℕ) (v : ℕ) → Wrote o o' n (n + m) (replicate m v) → length o' ≡ length o₀
-      copies_length o' v w = wrote-length o o' n (n + m) (replicate m v) w ∙ len
+      pub thread-fits : (v : ℕ) → q ≡ true → n + 1 ≤ length (set o n v)
+      thread-fits v z = rw (length-set o n v) (omega (arith, thread-room z))
 
-      pub copies-fits : (o' : List ℕ) (v : ℕ) → Wrote o o' n (n + m) (replicate m v) → n + m ≤ length o'
-      copies-fits o' v w = omega (arith, copies-room, wrote-length o o' n (n + m) (replicate m v) w)
+      pub thread-more : (v : ℕ) → v ≡ number_in f → q ≡ true
+          → take (n + 1) (set o n v) ++ threads_from (map form_at (drop (i + 1) table)) ≡ threads_from (table_forms table)
+      thread-more v g z = emit_more o o _ _ n v (thread-room z) (rw (z, ← g) at thread-turn)
 
     module _ (d : length table ≤ i) where
       pub threads-found : take n o ≡ (table_plan table).threads
@@ -102,17 +87,3 @@ module _ (table o o₀ : List ℕ) (n i : ℕ) (t : PlanTable table) (len : leng
 
       pub threads-counted : n ≡ length (table_plan table).threads
       threads-counted = omega (arith, length-take n o, ap length threads-found)
-
--- ---- copies of a number, one more each turn
-
-pub copied_none : (o₀ : List ℕ) (at n v : ℕ) → at + n ≤ length o₀ → Wrote o₀ o₀ at (at + 0) (replicate 0 v)
-copied_none o₀ at n v h = let e : at + 0 ≡ at = omega arith in rw e (wrote_none o₀ at (omega arith))
-
-module _ (o o₀ : List ℕ) (at i v : ℕ) where
-  pub copied_more : (n : ℕ) → i < n → at + n ≤ length o₀ → Wrote o₀ o at (at + i) (replicate i v) → Wrote o₀ (set o (at + i) v) at (at + (i + 1)) (replicate (i + 1) v)
-  copied_more n h room w =
-      let e : at + (i + 1) ≡ at + i + 1 = omega arith in
-      rw (e, ← replicate-append-replicate i 1 v) (wrote_one o₀ o at (at + i) (replicate i v) v (omega arith) w)
-
-  pub copied-done : (n : ℕ) → n ≤ i → i ≤ n → Wrote o₀ o at (at + i) (replicate i v) → Wrote o₀ o at (at + n) (replicate n v)
-  copied-done n h k w = let e : i ≡ n = omega arith in rw e at w

@@ -4,22 +4,21 @@ use Prim.Native.Nat.{ℕ, zero, suc, ◌+◌, ◌-◌, ◌<◌, ◌≤◌}
 use native.Mathlib.Numerals.{add-one}
 use native.Mathlib.Omega.{arith}
 use mathlib.Core.Path.{◌≡◌, refl, sym, ap, ◌∙◌}
-use mathlib.Core.List.{List, [], ◌∷◌, ◌++◌, map}
+use mathlib.Core.List.{List, [], ◌∷◌, map}
 use mathlib.Core.Bool.{Bool, true, false, ◌&&◌, cond}
 use lib.Dec.{eqb, eqb-suc-zero}
-use lib.ListN.{length, take, drop, get_or, replicate, length-map, length-drop, length-take}
+use lib.ListN.{length, take, drop, get_or, length-map, length-drop, length-take}
 use lib.Seq.{drop-drop}
 use Rattle.limits.specs.Limits.{max_procs}
 use Rattle.laws.proofs.Places.{front_at}
 use Rattle.text.specs.declared.Form.{Form}
 use Rattle.text.specs.declared.Form.TheVariants.{Proc, Close, Two}
-use Rattle.text.specs.Forms.{number_in, most_in, kind_in, is_proc}
-use Rattle.semantics.specs.Plan.{Block, done, skip, call, hold, loop, either, end, body_in}
-use Rattle.semantics.specs.Ranges.{ThreadLine, RangedPlan, copies_of, most_counts, highest}
+use Rattle.text.specs.Forms.{number_in, kind_in, is_proc}
+use Rattle.semantics.specs.Plan.{Block, done, skip, call, hold, loop, either, end, LockPlan, body_in}
 use Rattle.plan.specs.Grammar.{block_forms, proc_forms, thread_forms, forms}
 use Rattle.plan.specs.Table.{form_at, table_forms}
 use Rattle.plan.specs.Rules.{proc_form_from}
-use Rattle.plan.specs.Settled.{PlanTable, table_tree, table_plan}
+use Rattle.plan.specs.Settled.{PlanTable, table_plan}
 use Rattle.plan.specs.Starts.{StandsAt, Starts}
 use Rattle.plan.proofs.ClaimForms.{by_claim}
 use Rattle.procs.specs.Passes.{cons_if, places_from, threads_from}
@@ -107,12 +106,12 @@ place_at fs whole (b ∷ bs) k e (suc p) h =
     rw (places-block b (suc k) (Close ∷ proc_forms bs fs))
     (place_at fs whole bs (suc (suc k + form_count b)) (drop-next whole (suc k + form_count b) Close _ behind) p (omega arith))
 
-places-threads : (k : ℕ) (ns : List ThreadLine) → places_from k (thread_forms ns (Close ∷ [])) ≡ []
+places-threads : (k : ℕ) (ns : List ℕ) → places_from k (thread_forms ns (Close ∷ [])) ≡ []
 unfolding places_from thread_forms kind_in
 places-threads k [] = refl
 places-threads k (n ∷ ns) = places-threads (suc k) ns
 
-pub places_count : (ns : List ThreadLine) (k : ℕ) (ps : List Block) → length (places_from k (proc_forms ps (thread_forms ns (Close ∷ [])))) ≡ length ps
+pub places_count : (ns : List ℕ) (k : ℕ) (ps : List Block) → length (places_from k (proc_forms ps (thread_forms ns (Close ∷ [])))) ≡ length ps
 unfolding places_from proc_forms kind_in
 places_count ns k [] = ap length (places-threads k ns)
 places_count ns k (b ∷ bs) =
@@ -134,7 +133,7 @@ places-numbers (f ∷ fs) k p = go (is_proc f) p (places-numbers fs (suc k))
 -- ---- the threads
 
 threads-block : (b : Block) (fs : List Form) → threads_from (block_forms b fs) ≡ threads_from fs
-unfolding block_forms threads_from most_in
+unfolding block_forms threads_from kind_in
 threads-block done fs = refl
 threads-block (skip r) fs = threads-block r fs
 threads-block (call p r) fs = threads-block r fs
@@ -147,29 +146,29 @@ threads-block (either a b r) fs =
 threads-block (end l r) fs = threads-block r fs
 
 threads-procs : (ps : List Block) (fs : List Form) → threads_from (proc_forms ps fs) ≡ threads_from fs
-unfolding proc_forms threads_from most_in
+unfolding proc_forms threads_from kind_in
 threads-procs [] fs = refl
 threads-procs (b ∷ bs) fs = threads-block b (Close ∷ proc_forms bs fs) ∙ threads-procs bs fs
 
-threads-listed : (ns : List ThreadLine) → threads_from (thread_forms ns (Close ∷ [])) ≡ copies_of ns (most_counts ns)
-unfolding thread_forms threads_from number_in most_in copies_of
+threads-listed : (ns : List ℕ) → threads_from (thread_forms ns (Close ∷ [])) ≡ ns
+unfolding thread_forms threads_from kind_in number_in
 threads-listed [] = refl
-threads-listed (n ∷ ns) = ap (λ l. replicate n.most n.proc ++ l) (threads-listed ns)
+threads-listed (n ∷ ns) = ap (λ l. n ∷ l) (threads-listed ns)
 
-pub threads_of : (plan : RangedPlan) → threads_from (forms plan) ≡ (highest plan).threads
-unfolding forms threads_from most_in
-threads_of plan = threads-procs plan.procs (thread_forms plan.lines (Close ∷ [])) ∙ threads-listed plan.lines
+pub threads_of : (plan : LockPlan) → threads_from (forms plan) ≡ plan.threads
+unfolding forms threads_from kind_in
+threads_of plan = threads-procs plan.procs (thread_forms plan.threads (Close ∷ [])) ∙ threads-listed plan.threads
 
 -- ---- in a table
 
 -- the forms behind the procedures
-abbrev pub thread_part : RangedPlan → List Form
-thread_part plan = thread_forms plan.lines (Close ∷ [])
+abbrev pub thread_part : LockPlan → List Form
+thread_part plan = thread_forms plan.threads (Close ∷ [])
 
-module _ (plan : RangedPlan) (fs : List Form) (e : fs ≡ forms plan) where
+module _ (plan : LockPlan) (fs : List Form) (e : fs ≡ forms plan) where
   pub count_placed : length (places_from 0 fs) ≡ length plan.procs
   unfolding forms places_from kind_in
-  count_placed = rw e (places_count plan.lines 1 plan.procs)
+  count_placed = rw e (places_count plan.threads 1 plan.procs)
 
   pub proc_placed : (p : ℕ) → p < length plan.procs → PlacedBlock fs (thread_part plan) (get_or (places_from 0 fs) p 0) (body_in plan.procs p)
   unfolding forms places_from kind_in
@@ -177,14 +176,14 @@ module _ (plan : RangedPlan) (fs : List Form) (e : fs ≡ forms plan) where
 
 module _ (ws : List ℕ) (t : PlanTable ws) where
   pub table-places : length (places_from 0 (table_forms ws)) ≡ length (table_plan ws).procs
-  table-places = count_placed (table_tree ws) (table_forms ws) t.written
+  table-places = count_placed (table_plan ws) (table_forms ws) t.written
 
   pub table-threads : threads_from (table_forms ws) ≡ (table_plan ws).threads
-  table-threads = ap threads_from t.written ∙ threads_of (table_tree ws)
+  table-threads = ap threads_from t.written ∙ threads_of (table_plan ws)
 
   pub table_placed : (p : ℕ) → p < length (table_plan ws).procs
-      → PlacedBlock (table_forms ws) (thread_part (table_tree ws)) (get_or (places_from 0 (table_forms ws)) p 0) (body_in (table_plan ws).procs p)
-  table_placed p h = proc_placed (table_tree ws) (table_forms ws) t.written p h
+      → PlacedBlock (table_forms ws) (thread_part (table_plan ws)) (get_or (places_from 0 (table_forms ws)) p 0) (body_in (table_plan ws).procs p)
+  table_placed p h = proc_placed (table_plan ws) (table_forms ws) t.written p h
 
   stands_placed : (k : ℕ) (b : Block) (fs : List Form) → PlacedBlock (table_forms ws) fs k b → StandsAt ws k b
   stands_placed k b fs x = record {

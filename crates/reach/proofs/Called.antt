@@ -23,11 +23,10 @@ use Rattle.text.specs.Forms.{number_in, kind_in, begins_other}
 use Rattle.text.specs.contracts.Form.{the_type}
 use Rattle.text.proofs.Matches.{match_arm}
 use Rattle.semantics.specs.Plan.{Block, done, skip, call, hold, loop, either, end, body_in, Written}
-use Rattle.semantics.specs.Ranges.{ThreadLine}
 use Rattle.semantics.specs.CallMasks.{call_mask}
 use Rattle.plan.specs.Grammar.{block_forms, proc_forms, thread_forms}
 use Rattle.plan.specs.Table.{form_at, table_forms}
-use Rattle.plan.specs.Settled.{PlanTable, table_tree, table_plan}
+use Rattle.plan.specs.Settled.{PlanTable, table_plan}
 use Rattle.plan.specs.Starts.{Starts}
 use Rattle.plan.proofs.ClaimForms.{by_claim}
 use Rattle.procs.proofs.Places.{map-drop, places-numbers, table_placed}
@@ -99,7 +98,7 @@ module _ (n : ℕ) (few : n ≤ max_procs) where
       ∙ sym (or_assoc (call_mask a) (bit_or (call_mask b) (call_mask r)) (calls_in fs))
   calls-block (end l r) w fs = absurd w
 
-calls-behind : (rest : List Block) (ns : List ThreadLine) → calls_in (Close ∷ proc_forms rest (thread_forms ns (Close ∷ []))) ≡ 0
+calls-behind : (rest : List Block) (ns : List ℕ) → calls_in (Close ∷ proc_forms rest (thread_forms ns (Close ∷ []))) ≡ 0
 unfolding calls_in called_by kind_in proc_forms thread_forms
 calls-behind [] [] = refl
 calls-behind [] (n ∷ ns) = refl
@@ -112,5 +111,5 @@ start-calls ws starts t k p h =
     let b = body_in (table_plan ws).procs p in
     let x = table_placed ws t p h in
     ap calls_in (map-drop form_at (get_or starts p 0) ws ∙ ap (λ n. drop n (table_forms ws)) (k.numbers p h ∙ sym (places-numbers (table_forms ws) 0 p)) ∙ x.written)
-    ∙ calls-block (length (table_plan ws).procs) t.settled.few-procs b (t.settled.callees_present p) (Close ∷ proc_forms x.rest (thread_forms (table_tree ws).lines (Close ∷ [])))
-    ∙ ap (bit_or (call_mask b)) (calls-behind x.rest (table_tree ws).lines) ∙ or_zero_r (call_mask b)
+    ∙ calls-block (length (table_plan ws).procs) t.settled.few-procs b (t.settled.callees_present p) (Close ∷ proc_forms x.rest (thread_forms (table_plan ws).threads (Close ∷ [])))
+    ∙ ap (bit_or (call_mask b)) (calls-behind x.rest (table_plan ws).threads) ∙ or_zero_r (call_mask b)

@@ -14,6 +14,9 @@ thread_room = 1 + 2 * lock_count + levels
 abbrev pub state_room : ℕ
 state_room = max_threads * thread_room
 
--- an entry before the first procedure and one for each
+-- where the sum of the threads' sizes stands, behind an entry before the first procedure and one for each; and the room of these
+abbrev pub sum_entry : ℕ
+sum_entry = max_procs + 1
+
 abbrev pub sizes_room : ℕ
-sizes_room = max_procs + 1
+sizes_room = sum_entry + 1

@@ -98,34 +98,12 @@ fn append(n: usize, b: u8) -> usize {
     }
 }
 
-// The place behind so many blanks of a form; the end of its line where it has fewer.
-fn word(text: &[u8], start: usize, blanks: usize) -> usize {
-    let mut left = blanks;
-    let mut i = start;
-    while i < text.len() {
-        if left == 0 {
-            return i;
-        }
-        if text[i] == b'\n' {
-            return i;
-        }
-        if text[i] == b' ' {
-            left -= 1;
-        }
-        i += 1;
-    }
-    i
-}
-
-// The number whose digits start at a place; 0 where none stand there.
-fn digits(text: &[u8], at: usize) -> usize {
+// The number in a line.
+pub fn number(text: &[u8], at: usize) -> usize {
     let mut n: usize = 0;
     let mut i = at;
     while i < text.len() {
-        if text[i] < b'0' {
-            return n;
-        }
-        if b'9' < text[i] {
+        if text[i] == b'\n' {
             return n;
         }
         n = append(n, text[i]);
@@ -134,43 +112,17 @@ fn digits(text: &[u8], at: usize) -> usize {
     n
 }
 
-// The number behind so many blanks of a line's form; 0 where it has none there.
-fn number_behind(text: &[u8], at: usize, blanks: usize) -> usize {
-    if text.len() <= at {
-        return 0;
-    }
-    digits(text, word(text, indented(text, at), blanks))
-}
-
-// The first number in a line: the lock of a hold or a share, the procedure of a call or a thread.
-pub fn number(text: &[u8], at: usize) -> usize {
-    number_behind(text, at, 1)
-}
-
-// How many threads a thread line stands for: its third number, which is not 0 in an accepted text, and 1 where it has none.
-fn copies(text: &[u8], at: usize) -> usize {
-    let highest = number_behind(text, at, 3);
-    if highest == 0 { 1 } else { highest }
-}
-
-// For how many a line counts among those with this letter: a thread line for its copies, each other for itself, one with another letter for none.
-fn counted(text: &[u8], at: usize, wanted: u8) -> usize {
-    if letter(text, at) != wanted {
-        return 0;
-    }
-    if wanted == b't' { copies(text, at) } else { 1 }
-}
-
-// The place of the line with this letter that has number k, where they are counted from 0 and a thread line has a number for each copy; the text's length where there is none.
+// The place of the line with this letter before which k others have it; the text's length where there is none.
 pub fn find(text: &[u8], wanted: u8, k: usize) -> usize {
     let mut left = k;
     let mut at: usize = 0;
     while at < text.len() {
-        let n = counted(text, at, wanted);
-        if left < n {
-            return at;
+        if letter(text, at) == wanted {
+            if left == 0 {
+                return at;
+            }
+            left -= 1;
         }
-        left -= n;
         at = next_line(text, at);
     }
     at

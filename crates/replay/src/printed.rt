@@ -1,17 +1,16 @@
-// The verdict that a report prints, taken from its lines as they stand: `(free)`, or `(deadlock` or `(grown` with the threads of `(stuck T ..)` and a step for each `(step T C)`.
+// The verdict that a report prints, taken from its lines as they stand: `(free)`, or `(deadlock` with the threads of `(stuck T ..)` and a step for each `(step T C)`.
 ghost use Rattle.std.specs.Prelude.{◌≤◌, length};
 ghost use Rattle.replay.specs.Tables.{state_room};
 
 use super::gateway::{CHOICE, take};
 use super::lines::next_line;
 
-// What was read so far: how many lines `(free)`, `(deadlock` and `(grown` there are, the threads that are named stuck, as a mask, how many steps were taken, and whether all
-// lines of a schedule were right: the stuck threads once and ascending, each step permitted.
+// What was read so far: how many lines `(free)` and `(deadlock` there are, the threads that are named stuck, as a mask, how many steps were taken, and whether all lines of a
+// deadlock were right: the stuck threads once and ascending, each step permitted.
 #[derive(Drop)]
 pub struct Told {
     pub free: usize,
     pub deadlocks: usize,
-    pub grown: usize,
     pub named: u64,
     pub steps: usize,
     pub right: bool,
@@ -23,7 +22,6 @@ impl Told {
         Told {
             free: 0,
             deadlocks: 0,
-            grown: 0,
             named: 0,
             steps: 0,
             right: true,
@@ -117,7 +115,6 @@ fn read_stuck(line: &[u8], told: Told) -> Told {
     Told {
         free: told.free,
         deadlocks: told.deadlocks,
-        grown: told.grown,
         named,
         steps: told.steps,
         right: told.right && told.named == 0 && told.steps == 0 && named != 0,
@@ -135,14 +132,13 @@ fn read_step(text: &[u8], line: &[u8], told: Told, state: &mut [usize]) -> Told
     Told {
         free: told.free,
         deadlocks: told.deadlocks,
-        grown: told.grown,
         named: told.named,
         steps: more(told.steps),
         right,
     }
 }
 
-// Reads a line of a schedule; others than these are passed over.
+// Reads a line of a deadlock; others than these are passed over.
 fn read_inside(text: &[u8], line: &[u8], told: Told, state: &mut [usize]) -> Told
     requires { state_room ≤ length state.old }
 {
@@ -166,10 +162,6 @@ fn read_line(text: &[u8], line: &[u8], told: Told, state: &mut [usize]) -> Told
     }
     if begins(line, b"(deadlock") {
         next.deadlocks = more(told.deadlocks);
-        return next;
-    }
-    if begins(line, b"(grown") {
-        next.grown = more(told.grown);
         return next;
     }
     read_inside(text, line, told, state)

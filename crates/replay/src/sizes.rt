@@ -1,13 +1,14 @@
-// The sum of the threads' sizes, at the highest counts, from the plan's text. Procedure p has entry p + 1 of a table.
+// The sum of the threads' sizes, from the plan's text. Procedure p has entry p + 1 of a table, and the sum has the last.
 // A pass over the text settles the sizes of the procedures whose callees have theirs settled. No procedure reaches itself, so as many passes as procedures settle all, in whatever order they stand.
-ghost use Rattle.std.specs.Prelude.{◌≤◌, length};
-ghost use Rattle.limits.specs.Limits.{max_procs};
-ghost use Rattle.replay.specs.Tables.{sizes_room};
+ghost use Rattle.std.specs.Prelude.{◌<◌, ◌≤◌, length};
+ghost use Rattle.replay.specs.Tables.{sum_entry, sizes_room};
 
-use super::lines::{find, letter, next_line, number};
-use limits::{MAX_PROCS, MAX_THREADS};
+use super::lines::{letter, next_line, number};
+use limits::MAX_PROCS;
 
-pub const SIZES_ROOM: usize = MAX_PROCS + 1;
+const SUM: usize = MAX_PROCS + 1;
+
+pub const SIZES_ROOM: usize = SUM + 1;
 
 // The size of a procedure, as far as the table has it.
 fn size(sizes: &[usize], proc: usize) -> usize
@@ -16,7 +17,7 @@ fn size(sizes: &[usize], proc: usize) -> usize
     if proc < MAX_PROCS { sizes[proc + 1] } else { 0 }
 }
 
-// What a line adds to the size of its procedure.
+// What a line adds to the size of its procedure, or a `(thread` line to the sum.
 fn cost(text: &[u8], at: usize, sizes: &[usize]) -> usize
     requires { sizes_room ≤ length sizes.now }
 {
@@ -28,16 +29,20 @@ fn cost(text: &[u8], at: usize, sizes: &[usize]) -> usize
         b's' => 2,
         b'l' => 2,
         b'c' => std::num::wrapping_add_usize(1, size(sizes, number(text, at))),
+        b't' => size(sizes, number(text, at)),
         _ => 0,
     }
 }
 
 // The entry to which a line adds, after the line before added to `entry`.
 fn next_entry(entry: usize, form: u8) -> usize
-    ensures { result ≤ max_procs }
+    ensures { result ≤ sum_entry }
 {
-    if MAX_PROCS <= entry {
-        return MAX_PROCS;
+    if form == b't' {
+        return SUM;
+    }
+    if SUM <= entry {
+        return SUM;
     }
     if form == b'p' { entry + 1 } else { entry }
 }
@@ -69,8 +74,8 @@ fn pass(text: &[u8], sizes: &mut [usize])
     }
 }
 
-// Settles the sizes of all procedures, whatever the table has.
-fn settle(text: &[u8], sizes: &mut [usize])
+// The sum, whatever the table has.
+pub fn sum(text: &[u8], sizes: &mut [usize]) -> usize
     requires { sizes_room ≤ length sizes.old }
 {
     let mut passes: usize = 0;
@@ -78,37 +83,5 @@ fn settle(text: &[u8], sizes: &mut [usize])
         pass(text, sizes);
         passes += 1;
     }
-}
-
-// The size of a thread's procedure; 0 where there is no such thread.
-fn thread_size(text: &[u8], t: usize, sizes: &[usize]) -> usize
-    requires { sizes_room ≤ length sizes.now }
-{
-    let line = find(text, b't', t);
-    if line < text.len() {
-        size(sizes, number(text, line))
-    } else {
-        0
-    }
-}
-
-// The sizes of all threads added up.
-fn add_threads(text: &[u8], sizes: &[usize]) -> usize
-    requires { sizes_room ≤ length sizes.now }
-{
-    let mut all: usize = 0;
-    let mut t: usize = 0;
-    while t < MAX_THREADS {
-        all = std::num::wrapping_add_usize(all, thread_size(text, t, sizes));
-        t += 1;
-    }
-    all
-}
-
-// The sum, whatever the table has.
-pub fn sum(text: &[u8], sizes: &mut [usize]) -> usize
-    requires { sizes_room ≤ length sizes.old }
-{
-    settle(text, sizes);
-    add_threads(text, sizes)
+    sizes[SUM]
 }

@@ -9,8 +9,8 @@ use Rattle.laws.specs.Bytes.{bytes, equal}
 use Rattle.laws.specs.Mask.{bit}
 use Rattle.semantics.specs.Pairs.{pair_of}
 use Rattle.semantics.specs.HoldsOnly.{as_record}
-use Rattle.report_lines.specs.Lines.{digits_in, digits, members, report_open, free_line, deadlock_open, grown_open, closing}
-use Rattle.report_lines.specs.Lines.{proc_open, refused_line, wanted_text, held_text, shared_text, had_text, pair_form, pair_line, stuck_line, step_line, lines_of, proc_lines, deadlock_lines, grown_lines}
+use Rattle.report_lines.specs.Lines.{digits_in, digits, members, report_open, free_line, deadlock_open, closing}
+use Rattle.report_lines.specs.Lines.{proc_open, refused_line, wanted_text, held_text, shared_text, had_text, pair_form, pair_line, stuck_line, step_line, lines_of, proc_lines, deadlock_lines}
 
 pub record Example : Type 0 where
   pub lines : List ℕ
@@ -28,7 +28,6 @@ examples =
       lines = report_open ++ proc_lines 0 (as_record 0 ∷ as_record 33 ∷ []) ++ proc_lines 1 (as_record 1 ∷ as_record 64 ∷ []) ++ deadlock_lines 3 (0 ∷ 1 ∷ []) ++ closing;
       text = "(report\n(proc 0\n(pair 0)\n(pair 1 0)\n)\n(proc 1\n(pair 1)\n(pair 0 1)\n)\n(deadlock\n(stuck 0 1)\n(step 0 0)\n(step 1 0)\n)\n)\n";
     }
-    ∷ record { lines = grown_lines 5 (1 ∷ 2 ∷ []); text = "(grown\n(stuck 0 2)\n(step 1 0)\n(step 2 0)\n)\n" }
     ∷ record { lines = report_open ++ refused_line 9 37 ++ closing; text = "(report\n(refused 9 37)\n)\n" }
     ∷ record {
       lines = proc_open 63 ++ pair_line (as_record 68719509582) ++ stuck_line 63 ++ step_line 21 ++ refused_line 10 30207;
@@ -45,5 +44,5 @@ right [] = true
 right (e ∷ es) = equal e.lines (bytes e.text) && right es
 
 pub examples-right : T (right examples)
-unfolding examples right equal bit digits_in digits members report_open free_line deadlock_open grown_open closing proc_open refused_line wanted_text held_text shared_text had_text pair_form pair_line stuck_line step_line lines_of proc_lines deadlock_lines grown_lines
+unfolding examples right equal bit digits_in digits members report_open free_line deadlock_open closing proc_open refused_line wanted_text held_text shared_text had_text pair_form pair_line stuck_line step_line lines_of proc_lines deadlock_lines
 examples-right = tt

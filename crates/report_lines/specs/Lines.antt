@@ -43,10 +43,6 @@ free_line = bytes "(free)\n"
 unfoldable pub deadlock_open : List ℕ
 deadlock_open = bytes "(deadlock\n"
 
--- 02, change 10: "the third prints `(grown` for `(deadlock`"
-unfoldable pub grown_open : List ℕ
-grown_open = bytes "(grown\n"
-
 -- "`)`"
 unfoldable pub closing : List ℕ
 closing = bytes ")\n"
@@ -109,16 +105,9 @@ step_line e = bytes "(step " ++ digits (e % 8) ++ (bytes " " ++ digits (e / 8)) 
 unfoldable pub proc_lines : ℕ → List ℕ → List ℕ
 proc_lines p pairs = proc_open p ++ lines_of pair_line pairs ++ closing
 
--- "A deadlock is `(deadlock`, `(stuck T ..)` .., one `(step T C)` per entry (thread, choice), `)`.": behind a first line the stuck threads and the schedule
-abbrev pub schedule_lines : List ℕ → ℕ → List ℕ → List ℕ
-schedule_lines first threads entries = first ++ stuck_line threads ++ lines_of step_line entries ++ closing
-
+-- "A deadlock is `(deadlock`, `(stuck T ..)` .., one `(step T C)` per entry (thread, choice), `)`."
 unfoldable pub deadlock_lines : ℕ → List ℕ → List ℕ
-deadlock_lines = schedule_lines deadlock_open
-
--- the same of a deadlock that is not there at the lowest counts
-unfoldable pub grown_lines : ℕ → List ℕ → List ℕ
-grown_lines = schedule_lines grown_open
+deadlock_lines threads entries = deadlock_open ++ stuck_line threads ++ lines_of step_line entries ++ closing
 
 -- ---- bytes that suffice for a line, whatever the numbers: a machine number has at most 20 digits, one of 8 bits 3, a member of a mask of 64 digits 2
 
@@ -158,6 +147,6 @@ step_line_room = 6 + 1 + 1 + 4 + 2
 abbrev pub proc_lines_room : ℕ → ℕ
 proc_lines_room n = proc_open_room + n * pair_line_room + 2
 
--- for a deadlock with n entries, grown or not
+-- for a deadlock with n entries
 abbrev pub deadlock_room : ℕ → ℕ
 deadlock_room n = 10 + stuck_line_room + n * step_line_room + 2

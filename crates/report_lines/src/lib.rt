@@ -5,7 +5,7 @@ ghost use Rattle.limits.specs.Limits.{lock_count, claim_count};
 ghost use Rattle.laws.specs.Wrote.{Wrote};
 ghost use Rattle.columns.specs.Columns.{pair_number, pair_numbers};
 ghost use Rattle.report_lines.specs.Lines.{digits, members, behind_blank, proc_open, refused_line, wanted_text, held_text, shared_text, lock_text, had_locks, had_text, pair_form, pair_line, stuck_line, step_line};
-ghost use Rattle.report_lines.specs.Lines.{closing, lines_of, proc_lines, schedule_lines, deadlock_lines, grown_lines};
+ghost use Rattle.report_lines.specs.Lines.{lines_of, proc_lines, deadlock_lines};
 ghost use Rattle.report_lines.specs.Lines.{proc_open_room, refused_line_room, wanted_room, pair_form_room, pair_line_room, stuck_line_room, step_line_room, proc_lines_room, deadlock_room};
 
 use limits::LOCK_COUNT;
@@ -233,29 +233,13 @@ pub fn put_proc_lines(out: &mut [u8], at: usize, p: usize, masks: &[u64], codes:
     put_text(out, j, b")\n")
 }
 
-// Behind a first line the stuck threads, the steps of the schedule, `)`
-fn put_schedule(out: &mut [u8], at: usize, first: &[u8], threads: u8, entries: &[u16]) -> usize
-    requires { at + (length first.now + stuck_line_room + length entries.now * step_line_room + 2) ≤ length out.old }
-    ensures { Wrote out.old out.new at result (schedule_lines first.now threads entries.now) }
-{
-    let i = put_text(out, at, first);
-    let j = put_stuck(out, i, threads);
-    let k = put_steps(out, j, entries);
-    put_text(out, k, b")\n")
-}
-
 // A deadlock: `(deadlock`, the stuck threads, the steps of the schedule, `)`
 pub fn put_deadlock(out: &mut [u8], at: usize, threads: u8, entries: &[u16]) -> usize
     requires { at + deadlock_room (length entries.now) ≤ length out.old }
     ensures { Wrote out.old out.new at result (deadlock_lines threads entries.now) }
 {
-    put_schedule(out, at, b"(deadlock\n", threads, entries)
-}
-
-// A deadlock that is not there at the lowest counts: `(grown` for `(deadlock`
-pub fn put_grown(out: &mut [u8], at: usize, threads: u8, entries: &[u16]) -> usize
-    requires { at + deadlock_room (length entries.now) ≤ length out.old }
-    ensures { Wrote out.old out.new at result (grown_lines threads entries.now) }
-{
-    put_schedule(out, at, b"(grown\n", threads, entries)
+    let i = put_text(out, at, b"(deadlock\n");
+    let j = put_stuck(out, i, threads);
+    let k = put_steps(out, j, entries);
+    put_text(out, k, b")\n")
 }

@@ -11,22 +11,21 @@ use Rattle.laws.specs.Bytes.{bytes}
 use Rattle.text.specs.declared.Refusal.{Refusal}
 use Rattle.semantics.specs.Plan.{Block}
 use Rattle.semantics.specs.Pairs.{pair_list}
-use Rattle.plan.specs.Rules.{tree_of, plan_of}
-use Rattle.plan.specs.Settled.{table_tree, table_plan, RulesKept}
+use Rattle.plan.specs.Rules.{plan_of}
+use Rattle.plan.specs.Settled.{table_plan, RulesKept}
 use Rattle.plan.proofs.WithinSize.{few-pairs}
 use Rattle.procs.specs.declared.Layout.{Layout}
 use Rattle.procs.specs.Laid.{Laid}
 use Rattle.laws.specs.Wrote.{Wrote}
-use Rattle.report_lines.specs.Lines.{report_open, free_line, closing, proc_lines, deadlock_lines, grown_lines, refused_line, proc_lines_room, deadlock_room}
+use Rattle.report_lines.specs.Lines.{report_open, free_line, closing, proc_lines, deadlock_lines, refused_line, proc_lines_room, deadlock_room}
 use Rattle.laws.proofs.Wrote.{wrote_none, wrote-start, wrote-length}
 use Rattle.columns.specs.Columns.{pair_numbers}
 use Rattle.columns.proofs.Numbers.{numbers-length, numbers-take}
 use Rattle.report_text.specs.declared.Findings.{Findings}
 use Rattle.answers.specs.declared.Verdict.{Verdict}
-use Rattle.answers.specs.declared.Verdict.TheVariants.{Free, Deadlock, Refused, Grown}
-use Rattle.answers.specs.Judgement.{schedule_length}
+use Rattle.answers.specs.declared.Verdict.TheVariants.{Free, Deadlock, Refused}
 use Rattle.report_text.specs.Report.{procedures, proc_parts, verdict_part, parts_of, part_of}
-use Rattle.report_text.specs.Tables.{part_room, schedule_in, ProcTables, Prepared}
+use Rattle.report_text.specs.Tables.{part_room, schedule_length, schedule_in, ProcTables, Prepared}
 
 -- ---- a procedure
 
@@ -87,28 +86,17 @@ pub refused-part : (v : Verdict) (x : Refusal) (entries out out' : List ℕ) (i 
 unfolding verdict_part
 refused-part v x entries out out' i g w = rw g w
 
--- a verdict with a schedule of n entries
-pub schedule-room : (entries out : List ℕ) (n : ℕ) → max_entries ≡ length entries → part_room ≤ length out → 0 + deadlock_room (length (take (n - 0) entries)) ≤ length out
-schedule-room entries out n h k = rw length-take (omega arith)
-
-module _ (v : Verdict) (n S : ℕ) (entries : List ℕ) where
-  pub deadlock-within : v ≡ Deadlock n S → schedule_length v ≤ length entries → n ≤ length entries
+module _ (v : Verdict) (n S : ℕ) (entries : List ℕ) (g : v ≡ Deadlock n S) where
+  pub schedule-within : schedule_length v ≤ length entries → n ≤ length entries
   unfolding schedule_length
-  deadlock-within g h = rw g at h
+  schedule-within h = rw g at h
 
-  pub grown-within : v ≡ Grown n S → schedule_length v ≤ length entries → n ≤ length entries
-  unfolding schedule_length
-  grown-within g h = rw g at h
+  pub schedule-room : (out : List ℕ) → max_entries ≡ length entries → part_room ≤ length out → 0 + deadlock_room (length (take (n - 0) entries)) ≤ length out
+  schedule-room out h k = rw length-take (omega arith)
 
-  pub deadlock-part : v ≡ Deadlock n S → (out out' : List ℕ) (i : ℕ) → Wrote out out' 0 i (deadlock_lines S (take (n - 0) entries))
-      → Wrote out out' 0 i (verdict_part v (schedule_in v entries))
+  pub deadlock-part : (out out' : List ℕ) (i : ℕ) → Wrote out out' 0 i (deadlock_lines S (take (n - 0) entries)) → Wrote out out' 0 i (verdict_part v (schedule_in v entries))
   unfolding verdict_part schedule_in schedule_length
-  deadlock-part g out out' i w = let e : n - 0 ≡ n = omega arith in rw g (rw e at w)
-
-  pub grown-part : v ≡ Grown n S → (out out' : List ℕ) (i : ℕ) → Wrote out out' 0 i (grown_lines S (take (n - 0) entries))
-      → Wrote out out' 0 i (verdict_part v (schedule_in v entries))
-  unfolding verdict_part schedule_in schedule_length
-  grown-part g out out' i w = let e : n - 0 ≡ n = omega arith in rw g (rw e at w)
+  deadlock-part out out' i w = let e : n - 0 ≡ n = omega arith in rw g (rw e at w)
 
 -- ---- the parts by their places
 
@@ -144,7 +132,7 @@ module _ (text : List ℕ) (j : Findings) (table entries : List ℕ) (x : Prepar
           → Wrote out out' 0 i (part_of text j.verdict (schedule_in j.verdict entries) k)
       go zero h b w = absurd (h refl)
       go (suc m) h b w =
-          let p : table_tree (take j.forms table) ≡ tree_of text = (x.tables (omega arith)).1 in
+          let p : table_plan (take j.forms table) ≡ plan_of text = (x.tables (omega arith)).1 in
           let c : suc m - 1 ≡ 0 + m = omega arith in
           let e : part_of text j.verdict (schedule_in j.verdict entries) (suc m) ≡ proc_lines (0 + m) (pair_list (plan_of text).procs (0 + m)) =
           place_procedure (plan_of text).procs (verdict_part j.verdict (schedule_in j.verdict entries) ∷ closing ∷ []) (procedures j.verdict (plan_of text)) 0 m (omega (arith, x.reported)) in

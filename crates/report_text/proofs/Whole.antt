@@ -9,12 +9,12 @@ use lib.ListN.{length, get_or, get_or-eq_default}
 use Rattle.limits.specs.Limits.{max_procs}
 use Rattle.laws.proofs.Tests.{lt_or_le}
 use Rattle.semantics.specs.Plan.{Block}
-use Rattle.plan.specs.Rules.{plan_refusal, tree_of, plan_of}
+use Rattle.plan.specs.Rules.{plan_refusal, plan_of}
 use Rattle.plan.proofs.AcceptedTable.{accepted-settled}
-use Rattle.report_lines.specs.Lines.{report_open, free_line, closing, proc_open, proc_lines, deadlock_open, grown_open, deadlock_lines, grown_lines, refused_line}
+use Rattle.report_lines.specs.Lines.{report_open, free_line, closing, proc_open, proc_lines, deadlock_open, deadlock_lines, refused_line}
 use Rattle.report_text.specs.declared.Findings.{Findings}
 use Rattle.answers.specs.declared.Verdict.{Verdict}
-use Rattle.answers.specs.declared.Verdict.TheVariants.{Free, Deadlock, Refused, Grown}
+use Rattle.answers.specs.declared.Verdict.TheVariants.{Free, Deadlock, Refused}
 use Rattle.answers.specs.Judgement.{Judgement}
 use Rattle.report_text.specs.Report.{procedures, proc_parts, verdict_part, parts_of, part_of, Report}
 use Rattle.report_text.specs.Tables.{most_parts, schedule_in, Prepared}
@@ -42,11 +42,10 @@ unfolding proc_lines proc_open
 procedure_bytes p ws = omega arith
 
 verdict-bytes : (v : Verdict) (schedule : List ℕ) → 0 < length (verdict_part v schedule)
-unfolding verdict_part free_line deadlock_lines deadlock_open grown_lines grown_open refused_line
+unfolding verdict_part free_line deadlock_lines deadlock_open refused_line
 verdict-bytes Free schedule = omega arith
 verdict-bytes (Deadlock n S) schedule = omega arith
 verdict-bytes (Refused x) schedule = omega arith
-verdict-bytes (Grown n S) schedule = omega arith
 
 procedures-bytes : (ps : List Block) (rest : List (List ℕ)) (n p : ℕ) → NonEmpty rest → NonEmpty (proc_parts ps p n rest)
 unfolding proc_parts
@@ -74,13 +73,12 @@ unfolding proc_parts
 procedures-length ps rest zero p = omega arith
 procedures-length ps rest (suc n) p = omega (arith, procedures-length ps rest n (suc p))
 
-few-procedures : (text : List ℕ) (v : Verdict) (schedule : List ℕ) → Judgement (plan_refusal text) (tree_of text) v schedule → procedures v (plan_of text) ≤ max_procs
+few-procedures : (text : List ℕ) (v : Verdict) (schedule : List ℕ) → Judgement (plan_refusal text) (plan_of text) v schedule → procedures v (plan_of text) ≤ max_procs
 unfolding Judgement procedures
 few-procedures text Free schedule d = (accepted-settled text d.0).few-procs
 few-procedures text (Deadlock n S) schedule d = (accepted-settled text d.0).few-procs
 few-procedures text (Refused x) schedule d = omega arith
-few-procedures text (Grown n S) schedule d = (accepted-settled text d.0).few-procs
 
-pub few_parts : (text : List ℕ) (v : Verdict) (schedule : List ℕ) → Judgement (plan_refusal text) (tree_of text) v schedule → length (parts_of text v schedule) ≤ most_parts
+pub few_parts : (text : List ℕ) (v : Verdict) (schedule : List ℕ) → Judgement (plan_refusal text) (plan_of text) v schedule → length (parts_of text v schedule) ≤ most_parts
 unfolding parts_of
 few_parts text v schedule d = omega (arith, procedures-length (plan_of text).procs (verdict_part v schedule ∷ closing ∷ []) (procedures v (plan_of text)) 0, few-procedures text v schedule d)

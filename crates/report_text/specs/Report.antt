@@ -4,30 +4,28 @@ use Rattle.std.specs.Prelude.{ℕ, zero, suc, ◌≡◌, length, get_or}
 use mathlib.Core.List.{List, [], ◌∷◌, flatten}
 use Rattle.semantics.specs.Plan.{Block, LockPlan}
 use Rattle.semantics.specs.Pairs.{pair_list}
-use Rattle.plan.specs.Rules.{tree_of, plan_of, plan_refusal}
+use Rattle.plan.specs.Rules.{plan_of, plan_refusal}
 use Rattle.answers.specs.Judgement.{Judgement}
-use Rattle.report_lines.specs.Lines.{report_open, free_line, closing, proc_lines, deadlock_lines, grown_lines, refused_line}
+use Rattle.report_lines.specs.Lines.{report_open, free_line, closing, proc_lines, deadlock_lines, refused_line}
 use Rattle.answers.specs.declared.Verdict.{Verdict}
-use Rattle.answers.specs.declared.Verdict.TheVariants.{Free, Deadlock, Refused, Grown}
+use Rattle.answers.specs.declared.Verdict.TheVariants.{Free, Deadlock, Refused}
 
 -- the procedures that are reported: "A refused plan gives only `(report`, `(refused R L)` (rule, line) and `)`"
 unfoldable pub procedures : Verdict → LockPlan → ℕ
 procedures Free plan = length plan.procs
 procedures (Deadlock n S) plan = length plan.procs
 procedures (Refused x) plan = 0
-procedures (Grown n S) plan = length plan.procs
 
 -- "for each procedure `(proc P` with its pairs and `)`": n of them from p on, before other parts
 unfoldable pub proc_parts : List Block → ℕ → ℕ → List (List ℕ) → List (List ℕ)
 proc_parts ps p zero rest = rest
 proc_parts ps p (suc n) rest = proc_lines p (pair_list ps p) ∷ proc_parts ps (suc p) n rest
 
--- "then the verdict", with its schedule. 02, change 10: "the third prints `(grown` for `(deadlock`"
+-- "then the verdict", with its schedule
 unfoldable pub verdict_part : Verdict → List ℕ → List ℕ
 verdict_part Free schedule = free_line
 verdict_part (Deadlock n S) schedule = deadlock_lines S schedule
 verdict_part (Refused x) schedule = refused_line x.rule x.line
-verdict_part (Grown n S) schedule = grown_lines S schedule
 
 -- the parts in order
 unfoldable pub parts_of : List ℕ → Verdict → List ℕ → List (List ℕ)
@@ -41,5 +39,5 @@ part_of text v schedule k = get_or (parts_of text v schedule) k []
 pub record Report (text bytes : List ℕ) : Type 0 where
   pub verdict : Verdict
   pub schedule : List ℕ
-  pub judged : Judgement (plan_refusal text) (tree_of text) verdict schedule
+  pub judged : Judgement (plan_refusal text) (plan_of text) verdict schedule
   pub joined : bytes ≡ flatten (parts_of text verdict schedule)

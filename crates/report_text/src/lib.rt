@@ -4,11 +4,10 @@ ghost use Rattle.limits.specs.Limits.{max_forms, max_pairs, max_entries};
 ghost use Rattle.semantics.specs.Pairs.{pair_list};
 ghost use Rattle.plan.specs.Settled.{table_plan, RulesKept};
 ghost use Rattle.procs.specs.Laid.{Laid};
-ghost use Rattle.answers.specs.Judgement.{schedule_length};
 ghost use Rattle.laws.specs.Wrote.{Wrote};
 ghost use Rattle.report_lines.specs.Lines.{proc_lines};
 ghost use Rattle.report_text.specs.Report.{verdict_part, part_of};
-ghost use Rattle.report_text.specs.Tables.{part_room, schedule_in, PlanPrepared, Prepared, ProcTables};
+ghost use Rattle.report_text.specs.Tables.{part_room, schedule_length, schedule_in, PlanPrepared, Prepared, ProcTables};
 
 use answers::Verdict;
 use limits::{MAX_PAIRS, MAX_PROCS};
@@ -49,7 +48,7 @@ fn judge_plan(table: &[u64], layout: Layout, entries: &mut [u16]) -> Findings
     }
 }
 
-// A text read and judged: its forms are left in the table, the schedule, where the verdict has one, in the entries.
+// A text read and judged: its forms are left in the table, the schedule of a deadlock in the entries.
 pub fn judge_text(text: &[u8], table: &mut [u64], entries: &mut [u16]) -> Findings
     requires { (max_forms ≤ length table.old) × (max_entries ≡ length entries.old) }
     ensures { Prepared text.now result table.new entries.new }
@@ -113,9 +112,6 @@ fn put_verdict(verdict: Verdict, entries: &[u16], out: &mut [u8]) -> usize
             report_lines::put_deadlock(out, 0, stuck, &entries[0..n])
         }
         Verdict::Refused(refusal) => report_lines::put_refused(out, 0, refusal.rule, refusal.line),
-        Verdict::Grown { entries: n, stuck } => {
-            report_lines::put_grown(out, 0, stuck, &entries[0..n])
-        }
     }
 }
 

@@ -7,5 +7,3 @@ pub mod SearchComplete
 pub mod ConflictTest
 pub mod Characterisation
 pub mod MoreThreads
-pub mod Ranges
-pub mod LowestLists

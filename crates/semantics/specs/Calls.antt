@@ -23,7 +23,7 @@ pub data Reaches (ps : List Block) : ℕ → ℕ → Type 0 where
 abbrev pub Recursive : List Block → ℕ → Type 0
 Recursive ps p = Reaches ps p p
 
--- p is a procedure that some thread, 02, change 6, "names or reaches through calls": a thread runs it, or runs one that reaches it
+-- p is a procedure that some thread, 02, change 6, "names or reaches through calls": a thread line names it, or names one that reaches it
 pub data Reachable (plan : LockPlan) (p : ℕ) : Type 0 where
   named : Memᴰ p plan.threads → Reachable plan p
   through-calls : {q : ℕ} → Memᴰ q plan.threads → Reaches plan.procs q p → Reachable plan p

@@ -1,4 +1,4 @@
--- What a gateway runs, at given counts, and what the rules settle of it. 01, "The plan text".
+-- The tree of a lock plan, and what the rules settle of it. 01, "The plan text".
 use Rattle.std.specs.Prelude.{ℕ, ◌<◌, Bool, true, false, List, [], ◌∷◌, T, length, get_or}
 use Rattle.limits.specs.Limits.{claim_count}
 
@@ -15,8 +15,7 @@ pub data Block : Type 0 where
   either : Block → Block → Block → Block
   end : ℕ → Block → Block
 
--- What a gateway runs, at given counts: the blocks of the plan's procedures, "numbered from 0 in text order", and the procedure that each thread runs, "threads from 0". The plan of
--- a text, with its ranges, is `RangedPlan`.
+-- A lock plan: the blocks of its procedures, "numbered from 0 in text order", and the procedure that each thread runs, "threads from 0".
 pub record LockPlan : Type 0 where
   pub procs : List Block
   pub threads : List ℕ

@@ -21,14 +21,6 @@ pub record Largest (ps : List Block) (ts : List ThreadState) (S : ℕ → Bool) 
 abbrev pub DeadlockFree : List Block → List ℕ → Type 0
 DeadlockFree ps ns = (es : List ℕ) (ts : List ThreadState) (S : ℕ → Bool) → run ps (start ps ns) es ≡ some ts → Stuck ps ts S → ⊥
 
--- Some run of the gateway reaches a moment with two or more threads stuck on each other (demand 3).
-pub record StuckReached (plan : LockPlan) : Type 0 where
-  pub entries : List ℕ
-  pub there : List ThreadState
-  pub set : ℕ → Bool
-  pub reached : run plan.procs (start plan.procs plan.threads) entries ≡ some there
-  pub stuck : Stuck plan.procs there set
-
 -- The schedule of a deadlock, the one part of an answer that 01 leaves open: "it is a run, no longer than the sum of its threads' sizes, and the set is the largest
 -- stuck one at its end, of two or more threads."
 pub record Schedule (plan : LockPlan) (es : List ℕ) (S : ℕ → Bool) : Type 0 where

@@ -14,7 +14,7 @@ use Rattle.text.proofs.Matches.{match_arm}
 use Rattle.sizes.specs.Passes.{cost_of, known_size}
 
 module _ (f : Form) (sizes : List ℕ) (r : ℕ) where
-  cost_arm : (n : ℕ) (ks : List ℕ) → OneOf ks (tag_of the_type f) → map (λ k. cost_of (known_size sizes) (Matches.form_at f k)) ks ≡ map (λ k. n) ks → r ≡ min size_room n
+  cost_arm : (n : ℕ) (ks : List ℕ) → OneOf ks (tag_of the_type f) → map (λ k. cost_of (known_size sizes) (Matches.form_at (number_in f) k)) ks ≡ map (λ k. n) ks → r ≡ min size_room n
       → r ≡ min size_room (cost_of (known_size sizes) f)
   cost_arm n ks h e k = k ∙ ap (min size_room) (sym (match_arm (cost_of (known_size sizes)) n ks f h e))
 

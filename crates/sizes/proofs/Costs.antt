@@ -9,11 +9,10 @@ use Rattle.text.specs.declared.Form.{Form}
 use Rattle.text.specs.declared.Form.TheVariants.{Close, Two}
 use Rattle.text.specs.Forms.{number_in, kind_in}
 use Rattle.semantics.specs.Plan.{Block, done, skip, call, hold, loop, either, end, body_in, Written}
-use Rattle.semantics.specs.Ranges.{ThreadLine}
 use Rattle.semantics.specs.Sizes.{size_with}
 use Rattle.plan.specs.Grammar.{block_forms, proc_forms, thread_forms}
 use Rattle.plan.specs.Table.{form_at, table_forms}
-use Rattle.plan.specs.Settled.{PlanTable, table_tree, table_plan}
+use Rattle.plan.specs.Settled.{PlanTable, table_plan}
 use Rattle.plan.specs.Starts.{Starts}
 use Rattle.plan.proofs.ClaimForms.{by_claim}
 use Rattle.procs.proofs.Places.{map-drop, PlacedBlock, places-numbers, table_placed}
@@ -39,13 +38,13 @@ module _ (s : ℕ → ℕ) where
       )
   cost_block C (end l r) w fs = absurd w
 
-  cost_behind : (rest : List Block) (ns : List ThreadLine) → cost_from s (Close ∷ proc_forms rest (thread_forms ns (Close ∷ []))) ≡ 0
+  cost_behind : (rest : List Block) (ns : List ℕ) → cost_from s (Close ∷ proc_forms rest (thread_forms ns (Close ∷ []))) ≡ 0
   unfolding cost_from cost_of kind_in proc_forms thread_forms number_in
   cost_behind [] [] = refl
   cost_behind [] (n ∷ ns) = refl
   cost_behind (b ∷ bs) ns = refl
 
-  cost_placed : (C : ℕ → Type 0) (whole : List Form) (ns : List ThreadLine) (k : ℕ) (b : Block) → Written C b → PlacedBlock whole (thread_forms ns (Close ∷ [])) k b
+  cost_placed : (C : ℕ → Type 0) (whole : List Form) (ns : List ℕ) (k : ℕ) (b : Block) → Written C b → PlacedBlock whole (thread_forms ns (Close ∷ [])) k b
       → cost_from s (drop k whole) ≡ size_with s b
   cost_placed C whole ns k b w x = rw (x.written, cost_block C b w _, cost_behind x.rest ns) (omega arith)
 
@@ -54,4 +53,4 @@ module _ (ws starts : List ℕ) (t : PlanTable ws) (k : Starts ws starts) where
       → cost_from s (table_forms (drop (get_or starts p 0) ws)) ≡ size_with s (body_in (table_plan ws).procs p)
   start_cost s p h =
       ap (cost_from s) (map-drop form_at (get_or starts p 0) ws ∙ ap (λ n. drop n (table_forms ws)) (k.numbers p h ∙ sym (places-numbers (table_forms ws) 0 p)))
-      ∙ cost_placed s _ (table_forms ws) (table_tree ws).lines _ _ (t.settled.callees_present p) (table_placed ws t p h)
+      ∙ cost_placed s _ (table_forms ws) (table_plan ws).threads _ _ (t.settled.callees_present p) (table_placed ws t p h)

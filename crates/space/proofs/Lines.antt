@@ -16,7 +16,7 @@ use Rattle.text.specs.declared.Refusal.{Refusal}
 use Rattle.semantics.specs.Sizes.{thread_size}
 use Rattle.plan.specs.declared.Reading.TheVariants.{Accepted}
 use Rattle.plan.specs.declared.Reading.TheVariants as plan
-use Rattle.plan.specs.Rules.{tree_of, plan_of, plan_refusal}
+use Rattle.plan.specs.Rules.{plan_of, plan_refusal}
 use Rattle.plan.proofs.Filling.{refused-is}
 use Rattle.plan.proofs.AcceptedTable.{plan-kept, accepted-settled}
 use Rattle.sizes.specs.Space.{SpaceOf}
@@ -64,7 +64,6 @@ module _ (text table : List ℕ) (c : CheckedText) (t : Checks text c table) whe
     space = t.space kept
 
     pub space-few : c.space.threads ≤ max_threads
-    unfolding tree_of
     space-few = omega (arith, space.threads, (accepted-settled text kept).few-threads)
 
     pub space-full : max_threads ≡ length c.space.each

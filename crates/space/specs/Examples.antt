@@ -15,16 +15,9 @@ threads_exchanged = bytes "(plan\n(proc\n(skip)\n)\n(proc\n(loop\n(skip)\n)\n)\n
 abbrev pub sharing : List ℕ
 sharing = bytes "(plan\n(proc\n(share 0\n(hold 0\n(skip)\n)\n)\n)\n(proc\n(share 0\n(skip)\n(skip)\n)\n)\n(thread 0)\n(thread 1)\n)\n"
 
--- 02, change 10: "Rule 5, the sizes' sum and thread numbers use the highest counts". The copies of a line stand one after the other: threads 0 and 1 are copies of procedure 1,
--- of size 2 + 1, thread 2 one of procedure 0, of size 1
-abbrev pub ranged : List ℕ
-ranged = bytes "(plan\n(proc\n(skip)\n)\n(proc\n(loop\n(skip)\n)\n)\n(thread 1 0 2)\n(thread 0 1 1)\n)\n"
-
 -- the slips, and the refusal of the empty text
 pub record SlipsRight : Type 0 where
   pub a : printed_slip case_a ≡ bytes "(size 0 5)\n(size 1 5)\n(sum 10)\n"
   pub threads : printed_slip threads_exchanged ≡ bytes "(size 0 3)\n(size 1 1)\n(sum 4)\n"
   pub shared : printed_slip sharing ≡ bytes "(size 0 5)\n(size 1 4)\n(sum 9)\n"
-  pub highest : printed_slip ranged ≡ bytes "(size 0 3)\n(size 1 3)\n(size 2 1)\n(sum 7)\n"
-  pub backwards : printed_slip (bytes "(plan\n(proc\n(skip)\n)\n(thread 0 3 2)\n)\n") ≡ bytes "(refused 15 5)\n"
   pub empty : printed_slip [] ≡ bytes "(refused 4 1)\n"

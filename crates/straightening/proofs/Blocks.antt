@@ -7,8 +7,7 @@ use mathlib.Core.Path.{◌≡◌, refl, ap, ap₂, ◌∙◌}
 use lib.Dec.{T}
 use lib.ListN.{length, length-map}
 use Rattle.semantics.specs.Plan.{Block, done, skip, call, hold, loop, either, end, ◌⨾◌, LockPlan, body_in, WellFormed, Written}
-use Rattle.semantics.specs.Ranges.{RangedPlan}
-use Rattle.straightening.specs.Straight.{straight, straight_plan, straight_tree, StraightLine}
+use Rattle.straightening.specs.Straight.{straight, straight_plan, StraightLine}
 
 pub straight-length : (ps : List Block) → length (map straight ps) ≡ length ps
 straight-length ps = length-map ps straight
@@ -114,9 +113,9 @@ straight-unaltered (loop b r) s = absurd s
 straight-unaltered (either a b r) s = absurd s
 straight-unaltered (end l r) s = ap (end l) (straight-unaltered r s)
 
-pub straight-twice : (plan : RangedPlan) → straight_tree (straight_tree plan) ≡ straight_tree plan
-unfolding straight_tree
+pub straight-twice : (plan : LockPlan) → straight_plan (straight_plan plan) ≡ straight_plan plan
+unfolding straight_plan
 straight-twice plan =
     let again : map straight (map straight plan.procs) ≡ map straight plan.procs =
     map-map straight straight plan.procs ∙ map_congr_left {l = plan.procs} (λ b m. straight-unaltered (straight b) (straight_line b)) in
-    ap (λ ps. record { procs = ps; lines = plan.lines }) again
+    ap (λ ps. record { procs = ps; threads = plan.threads }) again

@@ -1,5 +1,5 @@
 -- No measure grows: of two blocks one after the other each measure is the sum or the greater one, and an either or a loop counts no less than its blocks. So what rules 4 to 8
--- and 15 settle of a plan they settle of the straightened one (`straight-settled`), and no procedure's size grows (`straight-size`).
+-- settle of a plan they settle of the straightened one (`straight-settled`), and no procedure's size grows (`straight-size`).
 use Prim.Native.Nat.{ℕ, zero, suc, ◌+◌, ◌<◌, ◌≤◌, max}
 use native.Mathlib.Omega.{arith}
 use mathlib.Core.List.{List, [], ◌∷◌, map}
@@ -7,10 +7,9 @@ use mathlib.Core.Path.{◌≡◌}
 use lib.ListN.{length}
 use Rattle.laws.proofs.Sums.{total-le}
 use Rattle.semantics.specs.Plan.{Block, done, skip, call, hold, loop, either, end, ◌⨾◌, LockPlan, thread_proc, body_in}
-use Rattle.semantics.specs.Ranges.{RangedPlan}
 use Rattle.semantics.specs.Sizes.{size_with, size_at, size_of, thread_size, thread_sizes}
 use Rattle.plan.specs.Settled.{statements, all_statements, nesting, Settled}
-use Rattle.straightening.specs.Straight.{straight, straight_plan, straight_tree}
+use Rattle.straightening.specs.Straight.{straight, straight_plan}
 use Rattle.straightening.proofs.Blocks.{straight-length, straight-body, straight-bodies-written, straight-bodies-formed}
 
 -- ---- statements
@@ -64,10 +63,10 @@ straight-nesting (either a b r) =
     omega (arith, nesting_⨾ (straight a) (straight b ⨾ straight r), nesting_⨾ (straight b) (straight r), straight-nesting a, straight-nesting b, straight-nesting r)
 straight-nesting (end l r) = straight-nesting r
 
--- ---- what rules 4 to 8 and 15 settle
+-- ---- what rules 4 to 8 settle
 
-pub straight-settled : (plan : RangedPlan) → Settled plan → Settled (straight_tree plan)
-unfolding straight_tree
+pub straight-settled : (plan : LockPlan) → Settled plan → Settled (straight_plan plan)
+unfolding straight_plan
 straight-settled plan s =
     let ps = plan.procs in
     let n = straight-length ps in
@@ -76,12 +75,11 @@ straight-settled plan s =
       filled = straight-bodies-formed ps s.filled;
       threads-present = λ t h. omega (arith, n, s.threads-present t h);
       some-proc = omega (arith, n, s.some-proc);
-      some-line = s.some-line;
+      some-thread = s.some-thread;
       few-procs = omega (arith, n, s.few-procs);
       few-statements = omega (arith, all-statements ps, s.few-statements);
       few-threads = s.few-threads;
       few_open = λ p. rw (straight-body ps p) (omega (arith, straight-nesting (body_in ps p), s.few_open p));
-      in_range = s.in_range;
     }
 
 -- ---- sizes

@@ -5,21 +5,19 @@ use native.Mathlib.Omega.{arith}
 use mathlib.Core.List.{List, map, map_congr_left}
 use mathlib.Core.Logic.Iff
 use mathlib.Core.Logic.{◌↔◌}
-use mathlib.Core.Path.{◌≡◌, refl, sym, ap, ◌∙◌}
+use mathlib.Core.Path.{◌≡◌, refl, ap, ◌∙◌}
 use lib.Dec.{T}
 use lib.ListN.{length}
 use Rattle.laws.specs.Ascending.{ascending}
 use Rattle.semantics.specs.Plan.{Block, done, skip, call, hold, loop, either, end, ◌⨾◌, LockPlan, body_in, Written, Sound, Ranks, AnyCall, Plain}
 use Rattle.semantics.specs.Run.{up, unlocked}
 use Rattle.semantics.specs.Pairs.{pairs_with, pairs_at, pair_list}
-use Rattle.semantics.specs.Conflict.{conflicting, conflict_in, computed_answer}
-use Rattle.semantics.specs.Ranges.{RangedPlan, highest, lowest, AllInRange, Answer, TrueOf}
-use Rattle.semantics.proofs.Conflicts.Ranges.{answer-exactly}
+use Rattle.semantics.specs.Conflict.{conflicting}
 use Rattle.semantics.specs.Stuck.{DeadlockFree}
 use Rattle.semantics.proofs.Thread.Remainders.{plain_body}
 use Rattle.semantics.proofs.Critical.PairsComplete.{pairs_⨾}
 use Rattle.semantics.proofs.Conflicts.Characterisation.{Ranked, plan-characterisation}
-use Rattle.straightening.specs.Straight.{straight, straight_plan, straight_tree}
+use Rattle.straightening.specs.Straight.{straight, straight_plan}
 use Rattle.straightening.proofs.Blocks.{straight-length, straight-body, straight-written, straight-bodies-written, straight-bodies-formed}
 
 -- ---- pairs
@@ -79,25 +77,15 @@ straight-ranked plan r = record {
   few = r.few;
 }
 
--- the same pairs conflict, whichever procedures the threads run
-same-conflict : (ps : List Block) → Ranks ps → (ns : List ℕ) → conflict_in (record { procs = map straight ps; threads = ns }) ≡ conflict_in (record { procs = ps; threads = ns })
-same-conflict ps r ns = ap conflicting (map_congr_left {l = ns} (λ p m. straight-pair_list ps (plain_body r.sound) p))
-
 -- "and its free or deadlock are equal to the original's"
 pub straight-free : (plan : LockPlan) → Ranked plan
     → DeadlockFree (straight_plan plan).procs (straight_plan plan).threads ↔ DeadlockFree plan.procs plan.threads
 unfolding straight_plan
 straight-free plan r =
-    let test : (T (conflict_in plan) → ⊥) ↔ DeadlockFree (map straight plan.procs) plan.threads =
-    rw (same-conflict plan.procs r.ranks plan.threads) at (plan-characterisation (straight_plan plan) (straight-ranked plan r)).free in
+    let ps = plan.procs in
+    let ns = plan.threads in
+    let same : map (pair_list (map straight ps)) ns ≡ map (pair_list ps) ns =
+    map_congr_left {l = ns} (λ p m. straight-pair_list ps (plain_body r.ranks.sound) p) in
+    let test : (T (conflicting (map (pair_list ps) ns)) → ⊥) ↔ DeadlockFree (map straight ps) ns =
+    rw same at (plan-characterisation (straight_plan plan) (straight-ranked plan r)).free in
     Iff.trans (Iff.symm test) (plan-characterisation plan r).free
-
--- of ranges: each of the three answers is true of the straightened plan exactly if it is of the plan, since pairs conflict at the highest counts and at the lowest as they did
-pub straight-answer : (plan : RangedPlan) → Ranked (highest plan) → AllInRange plan.lines → (a : Answer) → TrueOf (straight_tree plan) a ↔ TrueOf plan a
-unfolding straight_tree straight_plan
-straight-answer plan r ranges a =
-    let same : computed_answer (straight_tree plan) ≡ computed_answer plan =
-    rw (same-conflict plan.procs r.ranks (highest plan).threads, same-conflict plan.procs r.ranks (lowest plan).threads) in
-    let x = answer-exactly (straight_tree plan) (straight-ranked (highest plan) r) ranges a in
-    let y = answer-exactly plan r ranges a in
-    (λ t. y.0 (x.1 t ∙ same), λ t. x.0 (y.1 t ∙ sym same))

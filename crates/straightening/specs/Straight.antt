@@ -2,7 +2,6 @@
 -- is straight-line code: skips, calls, holds and shares (change 9), which are one case of a block.
 use Rattle.std.specs.Prelude.{map}
 use Rattle.semantics.specs.Plan.{Block, done, skip, call, hold, loop, either, end, ◌⨾◌, LockPlan}
-use Rattle.semantics.specs.Ranges.{RangedPlan}
 
 -- "every either replaced by its two blocks one after the other, every loop by its block", within other blocks too
 unfoldable pub straight : Block → Block
@@ -14,13 +13,9 @@ straight (loop b r) = straight b ⨾ straight r
 straight (either a b r) = straight a ⨾ straight b ⨾ straight r
 straight (end l r) = end l (straight r)
 
--- a gateway's plan with each procedure straightened; its threads stay as they are
+-- a plan with each procedure straightened; the thread lines stay as they are
 unfoldable pub straight_plan : LockPlan → LockPlan
 straight_plan plan = record { procs = map straight plan.procs; threads = plan.threads }
-
--- the plan of a text, straightened: the thread lines stay as they are, so that at any counts it is the straightened gateway
-unfoldable pub straight_tree : RangedPlan → RangedPlan
-straight_tree plan = record { procs = map straight plan.procs; lines = plan.lines }
 
 -- straight-line: a block without either and loop, in itself and in the blocks within it
 unfoldable pub StraightLine : Block → Type 0

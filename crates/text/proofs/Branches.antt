@@ -8,17 +8,15 @@ use mathlib.Core.List.{List}
 use lib.ListN.{length, take, drop, get_or, drop_of_length-le}
 use lib.Seq.{drop-cons}
 use lib.Dec.{eqb}
-use borrow.Author.Tests.{eq-eqb, ne_eqb, lt-ltb, le-ltb, le-leb, lt-leb}
-use Rattle.laws.specs.Choice.{pick}
+use borrow.Author.Tests.{eq-eqb, ne_eqb, lt-ltb, le-ltb}
 use Rattle.text.specs.declared.Form.{Form}
-use Rattle.text.specs.declared.Form.TheVariants.{Thread}
 use Rattle.text.specs.declared.Kind.{Kind}
 use Rattle.text.specs.declared.Kind.TheVariants.{Known, Unknown}
 use Rattle.text.specs.declared.Number.{Number}
 use Rattle.text.specs.declared.Number.TheVariants.{Is, Not}
 use Rattle.text.specs.declared.Line.{Line}
 use Rattle.text.specs.declared.Line.TheVariants.{Read, Refused}
-use Rattle.text.specs.Kinds.{digit_of, leading_of, append_digit, number_of, numbered, word_length, range_form, three_numbers, once_or, kind_of}
+use Rattle.text.specs.Kinds.{digit_of, leading_of, append_digit, numbered, kind_of}
 use Rattle.text.specs.Lines.{refusal, line_length, line_answer, line_at}
 
 -- a digit other than 0
@@ -91,69 +89,6 @@ module _ (s : List ℕ) (i r : ℕ) where
   pub line-done : length s ≤ i → i + line_length (drop i s) ≡ r → i ≡ r
   unfolding line_length
   line-done h p = let e = rw drop_of_length-le at p in omega arith
-
--- the length of a word, byte by byte
-module _ (s : List ℕ) (i r : ℕ) where
-  word_turn : i < length s → word_length (drop i s) ≡ cond (eqb (get_or s i 0) 32) 0 (suc (word_length (drop (i + 1) s)))
-  unfolding word_length
-  word_turn h = rw (add-one i, drop-cons s i 0)
-
-  pub word_again : i < length s → (get_or s i 0 ≡ 32 → ⊥) → i + word_length (drop i s) ≡ r → i + 1 + word_length (drop (i + 1) s) ≡ r
-  word_again h n p = let e = rw (ne_eqb (get_or s i 0) 32 n) at (word_turn h) in omega arith
-
-  pub word_stop : i < length s → get_or s i 0 ≡ 32 → i + word_length (drop i s) ≡ r → i ≡ r
-  word_stop h n p = let e = rw (eq-eqb (get_or s i 0) 32 n) at (word_turn h) in omega arith
-
-  pub word_done : length s ≤ i → i + word_length (drop i s) ≡ r → i ≡ r
-  unfolding word_length
-  word_done h p = let e = rw drop_of_length-le at p in omega arith
-
--- a thread line of three numbers
-module _ (x y z : Number) (r : Kind) where
-  pub range_no_proc : x ≡ Not → r ≡ Unknown → r ≡ range_form x y z
-  unfolding range_form
-  range_no_proc e h = rw (e, h)
-
-  module _ (p : ℕ) (e : x ≡ Is p) where
-    pub range_no_least : y ≡ Not → r ≡ Unknown → r ≡ range_form x y z
-    unfolding range_form
-    range_no_least f h = rw (e, f, h)
-
-    module _ (a : ℕ) (f : y ≡ Is a) where
-      pub range-no-most : z ≡ Not → r ≡ Unknown → r ≡ range_form x y z
-      unfolding range_form
-      range-no-most g h = rw (e, f, g, h)
-
-      pub range-is : (b : ℕ) → z ≡ Is b → r ≡ Known (Thread p a b) → r ≡ range_form x y z
-      unfolding range_form
-      range-is b g h = rw (e, f, g, h)
-
-pub ruleset ranges = (range_no_proc, range_no_least, range-no-most, range-is)
-
--- the three numbers of a line, by the places of the spaces
-module _ (l : List ℕ) (i : ℕ) (e : i ≡ 0 + word_length l) (r : Kind) where
-  pub three_one_word : length l ≤ i → r ≡ Unknown → r ≡ three_numbers l
-  unfolding three_numbers pick
-  three_one_word h g = let k : i ≡ word_length l = omega arith in rw (g, ← k, le-leb (length l) i h)
-
-  module _ (h : i < length l) (j : ℕ) (f : j ≡ i + 1 + word_length (drop (i + 1) l)) where
-    pub three_two_words : length l ≤ j → r ≡ Unknown → r ≡ three_numbers l
-    unfolding three_numbers pick
-    three_two_words g u = let k : i ≡ word_length l = omega arith in rw (u, ← k, lt-leb (length l) i h, ← f, le-leb (length l) j g)
-
-    pub three_words : (x y z : Number) → j < length l → x ≡ number_of (take (i - 0) l) → y ≡ number_of (take (j - (i + 1)) (drop (i + 1) l))
-        → z ≡ number_of (take (length l - (j + 1)) (drop (j + 1) l)) → r ≡ range_form x y z → r ≡ three_numbers l
-    unfolding three_numbers pick
-    three_words x y z g a b c u =
-        let k : i ≡ word_length l = omega arith in rw (u, a, b, c, ← k, lt-leb (length l) i h, ← f, lt-leb (length l) j g)
-
--- the old form of a thread line, or another
-module _ (p q : Number) (e : q ≡ p) (k r : Kind) where
-  pub once_is : (n : ℕ) → q ≡ Is n → r ≡ Known (Thread n 1 1) → r ≡ once_or p k
-  once_is n g h = h ∙ ap (λ x. once_or x k) (sym g ∙ e)
-
-  pub once_not : q ≡ Not → r ≡ k → r ≡ once_or p k
-  once_not g h = h ∙ ap (λ x. once_or x k) (sym g ∙ e)
 
 -- the line that starts at a place
 module _ (text : List ℕ) (at line : ℕ) (r : Line) where

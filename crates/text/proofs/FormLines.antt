@@ -2,7 +2,7 @@
 -- (`line-apart`), and none behind the end of the file (`line_of-most`). By induction on the lines, or on how they spell the forms.
 use Prim.Native.Nat.{ℕ, zero, suc, ◌+◌, ◌-◌, ◌<◌, ◌≤◌}
 use native.Mathlib.Omega.{arith}
-use mathlib.Core.Path.{◌≡◌, refl, sym, subst}
+use mathlib.Core.Path.{◌≡◌, refl, ap, ◌∙◌}
 use mathlib.Core.Bool.{Bool, true, false, cond}
 use mathlib.Core.Option.{none}
 use mathlib.Core.List.{List, [], ◌∷◌}
@@ -11,7 +11,7 @@ use lib.Dec.{eqb, eqb-suc-zero}
 use Rattle.laws.specs.Choice.{pick}
 use Rattle.text.specs.declared.Form.{Form}
 use Rattle.text.specs.declared.Form.TheVariants.{Close}
-use Rattle.text.specs.Forms.{Spelled}
+use Rattle.text.specs.Forms.{write}
 use Rattle.text.specs.Lines.{split, ended_line, unindented, passed_over, forms_of, unreadable_line, line_for, line_of, Spells, nothing, over, form}
 use Rattle.text.proofs.Passing.{spelled_kept}
 use Rattle.text.proofs.Splits.{readable-written}
@@ -69,18 +69,18 @@ line-grows (l ∷ ls) j k line h = go (passed_over l) refl j k h (line-grows ls 
 
 -- the line that is named holds the form
 spelled_holds : (ls : List (List ℕ)) (fs : List Form) → Spells ls fs → (k line : ℕ) → k < length fs
-    → Spelled (get_or fs k Close) (unindented (get_or ls (line_for k line ls - line) []))
+    → unindented (get_or ls (line_for k line ls - line) []) ≡ write (get_or fs k Close)
 spelled_holds _ _ nothing k line h = absurd (omega arith)
 spelled_holds _ _ (over l ls fs p s) k line h =
     let i : line_for k line (l ∷ ls) - line ≡ suc (line_for k (suc line) ls - suc line) = omega (arith, passed-line k line l ls p, line-least ls k (suc line)) in
-    subst (λ n. Spelled (get_or fs k Close) (unindented (get_or (l ∷ ls) n []))) (sym i) (spelled_holds ls fs s k (suc line) h)
+    ap (λ n. unindented (get_or (l ∷ ls) n [])) i ∙ spelled_holds ls fs s k (suc line) h
 spelled_holds _ _ (form l f ls fs w s) zero line h =
     let i : line_for 0 line (l ∷ ls) - line ≡ 0 = omega (arith, first-line line l ls (spelled_kept l f w.written)) in
-    subst (λ n. Spelled f (unindented (get_or (l ∷ ls) n []))) (sym i) w.written
+    ap (λ n. unindented (get_or (l ∷ ls) n [])) i ∙ w.written
 spelled_holds _ _ (form l f ls fs w s) (suc k) line h =
     let i : line_for (suc k) line (l ∷ ls) - line ≡ suc (line_for k (suc line) ls - suc line) =
     omega (arith, later-line k line l ls (spelled_kept l f w.written), line-least ls k (suc line)) in
-    subst (λ n. Spelled (get_or fs k Close) (unindented (get_or (l ∷ ls) n []))) (sym i) (spelled_holds ls fs s k (suc line) (omega arith))
+    ap (λ n. unindented (get_or (l ∷ ls) n [])) i ∙ spelled_holds ls fs s k (suc line) (omega arith)
 
 spelled-past : (ls : List (List ℕ)) (fs : List Form) → Spells ls fs → (k line : ℕ) → length fs ≤ k → line_for k line ls ≡ line + length ls
 unfolding line_for
@@ -120,8 +120,8 @@ module _ (text : List ℕ) where
     spelled : Spells (split text).ended (forms_of text)
     spelled = (readable-written text readable).spelled
 
-    -- "Lines are still counted as they stand in the file": line line_of text k of the file, counted from 1, spells form k behind its spaces
-    pub line-holds : (k : ℕ) → 1 ≤ k → k ≤ length (forms_of text) → Spelled (get_or (forms_of text) (k - 1) Close) (unindented (ended_line text (line_of text k)))
+    -- "Lines are still counted as they stand in the file": line line_of text k of the file, counted from 1, is form k behind its spaces
+    pub line-holds : (k : ℕ) → 1 ≤ k → k ≤ length (forms_of text) → unindented (ended_line text (line_of text k)) ≡ write (get_or (forms_of text) (k - 1) Close)
     unfolding line_of
     line-holds k a h = spelled_holds (split text).ended (forms_of text) spelled (k - 1) 1 (omega arith)
 

@@ -1,5 +1,5 @@
 -- A match on forms. An arm with one pattern knows the form; another knows that the form's position among the declared forms is one of the arm's. Positions are the
--- numbers of kinds (`kind_tag`), and a form is settled by its kind and its numbers (`form-there`), so what a function gives at each position of an arm it gives there
+-- numbers of kinds (`kind_tag`), and a form is settled by its kind and its number (`form-there`), so what a function gives at each position of an arm it gives there
 -- (`match_arm`).
 use Prim.Native.Nat.{ℕ}
 use mathlib.Core.Bool.{Bool, true, false, ◌||◌, cond}
@@ -14,19 +14,18 @@ use mir.Val.{has_key}
 use types.Run.{OneOf}
 use Rattle.text.specs.declared.Form.{Form}
 use Rattle.text.specs.declared.Form.TheVariants.{Plan, Proc, Thread, Close, Skip, Call, Hold, Loop, Either, One, Two, Share}
-use Rattle.text.specs.Forms.{number_in, least_in, most_in, kind_number, kind_in}
+use Rattle.text.specs.Forms.{number_in, kind_number, kind_in}
 use Rattle.text.specs.contracts.Form.{the_type}
 
--- the forms in the order in which they are declared, each with the numbers of f where it has them
-abbrev pub form_at : Form → ℕ → Form
-form_at f k =
-    get_or (Plan ∷ Proc ∷ Thread (number_in f) (least_in f) (most_in f) ∷ Close ∷ Skip ∷ Call (number_in f) ∷ Hold (number_in f) ∷ Loop ∷ Either ∷ One ∷ Two ∷ Share (number_in f) ∷ []) k Close
+-- the forms in the order in which they are declared, each with the number n where it has one
+abbrev pub form_at : ℕ → ℕ → Form
+form_at n k = get_or (Plan ∷ Proc ∷ Thread n ∷ Close ∷ Skip ∷ Call n ∷ Hold n ∷ Loop ∷ Either ∷ One ∷ Two ∷ Share n ∷ []) k Close
 
-form-there : (f : Form) → form_at f (kind_number f) ≡ f
-unfolding number_in least_in most_in
+form-there : (f : Form) → form_at (number_in f) (kind_number f) ≡ f
+unfolding number_in
 form-there Plan = refl
 form-there Proc = refl
-form-there (Thread p a b) = refl
+form-there (Thread n) = refl
 form-there Close = refl
 form-there Skip = refl
 form-there (Call n) = refl
@@ -40,7 +39,7 @@ form-there (Share l) = refl
 kind_tag : (f : Form) → tag_of the_type f ≡ kind_number f
 kind_tag Plan = refl
 kind_tag Proc = refl
-kind_tag (Thread p a b) = refl
+kind_tag (Thread n) = refl
 kind_tag Close = refl
 kind_tag Skip = refl
 kind_tag (Call n) = refl
@@ -52,9 +51,9 @@ kind_tag Two = refl
 kind_tag (Share l) = refl
 
 -- a form of the kind of g
-pub kind-form : (g f : Form) → kind_in (g ∷ []) f ≡ true → f ≡ form_at f (kind_number g)
+pub kind-form : (g f : Form) → kind_in (g ∷ []) f ≡ true → f ≡ form_at (number_in f) (kind_number g)
 unfolding kind_in
-kind-form g f e = sym (form-there f) ∙ ap (form_at f) (go (eqb (kind_number g) (kind_number f)) refl e)
+kind-form g f e = sym (form-there f) ∙ ap (form_at (number_in f)) (go (eqb (kind_number g) (kind_number f)) refl e)
   where
     go : (b : Bool) → eqb (kind_number g) (kind_number f) ≡ b → (b || false) ≡ true → kind_number f ≡ kind_number g
     go true h k = sym (eqb-true (kind_number g) (kind_number f) h)
@@ -68,8 +67,8 @@ all_one g a (k ∷ j ∷ ks) x (inl h) e = ap g h ∙ head-eq_of_cons-eq e
 all_one g a (k ∷ j ∷ ks) x (inr h) e = all_one g a (j ∷ ks) x h (tail-eq_of_cons-eq e)
 
 pub match_arm : {A : Type 0} (g : Form → A) (a : A) (ks : List ℕ) (f : Form) → OneOf ks (tag_of the_type f)
-    → map (λ k. g (form_at f k)) ks ≡ map (λ k. a) ks → g f ≡ a
-match_arm g a ks f h e = ap g (sym (form-there f)) ∙ all_one (λ k. g (form_at f k)) a ks (kind_number f) (subst (OneOf ks) (kind_tag f) h) e
+    → map (λ k. g (form_at (number_in f) k)) ks ≡ map (λ k. a) ks → g f ≡ a
+match_arm g a ks f h e = ap g (sym (form-there f)) ∙ all_one (λ k. g (form_at (number_in f) k)) a ks (kind_number f) (subst (OneOf ks) (kind_tag f) h) e
 
 -- ---- functions that are a test of kinds
 
@@ -98,14 +97,14 @@ module _ (gs : List Form) (f : Form) (r : Bool) where
   pub kind-one : (g : Form) → f ≡ g → is_key gs g ≡ true → r ≡ true → r ≡ kind_in gs f
   kind-one g e k h = h ∙ sym k ∙ is_key_lem gs g ∙ ap (kind_in gs) (sym e)
 
-  module _ (b : Bool) (ks : List ℕ) (h : OneOf ks (tag_of the_type f)) (e : map (λ k. is_key gs (form_at f k)) ks ≡ map (λ k. b) ks) (k : r ≡ b) where
+  module _ (b : Bool) (ks : List ℕ) (h : OneOf ks (tag_of the_type f)) (e : map (λ k. is_key gs (form_at (number_in f) k)) ks ≡ map (λ k. b) ks) (k : r ≡ b) where
     kind_arm : r ≡ kind_in gs f
     kind_arm = k ∙ sym (match_arm (is_key gs) b ks f h e) ∙ is_key_lem gs f
 
-  pub kind-among : OneOf (positions gs) (tag_of the_type f) → map (λ k. is_key gs (form_at f k)) (positions gs) ≡ map (λ k. true) (positions gs)
+  pub kind-among : OneOf (positions gs) (tag_of the_type f) → map (λ k. is_key gs (form_at (number_in f) k)) (positions gs) ≡ map (λ k. true) (positions gs)
       → r ≡ true → r ≡ kind_in gs f
   kind-among h e k = kind_arm true (positions gs) h e k
 
-  pub kind-rest : OneOf (others gs) (tag_of the_type f) → map (λ k. is_key gs (form_at f k)) (others gs) ≡ map (λ k. false) (others gs)
+  pub kind-rest : OneOf (others gs) (tag_of the_type f) → map (λ k. is_key gs (form_at (number_in f) k)) (others gs) ≡ map (λ k. false) (others gs)
       → r ≡ false → r ≡ kind_in gs f
   kind-rest h e k = kind_arm false (others gs) h e k

@@ -18,7 +18,7 @@ use Rattle.text.specs.declared.Kind.TheVariants.{Known, Unknown}
 use Rattle.text.specs.declared.Place.{Place}
 use Rattle.text.specs.declared.Pass.{Pass}
 use Rattle.text.specs.declared.Pass.TheVariants.{Over, Here}
-use Rattle.text.specs.Forms.{write, Spelled, bare, range}
+use Rattle.text.specs.Forms.{write}
 use Rattle.text.specs.Kinds.{kind_of}
 use Rattle.text.specs.Lines.{line_length, Split, push_byte, split, unindented, blank_or_remark, passed_over, forms_in, unreadable, line_for}
 use Rattle.text.specs.Passing.{place, ReadAlike, rest_of_line, Stops, PassedOne}
@@ -33,7 +33,7 @@ written-kept : (f : Form) → (unindented (write f) ≡ write f) × (blank_or_re
 unfolding write unindented
 written-kept Plan = (refl, refl)
 written-kept Proc = (refl, refl)
-written-kept (Thread p a b) = (refl, refl)
+written-kept (Thread n) = (refl, refl)
 written-kept Close = (refl, refl)
 written-kept Skip = (refl, refl)
 written-kept (Call n) = (refl, refl)
@@ -47,16 +47,9 @@ written-kept (Share n) = (refl, refl)
 pub write-unindented : (f : Form) → unindented (write f) ≡ write f
 write-unindented f = (written-kept f).0
 
--- nor do other bytes that spell it
-pub spelled-unindented : {f : Form} {rest : List ℕ} → Spelled f rest → unindented rest ≡ rest
-unfolding unindented
-spelled-unindented {f} (bare e) = ap unindented e ∙ write-unindented f ∙ sym e
-spelled-unindented (range p a b g e) = ap unindented e ∙ sym e
-
-pub spelled_kept : (l : List ℕ) (f : Form) → Spelled f (unindented l) → passed_over l ≡ false
+pub spelled_kept : (l : List ℕ) (f : Form) → unindented l ≡ write f → passed_over l ≡ false
 unfolding passed_over
-spelled_kept l f (bare e) = ap blank_or_remark e ∙ (written-kept f).1
-spelled_kept l f (range p a b g e) = ap blank_or_remark e
+spelled_kept l f e = ap blank_or_remark e ∙ (written-kept f).1
 
 -- a line that is a form is not passed over
 pub known_kept : (l : List ℕ) (f : Form) → kind_of (unindented l) ≡ Known f → passed_over l ≡ false

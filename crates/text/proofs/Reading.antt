@@ -19,13 +19,13 @@ use Rattle.text.specs.declared.Refusal.{Refusal}
 use Rattle.text.specs.declared.Line.{Line}
 use Rattle.text.specs.declared.Line.TheVariants.{Read, Refused}
 use Rattle.text.specs.declared.Place.{Place}
-use Rattle.text.specs.Forms.{ShortNumbers}
+use Rattle.text.specs.Forms.{write, number_in}
 use Rattle.text.specs.Kinds.{kind_of}
 use Rattle.text.specs.Lines.{refusal, line_length, line_answer, line_at, Split, split, unindented, passed_over, cons_form, forms_in, unknown_or, unreadable, line_for, line_of}
 use Rattle.text.specs.Passing.{place, ReadAlike, rest_of_line, Stops}
-use Rattle.text.proofs.Written.{kind-written, spelled-some}
+use Rattle.text.proofs.Written.{kind-written, write-some}
 use Rattle.text.proofs.Cuts.{split-line, split-tail}
-use Rattle.text.proofs.Passing.{spelled-unindented, spelled_kept}
+use Rattle.text.proofs.Passing.{write-unindented, spelled_kept}
 
 -- the lines of a text from a place on: their forms, and the first unreadable one of them where the line there has the number `line`
 abbrev pub forms_from : List ℕ → ℕ → List Form
@@ -40,7 +40,7 @@ pub record ReadForm (text : List ℕ) (at line : ℕ) (f : Form) (next : ℕ) : 
   pub unreadable : unreadable_from text at line ≡ unreadable_from text next (suc line)
   pub later : at + 2 ≤ next
   pub within : next ≤ length text
-  pub small : ShortNumbers f
+  pub small : number_in f < 1000
 
 -- what a line that was refused says
 pub record ReadRefused (text : List ℕ) (at line : ℕ) (x : Refusal) : Type 0 where
@@ -84,11 +84,11 @@ module _ (text : List ℕ) (at line : ℕ) where
   known-line : (f : Form) → at + extent text at < length text → kind_of (rest_of_line text at) ≡ Known f → ReadForm text at line f (after text at)
   known-line f h e =
       let w = (kind-written (rest_of_line text at) f).0 e in
-      let b = spelled-unindented w.written in
-      let r = ended-line (Known f) h b (spelled_kept (rest_of_line text at) f (rw b w.written)) e in
+      let b : unindented (rest_of_line text at) ≡ write f = ap unindented w.written ∙ write-unindented f in
+      let r = ended-line (Known f) h (b ∙ sym w.written) (spelled_kept (rest_of_line text at) f b) e in
       let d = length-drop at text in
       let m : length (rest_of_line text at) ≡ extent text at = length-take-le (extent text at) (drop at text) (omega arith) in
-      record { forms = r.0; unreadable = r.1; later = omega (arith, spelled-some w.written); within = omega arith; small = w.small }
+      record { forms = r.0; unreadable = r.1; later = omega (arith, ap length w.written, write-some f); within = omega arith; small = w.small }
 
   -- a line that is not ended
   unended-line : at < length text → length text ≤ at + extent text at → unreadable_from text at line ≡ some line
@@ -153,7 +153,7 @@ module _ (text : List ℕ) (at line : ℕ) (q : Line) (e : q ≡ line_at text at
     pub next-within : next ≤ length text
     next-within = (read-form text at line f next (sym e ∙ g)).within
 
-    pub next_small : ShortNumbers f
+    pub next_small : number_in f < 1000
     next_small = (read-form text at line f next (sym e ∙ g)).small
 
   -- a line was refused

@@ -11,10 +11,10 @@ use Rattle.laws.specs.Choice.{pick}
 use Rattle.text.specs.declared.Form.{Form}
 use Rattle.text.specs.declared.Kind.{Kind}
 use Rattle.text.specs.declared.Kind.TheVariants.{Known, Unknown}
-use Rattle.text.specs.Forms.{write, ShortNumbers, bare}
+use Rattle.text.specs.Forms.{write, number_in}
 use Rattle.text.specs.Kinds.{kind_of}
 use Rattle.text.specs.Lines.{split, unindented, passed_over, cons_form, forms_in, forms_of, unknown_or, unreadable, unreadable_line, text_of, Spells, nothing, over, form, IsText}
-use Rattle.text.proofs.Written.{kind-written, spelled-some, spelled-long, write-unbroken}
+use Rattle.text.proofs.Written.{kind-written, write-some, write-unbroken}
 use Rattle.text.proofs.Cuts.{split-unbroken, joined, split-joined}
 use Rattle.text.proofs.Passing.{write-unindented, spelled_kept, known_kept, passed-unknown, unindented-length}
 
@@ -65,17 +65,17 @@ pub readable-written : (text : List ℕ) → unreadable_line text ≡ none → I
 readable-written text e = (text-written text (forms_of text)).0 (e, refl)
 
 -- the text of forms is read as those forms
-lines-readable : (line : ℕ) (fs : List Form) → ((f : Form) → Memᴰ f fs → ShortNumbers f)
+lines-readable : (line : ℕ) (fs : List Form) → ((f : Form) → Memᴰ f fs → number_in f < 1000)
     → (forms_in (split (text_of fs)).ended ≡ fs) × (unreadable line (split (text_of fs)).ended (split (text_of fs)).tail ≡ none)
 unfolding text_of forms_in unreadable split pick
 lines-readable line [] h = (refl, refl)
 lines-readable line (f ∷ fs) h =
     let s = split-unbroken (write f) (text_of fs) (write-unbroken f) in
-    let k = (kind-written (write f) f).1 (record { small = h f (Memᴰ.head refl); written = bare refl }) in
+    let k = (kind-written (write f) f).1 (record { small = h f (Memᴰ.head refl); written = refl }) in
     let r = lines-readable (suc line) fs (λ g m. h g (Memᴰ.tail m)) in
-    (rw (s, write-unindented f, k) (ap (λ gs. f ∷ gs) r.0), rw (s, spelled_kept (write f) f (bare (write-unindented f)), write-unindented f, k) r.1)
+    (rw (s, write-unindented f, k) (ap (λ gs. f ∷ gs) r.0), rw (s, spelled_kept (write f) f (write-unindented f), write-unindented f, k) r.1)
 
-pub written-readable : (fs : List Form) → ((f : Form) → Memᴰ f fs → ShortNumbers f) → (forms_of (text_of fs) ≡ fs) × (unreadable_line (text_of fs) ≡ none)
+pub written-readable : (fs : List Form) → ((f : Form) → Memᴰ f fs → number_in f < 1000) → (forms_of (text_of fs) ≡ fs) × (unreadable_line (text_of fs) ≡ none)
 unfolding forms_of unreadable_line
 written-readable fs h = lines-readable 1 fs h
 
@@ -91,7 +91,7 @@ unfolding joined text_of
 spelled-length _ _ t nothing = omega arith
 spelled-length _ _ t (over l ls fs p s) = line-more l (text_of fs) (joined ls t) (spelled-length ls fs t s)
 spelled-length _ _ t (form l f ls fs w s) =
-    line-le (write f) l (text_of fs) (joined ls t) (omega (arith, unindented-length l, spelled-long w.written)) (spelled-length ls fs t s)
+    line-le (write f) l (text_of fs) (joined ls t) (omega (arith, unindented-length l, ap length w.written)) (spelled-length ls fs t s)
 
 pub written-shorter : (text : List ℕ) → unreadable_line text ≡ none → length (text_of (forms_of text)) ≤ length text
 written-shorter text e =
@@ -105,7 +105,7 @@ few-joined (l ∷ ls) t = go (kind_of (unindented l)) refl (few-joined ls t)
   where
     go : (k : Kind) → kind_of (unindented l) ≡ k → length (forms_in ls) * 2 ≤ length (joined ls t) → length (cons_form k (forms_in ls)) * 2 ≤ length (l ++ 10 ∷ joined ls t)
     go Unknown p h = rw length-append (omega arith)
-    go (Known f) p h = let w = (kind-written (unindented l) f).0 p in rw length-append (omega (arith, spelled-some w.written, unindented-length l))
+    go (Known f) p h = let w = (kind-written (unindented l) f).0 p in rw length-append (omega (arith, write-some f, ap length w.written, unindented-length l))
 
 pub few-forms : (text : List ℕ) → length (forms_of text) * 2 ≤ length text
 unfolding forms_of

@@ -7,7 +7,6 @@ use Rattle.text.specs.declared.Form.TheVariants.{Plan, Proc, Thread, Close, Skip
 use Rattle.text.specs.declared.Kind.{Kind}
 use Rattle.text.specs.declared.Kind.TheVariants.{Known, Unknown}
 use Rattle.text.specs.Kinds.{digit_of, leading_of, append_digit, number_of, after_keyword, between_keyword, keyword_kind}
-use Rattle.text.specs.Kinds.{word_length, range_form, three_numbers, range_kind}
 use Rattle.text.specs.Kinds.{numbered, hold_kind, share_kind, call_kind, thread_kind, plan_kind, two_kind, skip_kind, kind_of}
 use Rattle.text.specs.Lines.{split, unindented, passed_over, unreadable, unreadable_line, line_for, line_of}
 
@@ -19,30 +18,7 @@ examples : List Example
 examples =
     record { rest = bytes "(plan"; kind = Known Plan } ∷
     record { rest = bytes "(proc"; kind = Known Proc } ∷
-    record { rest = bytes "(thread 999)"; kind = Known (Thread 999 1 1) } ∷
-    record { rest = bytes "(thread 2 0 6)"; kind = Known (Thread 2 0 6) } ∷
-    record { rest = bytes "(thread 7 1 1)"; kind = Known (Thread 7 1 1) } ∷
-    record { rest = bytes "(thread 999 999 999)"; kind = Known (Thread 999 999 999) } ∷
-    record { rest = bytes "(thread 0 0 0)"; kind = Known (Thread 0 0 0) } ∷
-    record { rest = bytes "(thread 2 3)"; kind = Unknown } ∷
-    record { rest = bytes "(thread 2 3 )"; kind = Unknown } ∷
-    record { rest = bytes "(thread 2 )"; kind = Unknown } ∷
-    record { rest = bytes "(thread 2 3 4"; kind = Unknown } ∷
-    record { rest = bytes "(thread 2 3 4 5)"; kind = Unknown } ∷
-    record { rest = bytes "(thread  2 3 4)"; kind = Unknown } ∷
-    record { rest = bytes "(thread 2  3 4)"; kind = Unknown } ∷
-    record { rest = bytes "(thread 2 3  4)"; kind = Unknown } ∷
-    record { rest = bytes "(thread 2 3 4 )"; kind = Unknown } ∷
-    record { rest = bytes "(thread 2 3 4) "; kind = Unknown } ∷
-    record { rest = bytes "(thread 02 3 4)"; kind = Unknown } ∷
-    record { rest = bytes "(thread 2 03 4)"; kind = Unknown } ∷
-    record { rest = bytes "(thread 2 00 4)"; kind = Unknown } ∷
-    record { rest = bytes "(thread 2 3 04)"; kind = Unknown } ∷
-    record { rest = bytes "(thread 1000 1 1)"; kind = Unknown } ∷
-    record { rest = bytes "(thread 2 3 1000)"; kind = Unknown } ∷
-    record { rest = bytes "(thread )"; kind = Unknown } ∷
-    record { rest = bytes "(thread  )"; kind = Unknown } ∷
-    record { rest = bytes "(thread   )"; kind = Unknown } ∷
+    record { rest = bytes "(thread 999)"; kind = Known (Thread 999) } ∷
     record { rest = bytes "(thread 999"; kind = Unknown } ∷
     record { rest = bytes "(hold 12"; kind = Known (Hold 12) } ∷
     record { rest = bytes "(hold 0"; kind = Known (Hold 0) } ∷
@@ -87,7 +63,7 @@ examples =
     []
 
 examples-right : map (λ e. kind_of e.rest) examples ≡ map (λ e. e.kind) examples
-unfolding examples kind_of plan_kind two_kind skip_kind hold_kind share_kind call_kind thread_kind range_kind three_numbers range_form word_length keyword_kind numbered between_keyword after_keyword number_of append_digit leading_of digit_of pick equal
+unfolding examples kind_of plan_kind two_kind skip_kind hold_kind share_kind call_kind thread_kind keyword_kind numbered between_keyword after_keyword number_of append_digit leading_of digit_of pick equal
 examples-right = refl
 
 -- the first unreadable line of a text

@@ -1,6 +1,5 @@
--- The forms of a plan text and how each is written. 01, "The plan text"; 02, change 9, "Add `(share N`, block, `)`"; change 10,
--- "`(thread P A B)` means from A to B copies of P; the old form means 1 and 1."
-use Rattle.std.specs.Prelude.{Bool, false, ◌&&◌, ◌||◌, cond, ℕ, ◌+◌, ◌/◌, ◌%◌, ◌<◌, List, [], ◌∷◌, ◌++◌, ◌≡◌, eqb, ltb}
+-- The forms of a plan text and how each is written. 01, "The plan text"; 02, change 9, "Add `(share N`, block, `)`".
+use Rattle.std.specs.Prelude.{Bool, false, ◌||◌, cond, ℕ, ◌+◌, ◌/◌, ◌%◌, ◌<◌, List, [], ◌∷◌, ◌++◌, ◌≡◌, eqb, ltb}
 use Rattle.laws.specs.Bytes.{bytes}
 use Rattle.text.specs.declared.Form.{Form}
 use Rattle.text.specs.declared.Form.TheVariants.{Plan, Proc, Thread, Close, Skip, Call, Hold, Loop, Either, One, Two, Share}
@@ -12,19 +11,11 @@ decimal n =
     (cond (ltb n 100) ((48 + n / 10) ∷ (48 + n % 10) ∷ [])
     ((48 + n / 100) ∷ (48 + n / 10 % 10) ∷ (48 + n % 10) ∷ []))
 
--- 02, change 10, "`(thread P A B)`": the three numbers of a thread line
-unfoldable pub range_text : ℕ → ℕ → ℕ → List ℕ
-range_text p a b = decimal p ++ 32 ∷ (decimal a ++ 32 ∷ decimal b)
-
--- "A tidy copy writes 1 and 1 in the old form": the numbers of a thread line, P, or P, A and B
-unfoldable pub thread_numbers : ℕ → ℕ → ℕ → List ℕ
-thread_numbers p a b = cond (eqb a 1 && eqb b 1) (decimal p) (range_text p a b)
-
--- "One form a line, .. no other blanks than those shown": the bytes of a form, as a tidy copy writes it, without spaces before it and the byte 10 that ends its line
+-- "One form a line, .. no other blanks than those shown": the bytes of a form, without spaces before it and the byte 10 that ends its line
 unfoldable pub write : Form → List ℕ
 write Plan = bytes "(plan"
 write Proc = bytes "(proc"
-write (Thread p a b) = bytes "(thread " ++ thread_numbers p a b ++ bytes ")"
+write (Thread n) = bytes "(thread " ++ decimal n ++ bytes ")"
 write Close = bytes ")"
 write Skip = bytes "(skip)"
 write (Call n) = bytes "(call " ++ decimal n ++ bytes ")"
@@ -39,7 +30,7 @@ write (Share n) = bytes "(share " ++ decimal n
 unfoldable pub number_in : Form → ℕ
 number_in Plan = 0
 number_in Proc = 0
-number_in (Thread p a b) = p
+number_in (Thread n) = n
 number_in Close = 0
 number_in Skip = 0
 number_in (Call n) = n
@@ -50,48 +41,13 @@ number_in One = 0
 number_in Two = 0
 number_in (Share n) = n
 
--- the lowest count of a thread line and the highest; another form has no copies
-unfoldable pub least_in : Form → ℕ
-least_in Plan = 0
-least_in Proc = 0
-least_in (Thread p a b) = a
-least_in Close = 0
-least_in Skip = 0
-least_in (Call n) = 0
-least_in (Hold n) = 0
-least_in Loop = 0
-least_in Either = 0
-least_in One = 0
-least_in Two = 0
-least_in (Share n) = 0
-
-unfoldable pub most_in : Form → ℕ
-most_in Plan = 0
-most_in Proc = 0
-most_in (Thread p a b) = b
-most_in Close = 0
-most_in Skip = 0
-most_in (Call n) = 0
-most_in (Hold n) = 0
-most_in Loop = 0
-most_in Either = 0
-most_in One = 0
-most_in Two = 0
-most_in (Share n) = 0
-
--- the numbers of a form are "one to three digits"
-pub record ShortNumbers (f : Form) : Type 0 where
-  pub number : number_in f < 1000
-  pub least : least_in f < 1000
-  pub most : most_in f < 1000
-
 -- ---- the kinds of forms
 
 -- the number of a form's kind, whatever its own number is, in the order in which the forms are declared
 abbrev pub kind_number : Form → ℕ
 kind_number Plan = 0
 kind_number Proc = 1
-kind_number (Thread p a b) = 2
+kind_number (Thread n) = 2
 kind_number Close = 3
 kind_number Skip = 4
 kind_number (Call n) = 5
@@ -111,9 +67,9 @@ kind_in (g ∷ gs) f = eqb (kind_number g) (kind_number f) || kind_in gs f
 abbrev pub is_proc : Form → Bool
 is_proc f = kind_in (Proc ∷ []) f
 
--- a thread line
+-- `(thread N)`
 abbrev pub is_thread : Form → Bool
-is_thread f = kind_in (Thread 0 1 1 ∷ []) f
+is_thread f = kind_in (Thread 0 ∷ []) f
 
 -- `)`
 abbrev pub is_close : Form → Bool
@@ -145,14 +101,9 @@ is_bracket f = kind_in (Hold 0 ∷ Loop ∷ Either ∷ One ∷ Two ∷ Share 0 �
 
 -- forms that do not stand within a procedure: they begin the plan, a procedure or a thread
 abbrev pub begins_other : Form → Bool
-begins_other f = kind_in (Plan ∷ Proc ∷ Thread 0 1 1 ∷ []) f
+begins_other f = kind_in (Plan ∷ Proc ∷ Thread 0 ∷ []) f
 
--- The bytes that spell a form: those in which a tidy copy writes it; of a thread line also its three numbers, "and the two forms count as the same thread line"
-pub data Spelled (f : Form) (rest : List ℕ) : Type 0 where
-  bare : rest ≡ write f → Spelled f rest
-  range : (p a b : ℕ) → f ≡ Thread p a b → rest ≡ bytes "(thread " ++ range_text p a b ++ bytes ")" → Spelled f rest
-
--- what remains of a line is a form exactly when its bytes spell that form (theorem `kind-written`)
+-- what remains of a line is a form exactly when it is the bytes in which that form is written (theorem `kind-written`)
 pub record IsForm (rest : List ℕ) (f : Form) : Type 0 where
-  pub small : ShortNumbers f
-  pub written : Spelled f rest
+  pub small : number_in f < 1000
+  pub written : rest ≡ write f

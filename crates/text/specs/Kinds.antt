@@ -1,6 +1,6 @@
--- The kind of what remains of a line, as a decision over its first letters and its digits. That it finds exactly the spelled forms is the theorem `kind-written`.
+-- The kind of what remains of a line, as a decision over its first letters and its digits. That it finds exactly the written forms is the theorem `kind-written`.
 -- 01, "The plan text": "A line's kind follows from its bytes alone; its place is judged afterwards."
-use Rattle.std.specs.Prelude.{cond, ℕ, suc, ◌+◌, ◌-◌, ◌*◌, List, [], ◌∷◌, eqb, ltb, leb, length, get_or, take, drop}
+use Rattle.std.specs.Prelude.{cond, ℕ, ◌+◌, ◌-◌, ◌*◌, List, eqb, ltb, length, get_or, take, drop}
 use Rattle.laws.specs.Choice.{pick}
 use Rattle.laws.specs.Bytes.{bytes, equal}
 use Rattle.text.specs.declared.Form.{Form}
@@ -61,43 +61,8 @@ share_kind l = numbered Share (after_keyword l (bytes "(share "))
 unfoldable pub call_kind : List ℕ → Kind
 call_kind l = numbered Call (between_keyword l (bytes "(call "))
 
--- how many bytes stand before the first space, or all
-unfoldable pub word_length : List ℕ → ℕ
-word_length [] = 0
-word_length (b ∷ bs) = cond (eqb b 32) 0 (suc (word_length bs))
-
--- a thread line of three numbers
-unfoldable pub range_form : Number → Number → Number → Kind
-range_form Not a b = Unknown
-range_form (Is p) Not b = Unknown
-range_form (Is p) (Is a) Not = Unknown
-range_form (Is p) (Is a) (Is b) = Known (Thread p a b)
-
--- `P A B`, the numbers up to the first space, to the second, and behind it
-unfoldable pub three_numbers : List ℕ → Kind
-three_numbers l =
-    let i = word_length l in
-    let j = i + 1 + word_length (drop (i + 1) l) in
-    pick (leb (length l) i) Unknown
-    (pick (leb (length l) j) Unknown
-    (range_form (number_of (take (i - 0) l)) (number_of (take (j - (i + 1)) (drop (i + 1) l))) (number_of (take (length l - (j + 1)) (drop (j + 1) l)))))
-
--- `(thread P A B)`
-unfoldable pub range_kind : List ℕ → Kind
-range_kind l =
-    pick (ltb (length l) 9) Unknown
-    (pick (eqb (get_or l (length l - 1) 0) 41)
-    (pick (equal (take 8 l) (bytes "(thread ")) (three_numbers (take (length l - 1 - 8) (drop 8 l))) Unknown)
-    Unknown)
-
--- "the old form means 1 and 1"; another line can be a range
-abbrev pub once_or : Number → Kind → Kind
-once_or (Is n) k = Known (Thread n 1 1)
-once_or Not k = k
-
--- 02, change 10: "`(thread P A B)` means from A to B copies of P; the old form means 1 and 1"
 unfoldable pub thread_kind : List ℕ → Kind
-thread_kind l = once_or (between_keyword l (bytes "(thread ")) (range_kind l)
+thread_kind l = numbered Thread (between_keyword l (bytes "(thread "))
 
 -- by the third letter, l or r
 unfoldable pub plan_kind : List ℕ → Kind

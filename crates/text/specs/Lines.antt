@@ -116,7 +116,7 @@ unfoldable pub text_of : List Form → List ℕ
 text_of [] = []
 text_of (f ∷ fs) = write f ++ 10 ∷ text_of fs
 
--- lines that spell forms, in order: each is passed over, or is spaces or none and then bytes that spell the next form
+-- lines that spell forms, in order: each is passed over, or is spaces or none and then the bytes in which the next form is written
 pub data Spells : List (List ℕ) → List Form → Type 0 where
   nothing : Spells [] []
   over : (l : List ℕ) (ls : List (List ℕ)) (fs : List Form) → passed_over l ≡ true → Spells ls fs → Spells (l ∷ ls) fs

@@ -3,12 +3,14 @@
 use Prim.Native.Nat.{ℕ, ◌-◌, ◌*◌, ◌/◌, ◌^◌, ◌<◌, ◌≤◌, min}
 use native.Mathlib.Omega.{arith}
 use mathlib.Core.Path.{◌≡◌, refl, sym, ap, ◌∙◌}
-use mathlib.Core.List.{List, []}
+use mathlib.Core.List.{List, [], ◌∷◌}
 use mathlib.Core.Logic.{⊎_elim}
 use mathlib.Core.Option.{Option, none, some, or_else}
 use lib.ListN.{length, take, length-take, length-append}
 use lib.Seq.{take_at}
 use borrow.Author.Tests.{lt-ltb, le-ltb}
+use denote.Enum.Declared.{tag_of}
+use types.Run.{OneOf, miss}
 use Rattle.limits.specs.Limits.{max_entries}
 use Rattle.laws.specs.Wrote.{Wrote}
 use Rattle.laws.proofs.Tests.{lt_or_le}
@@ -21,19 +23,19 @@ use Rattle.plan.specs.declared.Reading.{Reading}
 use Rattle.plan.specs.declared.Reading.TheVariants.{Accepted}
 use Rattle.plan.specs.declared.Reading.TheVariants as plan
 use Rattle.plan.specs.Settled.{table_plan}
-use Rattle.plan.specs.Rules.{tree_of, plan_of, plan_refusal, too_few_entries, verdict_refusal, Tabled}
-use Rattle.plan.proofs.AcceptedTable.{plan-kept, tree_same, plan-same, accepted-sum}
+use Rattle.plan.specs.Rules.{plan_of, plan_refusal, too_few_entries, verdict_refusal, Tabled}
+use Rattle.plan.proofs.AcceptedTable.{plan-kept, plan-same, accepted-sum}
 use Rattle.plan.proofs.Filling.{refused-is}
 use Rattle.buffers.specs.LittleEndian.{list_bytes}
 use Rattle.sizes.specs.declared.Space.{Space}
 use Rattle.sizes.specs.Space.{SpaceOf}
 use Rattle.deadlock.specs.Findings.{TableJudged}
 use Rattle.answers.specs.declared.Verdict.{Verdict}
-use Rattle.answers.specs.declared.Verdict.TheVariants.{Free, Deadlock, Refused, Grown}
+use Rattle.answers.specs.declared.Verdict.TheVariants.{Free, Deadlock, Refused}
 use Rattle.answers.specs.Answers.{verdict_number, verdict_high}
-use Rattle.answers.specs.Judgement.{Judgement, schedule_length}
+use Rattle.answers.specs.Judgement.{Judgement}
 use Rattle.answers.proofs.LineBounds.{verdict_bounded}
-use Rattle.answers.proofs.ThreeAnswers.{judgement_length}
+use Rattle.answers.specs.contracts.Verdict.{the_type}
 use Rattle.verdict.specs.Judged.{LentJudged, Judged, JudgedBytes}
 
 -- ---- rule 1
@@ -63,16 +65,22 @@ module _ (text table : List ℕ) (n : ℕ) (q : Reading) (t : Tabled (plan_refus
   pub judged-found : (before after : List ℕ) (r : Verdict) → LentJudged (take (n - 0) table) before r after → Judged text before r after
   unfolding verdict_refusal or_else
   judged-found before after r d =
-      record { schedule = d.schedule; judged = rw (plan-kept text table q n t g, ← tree_same text table q n t g) d.judged; buffer = d.buffer }
+      record { schedule = d.schedule; judged = rw (plan-kept text table q n t g, ← plan-same text table q n t g) d.judged; buffer = d.buffer }
 
 -- ---- bytes
 
-small : (text : List ℕ) (lent : ℕ) (v : Verdict) (es : List ℕ) → Judgement (verdict_refusal text lent) (tree_of text) v es → length es ≤ max_entries → verdict_high v < 2 ^ 40
+-- only a deadlock has a schedule
+no_schedule : (refused : Option Refusal) (plan : LockPlan) (v : Verdict) (es : List ℕ) → Judgement refused plan v es → OneOf (0 ∷ 2 ∷ []) (tag_of the_type v) → es ≡ []
+unfolding Judgement
+no_schedule refused plan Free es j h = j.1
+no_schedule refused plan (Deadlock n S) es j h = absurd (miss (0 ∷ 2 ∷ []) 1 tt h)
+no_schedule refused plan (Refused x) es j h = j.1
+
+small : (text : List ℕ) (lent : ℕ) (v : Verdict) (es : List ℕ) → Judgement (verdict_refusal text lent) (plan_of text) v es → length es ≤ max_entries → verdict_high v < 2 ^ 40
 unfolding Judgement verdict_high
 small text lent Free es j h = omega arith
 small text lent (Deadlock n S) es j h = omega (arith, j.1)
 small text lent (Refused x) es j h = (verdict_bounded text lent x j.0).line
-small text lent (Grown n S) es j h = omega (arith, j.1)
 
 -- more than MAX_ENTRIES are never needed
 lent_by : (plan : LockPlan) (lent : ℕ) → thread_sizes plan ≤ max_entries → too_few_entries plan (min lent max_entries) ≡ too_few_entries plan lent
@@ -100,13 +108,24 @@ module _ (text before entries entries' : List ℕ) (r : Verdict) (d : Judged tex
   verdict-small k = small text (length entries) r d.schedule d.judged (omega (arith, schedule-short k))
 
   -- what the rules say by the entries, they say by the bytes
-  judged-lent : Judgement (verdict_refusal text (length before / 2)) (tree_of text) r d.schedule
+  judged-lent : Judgement (verdict_refusal text (length before / 2)) (plan_of text) r d.schedule
   judged-lent = rw (ap (verdict_refusal text) l ∙ same-lent text (length before / 2)) at d.judged
 
+  pub bytes-kept : (v : ℕ) → OneOf (0 ∷ 2 ∷ []) (tag_of the_type r) → v ≡ verdict_number r → JudgedBytes text before v before
+  unfolding list_bytes
+  bytes-kept v o k = record {
+    verdict = r;
+    schedule = d.schedule;
+    number = k;
+    judged = judged-lent;
+    buffer = rw (no_schedule _ _ r d.schedule d.judged o);
+  }
+
   -- the schedule's part of the entries
-  module _ (n : ℕ) (g : n ≡ schedule_length r) where
+  module _ (n S : ℕ) (g : r ≡ Deadlock n S) where
     size : length d.schedule ≡ n
-    size = judgement_length _ _ r d.schedule d.judged ∙ sym g
+    unfolding Judgement
+    size = (rw g at d.judged).1
 
     listed : take (n - 0) entries' ≡ d.schedule
     listed = let e : n - 0 ≡ n = omega arith in rw (e, d.buffer) (take_at d.schedule _ n size)
@@ -117,12 +136,15 @@ module _ (text before entries entries' : List ℕ) (r : Verdict) (d : Judged tex
     pub schedule-room : length entries' ≡ length entries → length (take (n - 0) entries') * 2 ≤ length before
     schedule-room k = rw length-take (omega arith)
 
-    pub bytes-scheduled : (v : ℕ) (after : List ℕ) → v ≡ verdict_number r
+    pub deadlock-small : length entries' ≡ length entries → verdict_high (Deadlock n S) < 2 ^ 40
+    deadlock-small k = rw (← g) (verdict-small k)
+
+    pub bytes-scheduled : (v : ℕ) (after : List ℕ) → v ≡ verdict_number (Deadlock n S)
         → Wrote before after 0 (length (take (n - 0) entries') * 2) (list_bytes 2 (take (n - 0) entries')) → JudgedBytes text before v after
     bytes-scheduled v after k e = record {
       verdict = r;
       schedule = d.schedule;
-      number = k;
+      number = k ∙ ap verdict_number (sym g);
       judged = judged-lent;
       buffer = rw listed at (wrote-filled before after 0 _ _ e refl);
     }

@@ -84,7 +84,13 @@ fn judge_bytes(text: &[u8], out: &mut [u8], entries: &mut [u16]) -> u64
     ensures { JudgedBytes text.now out.old result out.new }
 {
     let verdict = judge_text(text, entries);
-    let n = answers::schedule_length(verdict);
+    let Verdict::Deadlock {
+        entries: n,
+        stuck: _,
+    } = verdict
+    else {
+        return answers::verdict_number(verdict);
+    };
     buffers::put_entries(&entries[0..n], out);
     answers::verdict_number(verdict)
 }

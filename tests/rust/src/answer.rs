@@ -9,7 +9,6 @@ pub const SPACE: u64 = 0;
 pub const CROSSED: u64 = 0;
 pub const DEADLOCK: u64 = 1;
 pub const REFUSED: u64 = 2;
-pub const GROWN: u64 = 3;
 
 /// The parts of an answer.
 #[derive(Clone, Copy, Debug, PartialEq, Eq)]
@@ -26,11 +25,6 @@ impl Answer {
 
     pub fn refused(refusal: Refusal) -> Answer {
         Answer { kind: REFUSED, a: u64::from(refusal.rule), b: refusal.line as u64 }
-    }
-
-    /// Whether a verdict has a schedule: where b entries lead to the stuck set a.
-    pub fn has_schedule(self) -> bool {
-        matches!(self.kind, DEADLOCK | GROWN)
     }
 
     pub fn number(self) -> u64 {

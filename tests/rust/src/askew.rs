@@ -1,8 +1,7 @@
 //! Straightened copies of a plan with a fault each.
 
 use crate::families::{Draft, Tree};
-use crate::reference::{bare, lines, read, Copies, Form, MAX_BRACKETS};
-use crate::standin::respelled;
+use crate::reference::{bare, lines, read, Form, MAX_BRACKETS};
 use crate::straight;
 
 /// How the blocks inside a statement are straightened.
@@ -27,7 +26,7 @@ fn block(trees: &[Tree], fault: Fault) -> Vec<Tree> {
 /// A plan straightened with a fault.
 fn by(draft: &Draft, fault: Fault) -> Vec<u8> {
     let procs = draft.procs.iter().map(|body| block(body, fault)).collect();
-    Draft { procs, lines: draft.lines.clone() }.text()
+    Draft { procs, threads: draft.threads.clone() }.text()
 }
 
 /// An either or a loop.
@@ -257,13 +256,13 @@ pub fn equal_neighbours_once(draft: &Draft) -> Vec<u8> {
         body.dedup();
         body
     };
-    Draft { procs: draft.procs.iter().map(once).collect(), lines: draft.lines.clone() }.text()
+    Draft { procs: draft.procs.iter().map(once).collect(), threads: draft.threads.clone() }.text()
 }
 
 /// Procedures by another straightening, told the number of each.
 fn by_procedure(draft: &Draft, other: fn(&Draft, usize) -> Vec<Tree>) -> Vec<u8> {
     let procs = (0..draft.procs.len()).map(|proc| other(draft, proc)).collect();
-    Draft { procs, lines: draft.lines.clone() }.text()
+    Draft { procs, threads: draft.threads.clone() }.text()
 }
 
 /// The first procedure alone is straightened.
@@ -321,9 +320,9 @@ pub fn deepest_kept(draft: &Draft) -> Vec<u8> {
     by_procedure(draft, |draft, proc| deep(&draft.procs[proc], MAX_BRACKETS))
 }
 
-/// The right copy with other thread lines.
-fn run_by(draft: &Draft, lines: Vec<Copies>) -> Vec<u8> {
-    Draft { lines, ..straight::straightened(draft) }.text()
+/// The right copy with other threads.
+fn run_by(draft: &Draft, threads: Vec<usize>) -> Vec<u8> {
+    Draft { threads, ..straight::straightened(draft) }.text()
 }
 
 /// Thread lines go too.
@@ -333,39 +332,14 @@ pub fn threads_lost(draft: &Draft) -> Vec<u8> {
 
 /// The last thread line goes too.
 pub fn last_thread_lost(draft: &Draft) -> Vec<u8> {
-    run_by(draft, draft.lines[..draft.lines.len() - 1].to_vec())
+    run_by(draft, draft.threads[..draft.threads.len() - 1].to_vec())
 }
 
 /// Thread lines in the order of their numbers.
 pub fn threads_ascending(draft: &Draft) -> Vec<u8> {
-    let mut lines = draft.lines.clone();
-    lines.sort_by_key(|line| line.proc);
-    run_by(draft, lines)
-}
-
-/// The right copy with another line for each.
-fn run_by_other(draft: &Draft, other: fn(&Copies) -> Copies) -> Vec<u8> {
-    run_by(draft, draft.lines.iter().map(other).collect())
-}
-
-/// One copy on each line.
-pub fn ranges_lost(draft: &Draft) -> Vec<u8> {
-    run_by_other(draft, |line| Copies::one(line.proc))
-}
-
-/// The highest count for the lowest.
-pub fn highest_alone(draft: &Draft) -> Vec<u8> {
-    run_by_other(draft, |line| Copies { low: line.high, ..*line })
-}
-
-/// The counts exchanged.
-pub fn counts_exchanged(draft: &Draft) -> Vec<u8> {
-    run_by_other(draft, |line| Copies { low: line.high, high: line.low, ..*line })
-}
-
-/// A line for each copy.
-pub fn ranges_as_lines(draft: &Draft) -> Vec<u8> {
-    run_by(draft, draft.threads().into_iter().map(Copies::one).collect())
+    let mut threads = draft.threads.clone();
+    threads.sort_unstable();
+    run_by(draft, threads)
 }
 
 /// The forms that go.
@@ -400,7 +374,7 @@ pub fn lines_that_stay(text: &[u8]) -> Vec<&[u8]> {
 
 /// The right copy from these lines.
 pub fn copy_by_lines(text: &[u8]) -> Vec<u8> {
-    lines_that_stay(text).into_iter().flat_map(|line| respelled(bare(line))).collect()
+    lines_that_stay(text).into_iter().flat_map(bare).copied().collect()
 }
 
 /// The lines that close a loop stay too.

@@ -73,7 +73,7 @@ fn bend(block: &[Tree], left: usize, random: &mut Random) -> Vec<Tree> {
 /// the same. It may be larger than allowed.
 pub fn bent(draft: &Draft, random: &mut Random) -> Draft {
     let procs = draft.procs.iter().map(|body| bend(body, MAX_BRACKETS, random)).collect();
-    Draft { procs, lines: draft.lines.clone() }
+    Draft { procs, threads: draft.threads.clone() }
 }
 
 /// A block of an exact size, by weights of skip, hold, loop and either, with so many brackets
@@ -107,7 +107,7 @@ fn about_full(random: &mut Random) -> Draft {
     let size = MAX_SIZE as usize - 1 + random.below(3);
     let weights = *random.pick(&[[2, 2, 4, 4], [1, 0, 3, 3], [1, 0, 0, 4], [1, 0, 4, 0], [4, 1, 1, 1]]);
     let threads = vec![0; random.between(1, 3)];
-    Draft::new(vec![of_size(size, MAX_BRACKETS, weights, random)], threads)
+    Draft { procs: vec![of_size(size, MAX_BRACKETS, weights, random)], threads }
 }
 
 /// Nothing but eithers, loops and skips.
@@ -152,7 +152,7 @@ fn trees(random: &mut Random) -> Draft {
     let locks = random.between(2, 32);
     let mut leaf = || if depth < 8 { hold(random.below(locks), vec![]) } else { Tree::Skip };
     let body = eithers(depth, &mut leaf);
-    Draft::new(vec![body], vec![0; 2])
+    Draft { procs: vec![body], threads: vec![0; 2] }
 }
 
 /// The same plan with each call inside an either or a loop, or both.

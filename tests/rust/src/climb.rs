@@ -86,7 +86,7 @@ impl Chains {
             all
         };
         let bodies = draft.procs.iter().map(body).collect();
-        Chains { bodies, threads: draft.threads(), shares: false }
+        Chains { bodies, threads: draft.threads.clone(), shares: false }
     }
 
     /// The same, whose changes make shares, too. Where it has none, half of its holds become
@@ -133,7 +133,7 @@ impl Chains {
             }
             block
         };
-        Draft::new(self.bodies.iter().map(body).collect(), self.threads.clone())
+        Draft { procs: self.bodies.iter().map(body).collect(), threads: self.threads.clone() }
     }
 
     pub fn text(&self) -> Vec<u8> {

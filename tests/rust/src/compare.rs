@@ -1,6 +1,6 @@
 //! The comparison of the library with the reference on one text.
 
-use crate::answer::{Answer, COPIED, CROSSED, DEADLOCK, FREE, GROWN, PAIRS, REFUSED, SPACE};
+use crate::answer::{Answer, COPIED, CROSSED, DEADLOCK, FREE, PAIRS, REFUSED, SPACE};
 use crate::crossings::{bytes, crossed, Couple, COUPLE_BYTES};
 use crate::gateway::replay;
 use crate::guard::Pages;
@@ -9,7 +9,7 @@ use crate::reference::{read, Plan, Refusal, MAX_SUM, MAX_WORDS};
 use crate::straight::straight;
 use crate::tidy::{tidy, COPY_BYTES};
 use crate::twins::Twins;
-use crate::verdict::{self, Kind};
+use crate::verdict::deadlocks;
 
 /// Text and output.
 pub type VerdictCall = fn(&[u8], &mut [u8]) -> u64;
@@ -105,7 +105,8 @@ fn lent_to_crossings(couples: &Result<Vec<Couple>, Refusal>, random: &mut Random
 /// What a text gave, for the summary.
 #[derive(Clone, Copy, Debug, PartialEq, Eq, PartialOrd, Ord)]
 pub enum Outcome {
-    Accepted(Kind),
+    Free,
+    Deadlock,
     Refused(u8),
 }
 
@@ -121,8 +122,6 @@ pub struct Counts {
     pub at_the_sum: u64,
     /// Of accepted plans, lent one entry less.
     pub one_less: u64,
-    /// Free at the lowest counts and a deadlock at the highest, with a schedule.
-    pub grown: u64,
     pub copies: u64,
     pub straights: u64,
     pub spaces: u64,
@@ -201,13 +200,13 @@ impl Bench {
         self.check_known(calls, text, None, random)
     }
 
-    /// The same where it is known which answer an accepted text has: the reference does not
-    /// search for it.
+    /// The same where it is known whether an accepted text deadlocks: the reference does
+    /// not search for it.
     pub fn check_known(
         &mut self,
         calls: Calls,
         text: &[u8],
-        known: Option<Kind>,
+        known: Option<bool>,
         random: &mut Random,
     ) -> Result<Outcome, String> {
         let said = match self.last.take() {
@@ -362,18 +361,12 @@ impl Bench {
                 let (entries, sum) = (lent.len as u64 / 2, plan.size_of_threads());
                 self.counts.at_the_sum += u64::from(entries == sum);
                 self.counts.one_less += u64::from(entries + 1 == sum);
-                let answer = Answer::new(number);
-                match said.outcome {
-                    _ if entries < sum => same_answer(number, Answer::refused(Refusal::SHORT)),
-                    Outcome::Accepted(Kind::Deadlock) if answer.kind == DEADLOCK => {
-                        self.schedule(plan, answer, &mut expected, &lent)
-                    }
-                    Outcome::Accepted(Kind::Grown) if answer.kind == GROWN => {
-                        self.counts.grown += 1;
-                        self.schedule(plan, answer, &mut expected, &lent)
-                    }
-                    Outcome::Accepted(Kind::Free) => same_answer(number, Answer { kind: FREE, a: 0, b: 0 }),
-                    outcome => Err(format!("answer {answer:?}, not that of {outcome:?}")),
+                if entries < sum {
+                    same_answer(number, Answer::refused(Refusal::SHORT))
+                } else if said.outcome == Outcome::Deadlock {
+                    self.schedule(plan, Answer::new(number), &mut expected, &lent)
+                } else {
+                    same_answer(number, Answer { kind: FREE, a: 0, b: 0 })
                 }
             }
         };
@@ -448,8 +441,7 @@ impl Bench {
         self.left(&what, same_answer(number, answer), expected, &lent)
     }
 
-    /// A deadlock's schedule is a run at the highest counts, short enough, with the stuck set at
-    /// its end.
+    /// A deadlock's schedule is a run, short enough, with the stuck set at its end.
     fn schedule(
         &mut self,
         plan: &Plan,
@@ -457,6 +449,9 @@ impl Bench {
         expected: &mut [u8],
         lent: &Lent,
     ) -> Result<(), String> {
+        if answer.kind != DEADLOCK {
+            return Err(format!("answer {answer:?}, not a deadlock"));
+        }
         if answer.b > plan.size_of_threads() {
             return Err(format!("{} entries, more than {}", answer.b, plan.size_of_threads()));
         }
@@ -501,11 +496,12 @@ pub fn outcome(text: &[u8]) -> Outcome {
 }
 
 /// What the reference says of a text, by what is known of its verdict.
-fn say(text: &[u8], known: Option<Kind>) -> Said {
+fn say(text: &[u8], known: Option<bool>) -> Said {
     let plan = read(text);
     let outcome = match &plan {
         Err(refusal) => Outcome::Refused(refusal.rule),
-        Ok(plan) => Outcome::Accepted(known.unwrap_or_else(|| verdict::kind(plan))),
+        Ok(plan) if known.unwrap_or_else(|| deadlocks(plan)) => Outcome::Deadlock,
+        Ok(_) => Outcome::Free,
     };
     let (tidy, straight) = plan.as_ref().map(|plan| (tidy(plan), straight(plan))).unwrap_or_default();
     Said { text: text.to_vec(), plan, outcome, tidy, straight }
@@ -622,7 +618,6 @@ pub fn kind(answer: Answer) -> &'static str {
     match answer.kind {
         FREE => "free",
         DEADLOCK => "deadlock",
-        GROWN => "grown",
         REFUSED => "refused",
         _ => "unknown",
     }

@@ -60,8 +60,8 @@ pub fn bytes(couples: &[Couple]) -> Vec<u8> {
 
 /// The plan with these two threads alone, without the procedures that are idle then.
 pub fn alone(draft: &Draft, first: usize, second: usize) -> Draft {
-    let threads = draft.threads();
-    without_idle(draft.clone().run_by([first, second].map(|thread| threads[thread])))
+    let threads = [first, second].map(|thread| draft.threads[thread]).to_vec();
+    without_idle(Draft { threads, ..draft.clone() })
 }
 
 /// Each two threads of a plan, the lower first.

@@ -7,10 +7,8 @@ use std::path::Path;
 use crate::full;
 use crate::generate::statements;
 use crate::random::Random;
-use crate::ranges;
-use crate::reference::{threads, Copies, MAX_PROCS, MAX_STATEMENTS};
+use crate::reference::{MAX_PROCS, MAX_STATEMENTS};
 use crate::shares;
-use crate::verdict::Kind;
 
 /// A statement to be printed; the numbers may break the rules.
 #[derive(Clone, Debug, PartialEq, Eq)]
@@ -29,37 +27,21 @@ use Tree::{Call, Hold, Share, Skip};
 #[derive(Clone, Debug, Default, PartialEq, Eq)]
 pub struct Draft {
     pub procs: Vec<Vec<Tree>>,
-    /// The thread lines.
-    pub lines: Vec<Copies>,
+    pub threads: Vec<usize>,
 }
 
 impl Draft {
-    /// One copy of each of these procedures.
-    pub fn new(procs: Vec<Vec<Tree>>, threads: impl IntoIterator<Item = usize>) -> Draft {
-        Draft { procs, lines: threads.into_iter().map(Copies::one).collect() }
-    }
-
     /// One thread for each body.
     pub fn each(procs: Vec<Vec<Tree>>) -> Draft {
-        let threads = 0..procs.len();
-        Draft::new(procs, threads)
-    }
-
-    /// The same run by others: one copy of each of these procedures.
-    pub fn run_by(self, threads: impl IntoIterator<Item = usize>) -> Draft {
-        Draft::new(self.procs, threads)
-    }
-
-    /// The procedure of each thread at the highest counts.
-    pub fn threads(&self) -> Vec<usize> {
-        threads(&self.lines, |line| line.high)
+        let threads = (0..procs.len()).collect();
+        Draft { procs, threads }
     }
 
     /// The same with each call, told by caller and callee, replaced by a statement.
     pub fn with_calls(&self, statement: impl Fn(usize, usize) -> Tree) -> Draft {
         let body =
             |(caller, body): (usize, &Vec<Tree>)| with_calls(body, &|callee| statement(caller, callee));
-        Draft { procs: self.procs.iter().enumerate().map(body).collect(), lines: self.lines.clone() }
+        Draft { procs: self.procs.iter().enumerate().map(body).collect(), threads: self.threads.clone() }
     }
 
     /// The same procedures in another order, by the new number of each. Calls and
@@ -71,8 +53,7 @@ impl Draft {
         for (proc, body) in renamed.procs.into_iter().enumerate() {
             procs[number(proc)] = body;
         }
-        let line = |line: &Copies| Copies { proc: number(line.proc), ..*line };
-        Draft { procs, lines: self.lines.iter().map(line).collect() }
+        Draft { procs, threads: self.threads.iter().map(|proc| number(*proc)).collect() }
     }
 
     /// The procedures from the last to the first.
@@ -87,8 +68,8 @@ impl Draft {
             print(body, &mut out);
             out.push_str(")\n");
         }
-        for line in &self.lines {
-            out.push_str(&format!("{line}\n"));
+        for proc in &self.threads {
+            out.push_str(&format!("(thread {proc})\n"));
         }
         out.push_str(")\n");
         out.into_bytes()
@@ -192,7 +173,7 @@ pub fn late(count: usize) -> Draft {
     for i in 0..count {
         procs.push(vec![Call(0), Call(0), Call(1), nest(&[i, (i + 1) % count], vec![])]);
     }
-    Draft::new(procs, 2..count + 2)
+    Draft { procs, threads: (2..count + 2).collect() }
 }
 
 /// The same behind a loop and an either at each end: the way to the deadlock
@@ -204,7 +185,7 @@ pub fn late_choice(count: usize) -> Draft {
         let end = nest(&[i, (i + 1) % count], vec![]);
         procs.push(vec![Call(2), Tree::Either(vec![Skip], vec![Skip, end])]);
     }
-    Draft::new(procs, 3..count + 3)
+    Draft { procs, threads: (3..count + 3).collect() }
 }
 
 /// 128 pairs in each of six threads: eight chains of sixteen locks each.
@@ -255,7 +236,7 @@ impl Ring<'_> {
     pub fn draft(self) -> Draft {
         let mut procs: Vec<Vec<Tree>> = (0..self.threads).map(|thread| self.inner(thread)).collect();
         procs.extend((0..self.threads).map(|thread| self.outer(thread)));
-        Draft::new(procs, self.threads..2 * self.threads)
+        Draft { procs, threads: (self.threads..2 * self.threads).collect() }
     }
 
     fn lock(&self, thread: usize, k: usize) -> usize {
@@ -346,22 +327,22 @@ pub fn some_of(range: Range<usize>, count: usize, random: &mut Random) -> Vec<us
     all
 }
 
-/// Threads in a ring, each of which takes one of its lists of locks below
+/// Six threads in a ring, each of which takes one of its lists of locks below
 /// 26, then its own ring lock and inside it its neighbour's. A cycle needs all
-/// of them with lists that share no lock: where there are none, the plan is free.
+/// six with lists that share no lock: where there are none, the plan is free.
 /// Each thread has as many lists as it has room for.
-pub fn ring_of_lists(threads: usize, mut list: impl FnMut(usize) -> Vec<usize>) -> Draft {
+pub fn ring_of_lists(mut list: impl FnMut(usize) -> Vec<usize>) -> Draft {
     let mut block =
-        |thread: usize| full_of(|| [list(thread), vec![26 + thread, 26 + (thread + 1) % threads]].concat());
-    Draft::each((0..threads).map(&mut block).collect())
+        |thread: usize| full_of(|| [list(thread), vec![26 + thread, 26 + (thread + 1) % 6]].concat());
+    Draft::each((0..6).map(&mut block).collect())
 }
 
 /// Lists of `length` of so many locks, the same in each thread or its own. With
-/// fewer than threads × length locks not all threads have disjoint ones.
-pub fn crowded_ring(threads: usize, length: usize, locks: usize, same: bool) -> Draft {
-    assert!(locks < threads * length);
+/// fewer than 6 × length locks no six are disjoint.
+pub fn crowded_ring(length: usize, locks: usize, same: bool) -> Draft {
+    assert!(locks < 6 * length);
     let mut random = [0, 1, 2, 3, 4, 5].map(|thread| Random::new(if same { 0 } else { thread }));
-    ring_of_lists(threads, |thread| some_of(0..locks, length, &mut random[thread]))
+    ring_of_lists(|thread| some_of(0..locks, length, &mut random[thread]))
 }
 
 /// Lists with one of five hub locks and `more` others: no six are disjoint.
@@ -369,7 +350,7 @@ pub fn crowded_ring(threads: usize, length: usize, locks: usize, same: bool) -> 
 pub fn hub_ring(more: usize, hubs_lowest: bool) -> Draft {
     let (hubs, others) = if hubs_lowest { (0..5, 5..26) } else { (21..26, 0..21) };
     let mut random = Random::new(0);
-    ring_of_lists(6, |_| {
+    ring_of_lists(|_| {
         let mut list = some_of(others.clone(), more, &mut random);
         list.extend(some_of(hubs.clone(), 1, &mut random));
         list.sort_unstable();
@@ -412,7 +393,7 @@ pub fn call_chain() -> Draft {
     let body = |proc: usize| [skips(15), vec![Call(proc + 1)]].concat();
     let mut procs: Vec<Vec<Tree>> = (0..MAX_PROCS - 1).map(body).collect();
     procs.push([skips(6), vec![nest(&[0, 1], vec![]), nest(&[1, 0], vec![])]].concat());
-    Draft::new(procs, vec![0; 6])
+    Draft { procs, threads: vec![0; 6] }
 }
 
 /// 64 procedures in any order of the text and in four layers, of 16, 30, 12 and 6, each
@@ -437,7 +418,7 @@ pub fn layered_calls() -> Draft {
         }
     };
     let procs = (0..MAX_PROCS).map(body).collect();
-    Draft::new(procs, MAX_PROCS - 6..MAX_PROCS).permuted(&random.permutation(MAX_PROCS))
+    Draft { procs, threads: (MAX_PROCS - 6..MAX_PROCS).collect() }.permuted(&random.permutation(MAX_PROCS))
 }
 
 /// The families that are measured: name, plan, whether it deadlocks. Those of `full` are
@@ -499,7 +480,7 @@ fn rings_of_lists() -> Vec<(String, Draft, bool)> {
         [(2, 11, true), (2, 11, false), (3, 17, true), (3, 17, false), (4, 23, false)]
     {
         let name = format!("lists-{length}-of-{locks}-{}", if same { "same" } else { "own" });
-        all.push((name, crowded_ring(6, length, locks, same), false));
+        all.push((name, crowded_ring(length, locks, same), false));
     }
     for (more, hubs_lowest) in [(1, false), (3, false), (3, true)] {
         let name = format!("hubs-{more}-{}", if hubs_lowest { "low" } else { "high" });
@@ -511,30 +492,10 @@ fn rings_of_lists() -> Vec<(String, Draft, bool)> {
     all
 }
 
-/// A list of families with what is said of each.
-fn told(families: Vec<(String, Draft, bool)>) -> impl Iterator<Item = (String, Draft, Kind)> {
-    let kind = |deadlock| if deadlock { Kind::Deadlock } else { Kind::Free };
-    families.into_iter().map(move |(name, draft, deadlock)| (name, draft, kind(deadlock)))
-}
-
-/// All families, also those with shares and those with ranges.
-pub fn every() -> Vec<(String, Draft, Kind)> {
-    told(all()).chain(told(shares::all())).chain(ranges::all()).collect()
-}
-
-/// Those of up to 128 pairs in a procedure, and the others.
-pub fn every_small() -> Vec<(String, Draft, Kind)> {
-    told(small()).chain(told(shares::small_families())).chain(ranges::small_families()).collect()
-}
-
-pub fn every_full() -> Vec<(String, Draft, Kind)> {
-    told(full::all()).chain(told(shares::full_families())).chain(ranges::full_families()).collect()
-}
-
 /// Writes the text of each family to `<name>.plan` in a folder.
 pub fn write_all(folder: &Path) -> std::io::Result<()> {
     std::fs::create_dir_all(folder)?;
-    for (name, draft, _) in every() {
+    for (name, draft, _) in all().into_iter().chain(shares::all()) {
         std::fs::write(folder.join(name + ".plan"), draft.text())?;
     }
     Ok(())

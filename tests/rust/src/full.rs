@@ -17,7 +17,7 @@ use Tree::Call;
 pub const LOCKS: usize = MAX_LOCK as usize + 1;
 
 /// The first of the six ring locks; the locks before are for lists.
-pub const RING: usize = LOCKS - MAX_THREADS;
+const RING: usize = LOCKS - MAX_THREADS;
 
 /// Lists that are tried before a block counts as full.
 const TRIED: usize = 1_500;
@@ -75,9 +75,9 @@ fn statements_of(procs: &[Vec<Tree>]) -> usize {
 
 /// Procedures that are only called, and a thread of each body behind them.
 fn called_by(mut procs: Vec<Vec<Tree>>, bodies: Vec<Vec<Tree>>) -> Draft {
-    let threads = procs.len()..procs.len() + bodies.len();
+    let threads = (procs.len()..procs.len() + bodies.len()).collect();
     procs.extend(bodies);
-    Draft::new(procs, threads)
+    Draft { procs, threads }
 }
 
 /// Thirty chains of fifteen ascending locks, which all six threads take, each inside
@@ -115,7 +115,7 @@ pub fn many_pairs(deadlock: bool) -> Draft {
         two.last_mut().expect("a chain").reverse();
     }
     let procs = [one, two].map(|chains| chains.iter().map(|chain| nest(chain, vec![])).collect());
-    Draft::new(procs.into(), vec![0, 0, 0, 1, 1, 1])
+    Draft { procs: procs.into(), threads: vec![0, 0, 0, 1, 1, 1] }
 }
 
 /// So many chains of sixteen locks, each from another lock around: with 31 the most
@@ -135,7 +135,7 @@ pub fn around_by(chains: usize, down: impl Fn(usize) -> bool) -> Vec<Tree> {
 
 /// Six threads of 496 pairs each: deadlock.
 pub fn most_pairs() -> Draft {
-    Draft::new(vec![around(31)], vec![0; MAX_THREADS])
+    Draft { procs: vec![around(31)], threads: vec![0; MAX_THREADS] }
 }
 
 /// As `detours` over all locks: three threads that hold 0 around holds in a row, three
@@ -148,7 +148,7 @@ pub fn detours() -> Draft {
     };
     let procs =
         vec![vec![hold(0, row)], nested(17..LOCKS, vec![hold(0, vec![])]), nested(1..17, vec![Call(1)])];
-    Draft::new(procs, vec![0, 2, 0, 2, 0, 2])
+    Draft { procs, threads: vec![0, 2, 0, 2, 0, 2] }
 }
 
 /// The places of a ring, by procedures of which the last ones are theirs.
@@ -223,14 +223,14 @@ impl<'a> Places<'a> {
 }
 
 /// Each thread's ring lock around its neighbour's.
-fn ring_locks(threads: usize) -> Vec<Vec<Tree>> {
-    (0..threads).map(|place| vec![nest(&[RING + place, RING + (place + 1) % threads], vec![])]).collect()
+fn ring_locks() -> Vec<Vec<Tree>> {
+    (0..MAX_THREADS).map(|place| vec![nest(&[RING + place, RING + (place + 1) % 6], vec![])]).collect()
 }
 
 /// A ring of lists: each thread takes one of its lists, then its ring lock and inside it
 /// its neighbour's.
 pub fn lists(mut lists: impl FnMut(usize) -> Vec<Vec<usize>>) -> Draft {
-    let procs = ring_locks(MAX_THREADS);
+    let procs = ring_locks();
     let (sizes, room) = (sizes_of(&procs), beside(statements_of(&procs)));
     let bodies = (0..MAX_THREADS).map(|thread| filled(lists(thread), &Call(thread), &sizes, room)).collect();
     called_by(procs, bodies)
@@ -243,7 +243,7 @@ pub fn lists_by_parts(
     inner: impl Fn(usize) -> Vec<Vec<usize>>,
     times: u64,
 ) -> Draft {
-    let mut procs = ring_locks(MAX_THREADS);
+    let mut procs = ring_locks();
     let room = Room { size: MAX_SIZE / times - 4, ..beside(statements_of(&procs) + 500) };
     let sizes = sizes_of(&procs);
     for thread in 0..MAX_THREADS {
@@ -257,18 +257,11 @@ pub fn lists_by_parts(
 
 /// A ring of lists in which each thread may stand at any place: inside each list it
 /// calls one procedure for all places.
-pub fn lists_of_any(threads: usize, mut lists: impl FnMut(usize) -> Vec<Vec<usize>>) -> Draft {
-    let procs = vec![ring_locks(threads).concat()];
+pub fn lists_of_any(mut lists: impl FnMut(usize) -> Vec<Vec<usize>>) -> Draft {
+    let procs = vec![ring_locks().concat()];
     let (sizes, room) = (sizes_of(&procs), beside(statements_of(&procs)));
-    let bodies = (0..threads).map(|thread| filled(lists(thread), &Call(0), &sizes, room)).collect();
+    let bodies = (0..MAX_THREADS).map(|thread| filled(lists(thread), &Call(0), &sizes, room)).collect();
     called_by(procs, bodies)
-}
-
-/// Such a ring with lists of `length` of so many locks, fewer than all threads need for
-/// disjoint ones: free.
-pub fn crowded_ring_of_any(threads: usize, length: usize, locks: usize) -> Draft {
-    assert!(locks < threads * length);
-    lists_of_any(threads, |thread| any_lists(0..locks, length, Random::new(thread as u64)).collect())
 }
 
 /// 64 procedures in four layers as in `layered_calls`, with longer chains in the lowest
@@ -291,7 +284,7 @@ pub fn layered_calls() -> Draft {
         below = procs.len()..procs.len() + count;
         procs.extend((0..count).map(|proc| (0..locks).map(|at| hold_at(proc, at)).collect()));
     }
-    Draft::new(procs, below).permuted(&random.permutation(MAX_PROCS))
+    Draft { procs, threads: below.collect() }.permuted(&random.permutation(MAX_PROCS))
 }
 
 /// The families: name, plan, whether it deadlocks.
@@ -390,7 +383,7 @@ fn rings_of_lists() -> Vec<(String, Draft, bool)> {
             whole(thread).into_iter().chain(more).collect::<Vec<_>>()
         };
         all.push((format!("{name}-full"), lists(longer), false));
-        all.push((format!("{name}-any-full"), lists_of_any(MAX_THREADS, whole), false));
+        all.push((format!("{name}-any-full"), lists_of_any(whole), false));
         if length > 2 {
             // One of the first six locks, the others of those behind.
             let outer = |thread: usize| any_lists(0..6, 1, random(thread)).collect();
@@ -421,7 +414,7 @@ fn hubs() -> Vec<(String, Draft, bool)> {
             };
             (0..TRIED).map(&mut list).collect::<Vec<_>>()
         };
-        all.push((format!("{name}-any-full"), lists_of_any(MAX_THREADS, both), false));
+        all.push((format!("{name}-any-full"), lists_of_any(both), false));
     }
     all
 }

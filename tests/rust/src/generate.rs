@@ -7,8 +7,7 @@ use crate::idle::{about_idle, employed, with_idle};
 use crate::indent::{self, indent, over, padded};
 use crate::opposed::about_crossings;
 use crate::random::Random;
-use crate::ranges::{about_ranges, has_range, spelled};
-use crate::reference::{read, Copies, MAX_BYTES, MAX_PROCS, MAX_SIZE, MAX_THREADS, MOST_PAIRS};
+use crate::reference::{read, MAX_BYTES, MAX_PROCS, MAX_SIZE, MAX_THREADS, MOST_PAIRS};
 use crate::shares::about_shares;
 
 /// A generated text with the name of its kind.
@@ -181,7 +180,7 @@ pub fn plan(random: &mut Random, shape: &Shape) -> Draft {
     for _ in 0..random.between(shape.threads.0, shape.threads.1) {
         // Late procedures call the earlier ones.
         let low = if random.chance(50) { count / 2 } else { 0 };
-        draft.lines.push(Copies::one(random.between(low, count - 1)));
+        draft.threads.push(random.between(low, count - 1));
     }
     any_order(employed(draft, random), random)
 }
@@ -288,8 +287,8 @@ pub fn circles(random: &mut Random) -> Draft {
 
 /// Puts a thread before the others, in place of the first where there are enough.
 fn put_thread(draft: &mut Draft, proc: usize) {
-    let first = usize::from(draft.lines.len() >= MAX_THREADS);
-    draft.lines.splice(..first, [Copies::one(proc)]);
+    let first = usize::from(draft.threads.len() >= MAX_THREADS);
+    draft.threads.splice(..first, [proc]);
 }
 
 /// Locks in an order that is ascending but for a few changes.
@@ -361,7 +360,7 @@ pub fn rings(random: &mut Random) -> Draft {
         procs.push(block);
     }
     let mut draft = Draft::each(procs);
-    random.shuffle(&mut draft.lines);
+    random.shuffle(&mut draft.threads);
     draft
 }
 
@@ -412,14 +411,14 @@ pub fn doubling(last: usize) -> Draft {
     for proc in 1..=last {
         procs.push(vec![Tree::Call(proc - 1), Tree::Call(proc - 1)]);
     }
-    Draft::new(procs, vec![last])
+    Draft { procs, threads: vec![last] }
 }
 
 /// Procedures without a common statement, and a thread of the last, which calls all.
 fn many_procs(count: usize) -> Draft {
     let mut procs: Vec<Vec<Tree>> = (0..count).map(|proc| vec![hold(proc % 32, vec![])]).collect();
     procs[count - 1].extend((0..count - 1).map(Tree::Call));
-    Draft::new(procs, vec![count - 1])
+    Draft { procs, threads: vec![count - 1] }
 }
 
 /// A number of statements in all, in up to six bodies, most of at most 600. Each has a
@@ -440,7 +439,7 @@ fn many_statements(count: usize, random: &mut Random) -> Draft {
     }
     let count = procs.len();
     let more = (count..random.between(count, MAX_THREADS)).map(|_| random.below(count)).collect::<Vec<_>>();
-    Draft::new(procs, [random.permutation(count), more].concat())
+    Draft { threads: [random.permutation(count), more].concat(), procs }
 }
 
 /// Brackets open together, of all kinds.
@@ -509,7 +508,7 @@ pub fn sized(target: u64, random: &mut Random) -> Draft {
     // Calls were counted from the second procedure on.
     procs.push(shift(last));
     let count = procs.len();
-    Draft::new(procs, vec![count - 1, random.below(count), count - 1])
+    Draft { threads: vec![count - 1, random.below(count), count - 1], procs }
 }
 
 fn shift(block: Vec<Tree>) -> Vec<Tree> {
@@ -530,7 +529,7 @@ fn reentrant_tower(levels: usize, random: &mut Random) -> Draft {
             (0..random.between(1, 14)).map(|_| if random.chance(90) { 3 } else { level % 5 }).collect();
         procs.push(vec![nest(&chain, vec![Tree::Call(level)])]);
     }
-    Draft::new(procs, vec![levels, random.between(0, levels), levels])
+    Draft { threads: vec![levels, random.between(0, levels), levels], procs }
 }
 
 /// Chains of at most so many locks, taken upwards or in any order, with an exact number
@@ -606,13 +605,13 @@ pub fn many_pairs(random: &mut Random) -> Draft {
         procs.push(vec![nest(&chain, vec![])]);
     }
     threads.extend((0..random.below(3)).map(|_| random.below(procs.len())));
-    any_order(Draft::new(procs, threads), random)
+    any_order(Draft { procs, threads }, random)
 }
 
 /// As many pairs as a procedure can have, and one chain or skip more or less.
 fn most_pairs(random: &mut Random) -> Draft {
     let block = [full::around(random.between(30, 32)), skips(random.below(3))].concat();
-    Draft::new(vec![block], vec![0; random.between(1, 2)])
+    Draft { procs: vec![block], threads: vec![0; random.between(1, 2)] }
 }
 
 /// A right structure of an exact number of bytes.
@@ -652,8 +651,8 @@ fn faulty(random: &mut Random) -> Draft {
         match random.below(9) {
             0 => draft.procs[proc].insert(at, hold(number, vec![])),
             1 => put_call(&mut draft.procs[proc], number, random),
-            2 => draft.lines.push(Copies::one(number)),
-            3 => draft.lines.resize(7 + random.below(3), Copies::one(0)),
+            2 => draft.threads.push(number),
+            3 => draft.threads.resize(7 + random.below(3), 0),
             4 => {
                 let count = random.between(16, 19);
                 draft.procs[proc].extend(brackets(count, random).procs.remove(0));
@@ -680,13 +679,13 @@ pub fn spaces(random: &mut Random) -> Draft {
     let mut draft = plan(random, &SMALL);
     let proc = random.below(draft.procs.len());
     match random.below(10) {
-        0 | 1 => draft.lines = vec![Copies::one(proc)],
-        2 => draft.lines = vec![Copies::one(proc); random.between(2, 6)],
+        0 | 1 => draft.threads = vec![proc],
+        2 => draft.threads = vec![proc; random.between(2, 6)],
         3 | 4 => draft = families::late(random.between(5, 6)),
         5..=7 => {
             draft = sized(1_022 + random.below(3) as u64, random);
-            draft.lines = vec![Copies::one(draft.procs.len() - 1); random.between(4, 6)];
-            draft.lines[0].proc -= random.below(2);
+            draft.threads = vec![draft.procs.len() - 1; random.between(4, 6)];
+            draft.threads[0] -= random.below(2);
         }
         _ => draft.procs[proc].extend(couples(random.between(97, 120), random)),
     }
@@ -702,7 +701,7 @@ fn limit(random: &mut Random) -> Case {
         2 => {
             let mut draft = plan(random, &SMALL);
             let count = draft.procs.len();
-            draft.lines = (0..near(random, 6)).map(|_| Copies::one(random.below(count))).collect();
+            draft.threads = (0..near(random, 6)).map(|_| random.below(count)).collect();
             ("6 threads", employed(draft, random))
         }
         3 => ("16 brackets", brackets(near(random, 16), random)),
@@ -715,7 +714,7 @@ fn limit(random: &mut Random) -> Case {
         6 => {
             let count = near(random, 96);
             let mut draft = Draft::each(vec![couples(count, random)]);
-            draft.lines.push(Copies::one(0));
+            draft.threads.push(0);
             ("96 couples", draft)
         }
         7 => {
@@ -748,7 +747,7 @@ fn limit(random: &mut Random) -> Case {
         17 => {
             // The shortest plan in which the sixth thread matters.
             let mut draft = families::philosophers(6);
-            random.shuffle(&mut draft.lines);
+            random.shuffle(&mut draft.threads);
             if random.chance(50) {
                 draft.procs[random.below(6)] = skips(1);
             }
@@ -761,7 +760,7 @@ fn limit(random: &mut Random) -> Case {
                 procs.push(vec![Tree::Call(level)]);
             }
             procs[levels] = vec![nest(&[0, 1], vec![])];
-            Draft::new(procs, vec![levels, levels - 1, random.below(levels)])
+            Draft { procs, threads: vec![levels, levels - 1, random.below(levels)] }
         }),
         19 => {
             let text = deep(random);
@@ -969,18 +968,14 @@ pub fn damage(text: Vec<u8>, random: &mut Random) -> Vec<u8> {
 pub fn neighbour(text: &[u8], random: &mut Random) -> Vec<u8> {
     let mut all = lines(text);
     let at = random.below(all.len());
-    let digits = |line: &[u8]| -> Vec<usize> {
-        (0..line.len()).filter(|place| line[*place].is_ascii_digit()).collect()
-    };
-    match random.below(5) {
+    let numbered = |line: &Vec<u8>| line.iter().any(u8::is_ascii_digit);
+    match random.below(4) {
         0 | 1 => {
-            if let Some(line) = all[at..].iter_mut().find(|line| !digits(line).is_empty()) {
-                let place = *random.pick(&digits(line));
+            if let Some(line) = all[at..].iter_mut().find(|line| numbered(line)) {
+                let place = line.iter().position(u8::is_ascii_digit).expect("a digit");
                 line[place] = b'0' + random.below(4) as u8;
             }
         }
-        // The same plan, where a library knows ranges.
-        4 if has_range(text) => return spelled(text, random),
         2 => all.insert(at, b"(skip)\n".to_vec()),
         _ => all.swap(at, random.below(at + 1)),
     }
@@ -1156,7 +1151,7 @@ pub fn breaking(rule: u8, random: &mut Random) -> Vec<u8> {
         5 => match random.below(4) {
             0 => draft = many_procs(65),
             1 => draft = many_statements(1_025, random),
-            2 => draft.lines.resize(random.between(7, 9), Copies::one(0)),
+            2 => draft.threads.resize(random.between(7, 9), 0),
             _ => draft = brackets(17, random),
         },
         6 => draft.procs[proc].push(hold(random.between(32, 999), vec![])),
@@ -1164,7 +1159,7 @@ pub fn breaking(rule: u8, random: &mut Random) -> Vec<u8> {
             let callee = absent(draft.procs.len(), random);
             put_call(&mut draft.procs[proc], callee, random);
         }
-        8 => draft.lines.push(Copies::one(random.between(draft.procs.len(), 999))),
+        8 => draft.threads.push(random.between(draft.procs.len(), 999)),
         9 => match random.below(5) {
             0 => draft.procs[proc].extend(full::around(32)),
             1 => draft.procs[proc].extend(couples(random.between(205, 240), random)),
@@ -1174,7 +1169,7 @@ pub fn breaking(rule: u8, random: &mut Random) -> Vec<u8> {
         13 => draft = with_idle(random),
         _ => put_circle(&mut draft, circle_length(random), true, random),
     }
-    draft.lines.truncate(if rule == 5 { 9 } else { 6 });
+    draft.threads.truncate(if rule == 5 { 9 } else { 6 });
     draft.text()
 }
 
@@ -1207,24 +1202,15 @@ pub fn enough_accepted(accepted: u64, generated: u64) -> bool {
     generated < 1_000 || 3 * accepted > generated
 }
 
-/// One text of a seed, nearly half of them with ranges.
+/// One text of a seed, in three of four with shares.
 pub fn generate(random: &mut Random) -> Case {
-    match random.chance(45) {
-        true => about_ranges(random),
-        false => without_range(random),
-    }
-}
-
-/// One text of a seed without `(thread P A B)`, in three of four with shares: a library from
-/// before ranges answers it alike.
-pub fn without_range(random: &mut Random) -> Case {
     match random.chance(75) {
         true => about_shares(random),
         false => without_share(random),
     }
 }
 
-/// One text of a seed without a range or a share: a library from before shares answers it alike.
+/// One text of a seed without a share: a library from before shares answers it alike.
 pub fn without_share(random: &mut Random) -> Case {
     match random.weighted(&[55, 25, 7, 5, 4, 3, 1]) {
         0 => plain(random),

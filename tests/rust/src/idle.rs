@@ -9,7 +9,7 @@ use crate::generate::{
     TINY,
 };
 use crate::random::Random;
-use crate::reference::{named, sizes, Copies, MAX_PROCS, MAX_SIZE, MAX_THREADS};
+use crate::reference::{named, sizes, MAX_PROCS, MAX_SIZE, MAX_THREADS};
 
 /// The procedures that a block calls.
 fn callees(block: &[Tree], all: &mut BTreeSet<usize>) {
@@ -42,14 +42,9 @@ fn reached(draft: &Draft, from: &[usize]) -> BTreeSet<usize> {
     }
 }
 
-/// The procedures that thread lines name.
-fn named_by_lines(draft: &Draft) -> Vec<usize> {
-    draft.lines.iter().map(|line| line.proc).collect()
-}
-
-/// The procedures that no thread line names or reaches through calls, ascending.
+/// The procedures that no thread names or reaches through calls, ascending.
 pub fn idle(draft: &Draft) -> Vec<usize> {
-    let used = reached(draft, &named_by_lines(draft));
+    let used = reached(draft, &draft.threads);
     (0..draft.procs.len()).filter(|proc| !used.contains(proc)).collect()
 }
 
@@ -75,7 +70,7 @@ fn any_idle(draft: &Draft, random: &mut Random) -> Option<usize> {
 /// The same with a call of an idle procedure from a used one that it does not reach, so
 /// that no circle is closed.
 fn with_call(draft: &Draft, proc: usize, random: &mut Random) -> Option<Draft> {
-    let (used, behind) = (reached(draft, &named_by_lines(draft)), reached(draft, &[proc]));
+    let (used, behind) = (reached(draft, &draft.threads), reached(draft, &[proc]));
     let callers: Vec<usize> = used.difference(&behind).copied().collect();
     if callers.is_empty() {
         return None;
@@ -87,9 +82,8 @@ fn with_call(draft: &Draft, proc: usize, random: &mut Random) -> Option<Draft> {
 
 /// The same with a thread of a procedure, where there is room for one.
 fn with_thread(draft: &Draft, proc: usize) -> Option<Draft> {
-    let lines = [draft.lines.as_slice(), &[Copies::one(proc)]].concat();
-    let threads: usize = lines.iter().map(|line| line.high).sum();
-    (threads <= MAX_THREADS).then(|| Draft { lines, ..draft.clone() })
+    let threads = [draft.threads.as_slice(), &[proc]].concat();
+    (threads.len() <= MAX_THREADS).then(|| Draft { threads, ..draft.clone() })
 }
 
 /// The same without a procedure that is not used; calls of it become skips.
@@ -99,7 +93,7 @@ fn without(draft: &Draft, proc: usize) -> Draft {
     let call = |callee: usize| if callee == proc { Tree::Skip } else { Tree::Call(number(callee)) };
     let mut rest = draft.with_calls(|_, callee| call(callee));
     rest.procs.remove(proc);
-    rest.lines.iter_mut().for_each(|line| line.proc = number(line.proc));
+    rest.threads.iter_mut().for_each(|thread| *thread = number(*thread));
     rest
 }
 
@@ -165,7 +159,7 @@ fn forest(random: &mut Random) -> Draft {
     let mut threads = random.permutation(roots);
     let again = vec![threads[0]; random.below(MAX_THREADS + 1 - roots)];
     threads.splice(0..0, again);
-    Draft::new(procs, threads)
+    Draft { procs, threads }
 }
 
 /// Such a plan without some thread lines or calls, so that some of its procedures are idle.
@@ -174,8 +168,8 @@ fn lost(random: &mut Random) -> Draft {
     for _ in 0..random.between(1, 3) {
         let proc = random.below(draft.procs.len());
         draft = draft.with_calls(|_, callee| if callee == proc { Tree::Skip } else { Tree::Call(callee) });
-        if draft.lines.iter().any(|line| line.proc != proc) {
-            draft.lines.retain(|line| line.proc != proc);
+        if draft.threads.iter().any(|thread| *thread != proc) {
+            draft.threads.retain(|thread| *thread != proc);
         }
     }
     draft
@@ -201,7 +195,7 @@ pub fn with_idle(random: &mut Random) -> Draft {
         1 => plan(random, &SMALL),
         2 => plan(random, &CALLING),
         3 => cycles(random),
-        _ => Draft::new(vec![skips(1)], vec![0]),
+        _ => Draft { procs: vec![skips(1)], threads: vec![0] },
     };
     let count = *random.pick(&[1, 1, 1, 2, 3, 39, 63]);
     put_idle(&mut draft, count, random);
@@ -220,7 +214,7 @@ fn beside(random: &mut Random) -> Draft {
             put_idle(&mut draft, random.between(1, 3), random);
         }
         3 | 4 => put_circle(&mut draft, circle_length(random), true, random),
-        5 => draft.lines[0].proc = absent(count, random),
+        5 => draft.threads[0] = absent(count, random),
         6 => put_call(&mut draft.procs[proc], absent(count, random), random),
         _ => draft.procs[proc].push(hold(random.between(32, 999), vec![])),
     }

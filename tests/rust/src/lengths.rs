@@ -44,7 +44,7 @@ fn brackets() -> Vec<u8> {
 fn padded(padding: Padding) -> Vec<Long> {
     let a = |threads| {
         let procs = vec![vec![nest(&[0, 1], vec![])], vec![nest(&[1, 0], vec![])]];
-        Draft::new(procs, threads).text()
+        Draft { procs, threads }.text()
     };
     let end = a(vec![0, 1]).len() - 2;
     // Before the last line, or before the last two.

@@ -5,19 +5,19 @@ use std::collections::BTreeSet;
 
 use crate::pairs::{compositional, compositional_by, Fresh};
 use crate::reference::{
-    bare, lines, named, read, sizes, structure, BlockId, Copies, Form, Line, Plan, Refusal, Stmt,
-    MAX_BRACKETS, MAX_LOCK, MAX_PAIRS, MAX_PROCS, MAX_SIZE, MAX_STATEMENTS, MAX_THREADS,
+    bare, lines, named, read, sizes, structure, BlockId, Form, Line, Plan, Refusal, Stmt, MAX_BRACKETS,
+    MAX_LOCK, MAX_PAIRS, MAX_PROCS, MAX_SIZE, MAX_STATEMENTS, MAX_THREADS,
 };
 
-pub type Reading = Result<Plan, Refusal>;
+type Reading = Result<Plan, Refusal>;
 
 /// The plan of a text of right structure, whatever else it breaks.
-pub fn plan(text: &[u8]) -> Reading {
+fn plan(text: &[u8]) -> Reading {
     structure(&lines(text)?)
 }
 
 /// A text with other forms on some of its lines, which stay where they are.
-pub fn with_forms(text: &[u8], mut other: impl FnMut(Line) -> Option<String>) -> Vec<u8> {
+fn with_forms(text: &[u8], mut other: impl FnMut(Line) -> Option<String>) -> Vec<u8> {
     let (mut changed, mut kept) = (Vec::new(), 0);
     for line in lines(text).expect("lines that are read").forms {
         if let Some(form) = other(line) {
@@ -58,7 +58,7 @@ fn without_recursion(text: &[u8], plan: &Plan) -> Vec<u8> {
 }
 
 /// The reading of a text, or another where a rule refuses it.
-pub fn instead(text: &[u8], rule: u8, other: impl FnOnce(Plan) -> Option<Reading>) -> Reading {
+fn instead(text: &[u8], rule: u8, other: impl FnOnce(Plan) -> Option<Reading>) -> Reading {
     match read(text) {
         Err(refusal) if refusal.rule == rule => other(plan(text)?).unwrap_or(Err(refusal)),
         said => said,
@@ -76,12 +76,12 @@ fn too_large(sizes: &[u64], mut procs: impl Iterator<Item = usize>) -> Option<us
 }
 
 /// The reading of a text by another rule 13, which tells the procedure that it names.
-pub fn by_idle(text: &[u8], idle: impl FnOnce(&Plan) -> Option<usize>) -> Reading {
+fn by_idle(text: &[u8], idle: impl FnOnce(&Plan) -> Option<usize>) -> Reading {
     judged(named(text)?, idle)
 }
 
 /// Rules 12, 13 by another one, and 9.
-pub fn judged(plan: Plan, idle: impl FnOnce(&Plan) -> Option<usize>) -> Reading {
+fn judged(plan: Plan, idle: impl FnOnce(&Plan) -> Option<usize>) -> Reading {
     if let Some(proc) = plan.recursive().first() {
         return refused(12, &plan, *proc);
     }
@@ -227,8 +227,8 @@ pub fn idle_let_through(text: &[u8]) -> Reading {
 /// Rule 13 before rule 8, absent threads passed over.
 pub fn idle_before_threads(text: &[u8]) -> Reading {
     instead(text, 8, |plan| {
-        let present = plan.lines.iter().copied().filter(|line| line.proc < plan.procs.len()).collect();
-        let plan = Plan { lines: present, ..plan };
+        let present = plan.threads.iter().copied().filter(|proc| *proc < plan.procs.len()).collect();
+        let plan = Plan { threads: present, ..plan };
         Some(refused(13, &plan, *plan.idle().first()?))
     })
 }
@@ -256,18 +256,17 @@ fn by_used(text: &[u8], used: impl FnOnce(&Plan) -> BTreeSet<usize>) -> Reading 
     })
 }
 
-/// The procedure of a thread line, and those that it reaches.
-fn used_by(plan: &Plan, line: usize) -> BTreeSet<usize> {
-    let proc = plan.lines[line].proc;
-    let mut used = plan.reached(proc);
-    used.insert(proc);
+/// A thread's procedure, and those that it reaches.
+fn used_by(plan: &Plan, thread: usize) -> BTreeSet<usize> {
+    let mut used = plan.reached(plan.threads[thread]);
+    used.insert(plan.threads[thread]);
     used
 }
 
 /// The procedures that threads name, and those that so many calls one after the other
 /// lead to.
 fn used_by_rounds(plan: &Plan, rounds: usize, callees: fn(&Plan, usize) -> Vec<usize>) -> BTreeSet<usize> {
-    let mut used: BTreeSet<usize> = plan.lines.iter().map(|line| line.proc).collect();
+    let mut used: BTreeSet<usize> = plan.threads.iter().copied().collect();
     for _ in 0..rounds {
         used.extend(used.clone().into_iter().flat_map(|proc| callees(plan, proc)));
     }
@@ -325,14 +324,14 @@ pub fn first_thread_alone(text: &[u8]) -> Reading {
 
 /// What the last thread does not use is idle.
 pub fn last_thread_alone(text: &[u8]) -> Reading {
-    by_used(text, |plan| used_by(plan, plan.lines.len() - 1))
+    by_used(text, |plan| used_by(plan, plan.threads.len() - 1))
 }
 
 /// A thread's number taken for that of its procedure.
 pub fn used_by_thread_numbers(text: &[u8]) -> Reading {
     by_used(text, |plan| {
-        let lines = (0..plan.threads.len().min(plan.procs.len())).map(Copies::one).collect();
-        let plan = Plan { lines, ..plan.clone() };
+        let threads = (0..plan.threads.len().min(plan.procs.len())).collect();
+        let plan = Plan { threads, ..plan.clone() };
         used_by_rounds(&plan, MAX_PROCS, all_callees)
     })
 }
@@ -472,8 +471,7 @@ fn by_counts(text: &[u8], of_share: [usize; 2]) -> Reading {
         let present = |proc: usize| plan.callees(proc).all(|callee| callee < plan.procs.len());
         let names =
             (0..plan.procs.len()).all(present) && plan.threads.iter().all(|proc| *proc < plan.procs.len());
-        let straight = plan.lines.iter().all(|line| !line.crooked());
-        let fits = all <= MAX_STATEMENTS && most <= MAX_BRACKETS && small && names && straight;
+        let fits = all <= MAX_STATEMENTS && most <= MAX_BRACKETS && small && names;
         fits.then(|| judged(plan, |plan| plan.idle().first().copied()))
     })
 }

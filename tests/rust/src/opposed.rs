@@ -8,7 +8,7 @@ use crate::full::{around_by, LOCKS};
 use crate::generate::{any_order, body, plan, SMALL, TINY};
 use crate::idle::{employed, without_idle};
 use crate::random::Random;
-use crate::reference::{Copies, MAX_THREADS};
+use crate::reference::MAX_THREADS;
 
 use Tree::Call;
 
@@ -38,7 +38,7 @@ impl Opposed {
             let inner = nested_around(&lists(behind(thread), self.sets), &Call(thread));
             vec![nest(&locks(thread).collect::<Vec<_>>(), inner)]
         };
-        Draft::new(vec![wants(0), wants(1), body(0), body(1)], vec![2, 3])
+        Draft { procs: vec![wants(0), wants(1), body(0), body(1)], threads: vec![2, 3] }
     }
 }
 
@@ -63,7 +63,7 @@ pub const MOST_COUPLES: Opposed = Opposed { own: 10, further: 6, sets: 30 };
 
 /// Two threads of such chains, in turn upwards and downwards.
 pub fn both_around() -> Draft {
-    Draft::new(vec![around_by(31, |chain| chain % 2 == 1)], vec![0; 2])
+    Draft { procs: vec![around_by(31, |chain| chain % 2 == 1)], threads: vec![0; 2] }
 }
 
 /// A statement by itself, in a loop, in one block of an either, or behind a call of a
@@ -98,7 +98,7 @@ fn threads_of(chains: &[Vec<Vec<usize>>], random: &mut Random) -> Draft {
     let mut draft = Draft::default();
     for own in chains {
         let block = block(own, &mut draft.procs, random);
-        draft.lines.push(Copies::one(draft.procs.len()));
+        draft.threads.push(draft.procs.len());
         draft.procs.push(block);
     }
     draft
@@ -124,11 +124,10 @@ fn one_procedure(random: &mut Random) -> Draft {
         chains.push(other);
     }
     let mut draft = threads_of(&[chains], random);
-    draft.lines = vec![draft.lines[0]; random.between(2, MAX_THREADS - 1)];
+    draft.threads = vec![draft.threads[0]; random.between(2, MAX_THREADS - 1)];
     if random.chance(30) {
         draft.procs.push(body(random, &TINY, &[]));
-        let line = Copies::one(draft.procs.len() - 1);
-        draft.lines.insert(random.below(draft.lines.len() + 1), line);
+        draft.threads.insert(random.below(draft.threads.len() + 1), draft.procs.len() - 1);
     }
     draft
 }
@@ -151,7 +150,7 @@ fn one_direction(random: &mut Random) -> Draft {
     }
     let mut draft = threads_of(&[one, two], random);
     if random.chance(50) {
-        draft.lines.swap(0, 1);
+        draft.threads.swap(0, 1);
     }
     draft
 }
@@ -192,7 +191,7 @@ fn ring(random: &mut Random) -> Draft {
         chains[thread].push(vec![locks[(thread + 2) % count], locks[(thread + 1) % count]]);
     }
     let mut draft = threads_of(&chains, random);
-    random.shuffle(&mut draft.lines);
+    random.shuffle(&mut draft.threads);
     draft
 }
 
@@ -206,14 +205,14 @@ fn among_others(random: &mut Random) -> Draft {
         chains.push(vec![some_of(0..LOCKS, count, random)]);
     }
     let mut draft = threads_of(&chains, random);
-    random.shuffle(&mut draft.lines);
+    random.shuffle(&mut draft.threads);
     draft
 }
 
 /// One thread, whatever its procedure would cross in another.
 fn one_thread(random: &mut Random) -> Draft {
     let mut draft = if random.chance(50) { one_procedure(random) } else { plan(random, &SMALL) };
-    draft.lines = vec![*random.pick(&draft.lines)];
+    draft.threads = vec![*random.pick(&draft.threads)];
     without_idle(draft)
 }
 
@@ -225,7 +224,7 @@ fn many_couples(random: &mut Random) -> Draft {
     let draft = Opposed { own, further, sets }.draft();
     match random.below(4) {
         0 => detours(random.between(3, 14)),
-        1 => draft.run_by(vec![3, 2, 3]),
+        1 => Draft { threads: vec![3, 2, 3], ..draft },
         _ => draft,
     }
 }
@@ -234,10 +233,10 @@ fn many_couples(random: &mut Random) -> Draft {
 fn most_pairs(random: &mut Random) -> Draft {
     let any = random.next();
     let down = *random.pick(&[0, u64::MAX, 0x5555_5555, 1, any]);
-    let mut draft = Draft::new(vec![around_by(31, |chain| down >> chain & 1 == 1)], vec![0; 2]);
+    let mut draft = Draft { procs: vec![around_by(31, |chain| down >> chain & 1 == 1)], threads: vec![0; 2] };
     if random.chance(30) {
         draft.procs.push(vec![nest(&any_locks(3, random), vec![])]);
-        draft.lines.push(Copies::one(1));
+        draft.threads.push(1);
     }
     draft
 }

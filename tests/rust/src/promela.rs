@@ -42,8 +42,7 @@ inline share_own(lock) { readers[lock] = readers[lock] + 1 }
 inline unshare(lock) { readers[lock] = readers[lock] - 1 }
 ";
 
-/// The model of a plan at the threads that it has: at the highest counts, or with
-/// `Plan::lowest` at the lowest.
+/// The model of a plan.
 pub fn model(plan: &Plan) -> String {
     let shares = plan.blocks.iter().flatten().any(|stmt| matches!(stmt, Stmt::Share(..)));
     let mut out = String::from(if shares { SHARED_HEAD } else { HEAD });
@@ -52,10 +51,6 @@ pub fn model(plan: &Plan) -> String {
         Process { plan, shares, owner: thread + 1, had: Locks::NONE, out: &mut out }
             .block(plan.procs[*proc].body);
         out.push_str("}\n");
-    }
-    if plan.threads.is_empty() {
-        // SPIN needs a process.
-        out.push_str("init { skip }\n");
     }
     out
 }

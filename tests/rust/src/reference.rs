@@ -1,4 +1,4 @@
-//! Reading a plan text: rules 2 to 9, 12, 13 and 15, the tree, the calls, the sizes.
+//! Reading a plan text: rules 2 to 9, 12 and 13, the tree, the calls, the sizes.
 
 use std::collections::BTreeSet;
 
@@ -46,43 +46,12 @@ fn refuse<T>(rule: u8, line: usize) -> Result<T, Refusal> {
     Err(Refusal { rule, line })
 }
 
-/// What a thread line says: so many copies of a procedure at the lowest, and at the highest.
-#[derive(Clone, Copy, Debug, PartialEq, Eq, Hash)]
-pub struct Copies {
-    pub proc: usize,
-    pub low: usize,
-    pub high: usize,
-}
-
-impl Copies {
-    /// One copy, neither less nor more.
-    pub fn one(proc: usize) -> Copies {
-        Copies { proc, low: 1, high: 1 }
-    }
-
-    /// Rule 15: none at the highest, or more at the lowest.
-    pub fn crooked(self) -> bool {
-        self.high == 0 || self.low > self.high
-    }
-}
-
-/// The form in a tidy copy.
-impl std::fmt::Display for Copies {
-    fn fmt(&self, out: &mut std::fmt::Formatter) -> std::fmt::Result {
-        let Copies { proc, low, high } = self;
-        match (low, high) {
-            (1, 1) => write!(out, "(thread {proc})"),
-            _ => write!(out, "(thread {proc} {low} {high})"),
-        }
-    }
-}
-
 /// The kind of a line.
 #[derive(Clone, Copy, Debug, PartialEq, Eq, Hash)]
 pub enum Form {
     Plan,
     Proc,
-    Thread(Copies),
+    Thread(u32),
     Close,
     Skip,
     Call(u32),
@@ -103,17 +72,6 @@ fn number(digits: &[u8]) -> Option<u32> {
         return None;
     }
     Some(digits.iter().fold(0, |n, d| 10 * n + u32::from(d - b'0')))
-}
-
-/// One number, or three of a range, with a blank between two.
-fn copies(numbers: &[u8]) -> Option<Copies> {
-    let read = |digits: &[u8]| number(digits).map(|number| number as usize);
-    let numbers: Option<Vec<usize>> = numbers.split(|byte| *byte == b' ').map(read).collect();
-    match numbers?[..] {
-        [proc] => Some(Copies::one(proc)),
-        [proc, low, high] => Some(Copies { proc, low, high }),
-        _ => None,
-    }
 }
 
 /// What remains of a line behind its leading spaces. A space is byte 32 alone.
@@ -152,7 +110,7 @@ pub fn form(line: &[u8]) -> Option<Form> {
         return number(rest.strip_suffix(b")")?).map(Form::Call);
     }
     if let Some(rest) = line.strip_prefix(b"(thread ") {
-        return copies(rest.strip_suffix(b")")?).map(Form::Thread);
+        return number(rest.strip_suffix(b")")?).map(Form::Thread);
     }
     None
 }
@@ -185,10 +143,6 @@ pub struct Proc {
 pub struct Plan {
     pub blocks: Vec<Vec<Stmt>>,
     pub procs: Vec<Proc>,
-    /// The thread lines.
-    pub lines: Vec<Copies>,
-    /// The procedure of each thread, at the highest counts where nothing else is said: the
-    /// copies of a line stand one after the other.
     pub threads: Vec<usize>,
     /// By procedure.
     pub sizes: Vec<u64>,
@@ -232,10 +186,9 @@ impl Plan {
         (0..self.procs.len()).filter(|proc| self.reached(*proc).contains(proc)).collect()
     }
 
-    /// The procedures that no thread line names, whatever its counts, and none of these reaches
-    /// through calls, ascending.
+    /// The procedures that no thread names or reaches through calls, ascending.
     pub fn idle(&self) -> Vec<usize> {
-        let used = self.walked(self.lines.iter().map(|line| line.proc).collect());
+        let used = self.walked(self.threads.clone());
         (0..self.procs.len()).filter(|proc| !used.contains(proc)).collect()
     }
 
@@ -252,21 +205,6 @@ impl Plan {
         order
     }
 
-    /// The same plan with so many copies of each of its lines.
-    pub fn with_counts(&self, count: impl Fn(&Copies) -> usize) -> Plan {
-        Plan { threads: threads(&self.lines, count), ..self.clone() }
-    }
-
-    /// The same plan at the lowest counts. It may have no thread.
-    pub fn lowest(&self) -> Plan {
-        self.with_counts(|line| line.low)
-    }
-
-    /// Whether the lowest counts are other ones than the highest.
-    pub fn ranges(&self) -> bool {
-        self.lines.iter().any(|line| line.low != line.high)
-    }
-
     /// The sum of the threads' sizes: the longest a schedule may be, and the entries
     /// that a verdict must be lent.
     pub fn size_of_threads(&self) -> u64 {
@@ -274,19 +212,14 @@ impl Plan {
     }
 }
 
-/// The threads of some lines by a count of each.
-pub fn threads(lines: &[Copies], count: impl Fn(&Copies) -> usize) -> Vec<usize> {
-    lines.iter().flat_map(|line| std::iter::repeat_n(line.proc, count(line))).collect()
-}
-
-/// Rules 2 to 8, then 15, 12, 13 and 9: the plan with its sizes and pairs.
+/// Rules 2 to 8, then 12, 13 and 9: the plan with its sizes and pairs.
 pub fn read(text: &[u8]) -> Result<Plan, Refusal> {
     let mut plan = sized(text)?;
     plan.pairs = pairs::compositional(&plan);
     Ok(plan)
 }
 
-/// Rules 2 to 8, then 15, 12, 13 and 9: the sizes. Pairs are left empty.
+/// Rules 2 to 8, then 12, 13 and 9: the sizes. Pairs are left empty.
 pub fn sized(text: &[u8]) -> Result<Plan, Refusal> {
     let mut plan = named(text)?;
     if let Some(proc) = plan.recursive().first() {
@@ -302,7 +235,7 @@ pub fn sized(text: &[u8]) -> Result<Plan, Refusal> {
     Ok(plan)
 }
 
-/// Rules 2 to 8, then 15: the tree, all of whose names are there. Sizes and pairs are left empty.
+/// Rules 2 to 8: the tree, all of whose names are there. Sizes and pairs are left empty.
 pub fn named(text: &[u8]) -> Result<Plan, Refusal> {
     if text.len() > MAX_BYTES {
         return refuse(2, 0);
@@ -311,7 +244,6 @@ pub fn named(text: &[u8]) -> Result<Plan, Refusal> {
     let plan = structure(&lines)?;
     limits(&lines.forms)?;
     names(&lines.forms, plan.procs.len())?;
-    counts(&lines.forms)?;
     Ok(plan)
 }
 
@@ -372,7 +304,6 @@ pub fn structure(lines: &Lines) -> Result<Plan, Refusal> {
     let mut plan = Plan {
         blocks: Vec::new(),
         procs: Vec::new(),
-        lines: Vec::new(),
         threads: Vec::new(),
         sizes: Vec::new(),
         pairs: Vec::new(),
@@ -384,7 +315,7 @@ pub fn structure(lines: &Lines) -> Result<Plan, Refusal> {
         }
     }
     match open.as_slice() {
-        [Open::Text { plans: 1 }] => Ok(plan.with_counts(|line| line.high)),
+        [Open::Text { plans: 1 }] => Ok(plan),
         _ => refuse(4, lines.count + 1),
     }
 }
@@ -407,13 +338,13 @@ fn place(plan: &mut Plan, open: &mut Vec<Open>, line: Line) -> bool {
             open.push(Open::Plan);
         }
         Open::Plan => match form {
-            Form::Proc if plan.lines.is_empty() => {
+            Form::Proc if plan.threads.is_empty() => {
                 let body = new_block(plan);
                 plan.procs.push(Proc { body, line: line.number, start: line.start, end: line.end });
                 open.push(Open::Block(body));
             }
-            Form::Thread(copies) if !plan.procs.is_empty() => plan.lines.push(copies),
-            Form::Close if !plan.lines.is_empty() => {
+            Form::Thread(proc) if !plan.procs.is_empty() => plan.threads.push(proc as usize),
+            Form::Close if !plan.threads.is_empty() => {
                 open.pop();
             }
             _ => return false,
@@ -476,7 +407,7 @@ fn limits(lines: &[Line]) -> Result<(), Refusal> {
         match line.form {
             Form::Plan => {}
             Form::Proc => procs += 1,
-            Form::Thread(copies) => threads += copies.high,
+            Form::Thread(_) => threads += 1,
             // The closing lines of procedures and of the plan end no bracket.
             Form::Close => brackets = brackets.saturating_sub(1),
             Form::Skip | Form::Call(_) => statements += 1,
@@ -507,16 +438,10 @@ fn names(lines: &[Line], procs: usize) -> Result<(), Refusal> {
     if let Some(line) = first(&|form| matches!(form, Form::Call(proc) if proc as usize >= procs)) {
         return refuse(7, line.number);
     }
-    if let Some(line) = first(&|form| matches!(form, Form::Thread(copies) if copies.proc >= procs)) {
+    if let Some(line) = first(&|form| matches!(form, Form::Thread(proc) if proc as usize >= procs)) {
         return refuse(8, line.number);
     }
     Ok(())
-}
-
-/// Rule 15.
-fn counts(lines: &[Line]) -> Result<(), Refusal> {
-    let crooked = |line: &&Line| matches!(line.form, Form::Thread(copies) if copies.crooked());
-    lines.iter().find(crooked).map_or(Ok(()), |line| refuse(15, line.number))
 }
 
 /// Sizes by procedure, where none reaches itself; a sum past 64 bits stays at the

@@ -4,7 +4,7 @@ use std::fmt::Write;
 
 use crate::gateway::{entry, replay};
 use crate::reference::{read, Plan, Refusal};
-use crate::verdict::{judge, kind, Kind, Verdict};
+use crate::verdict::{deadlocks, judge, Verdict};
 
 /// The report of a text, with a schedule of the reference's own.
 pub fn report(text: &[u8]) -> Vec<u8> {
@@ -30,25 +30,21 @@ pub fn accepted(plan: &Plan, verdict: &Verdict) -> Vec<u8> {
     }
     match verdict {
         Verdict::Free => out.push_str("(free)\n"),
-        Verdict::Deadlock { schedule, stuck } => put_schedule("deadlock", schedule, *stuck, &mut out),
-        Verdict::Grown { schedule, stuck } => put_schedule("grown", schedule, *stuck, &mut out),
+        Verdict::Deadlock { schedule, stuck } => {
+            out.push_str("(deadlock\n(stuck");
+            for thread in (0..plan.threads.len()).filter(|thread| stuck >> thread & 1 == 1) {
+                write!(out, " {thread}").unwrap();
+            }
+            out.push_str(")\n");
+            for word in schedule {
+                let (thread, choice) = entry(*word);
+                writeln!(out, "(step {thread} {choice})").unwrap();
+            }
+            out.push_str(")\n");
+        }
     }
     out.push_str(")\n");
     out.into_bytes()
-}
-
-/// A deadlock by its name, with the threads stuck and the steps to it.
-fn put_schedule(name: &str, schedule: &[u16], stuck: u32, out: &mut String) {
-    write!(out, "({name}\n(stuck").unwrap();
-    for thread in (0..u32::BITS).filter(|thread| stuck >> thread & 1 == 1) {
-        write!(out, " {thread}").unwrap();
-    }
-    out.push_str(")\n");
-    for word in schedule {
-        let (thread, choice) = entry(*word);
-        writeln!(out, "(step {thread} {choice})").unwrap();
-    }
-    out.push_str(")\n");
 }
 
 /// Whether a program's report of a text is right. A deadlock may have any
@@ -57,34 +53,15 @@ pub fn check(text: &[u8], printed: &[u8]) -> Result<(), String> {
     check_known(text, printed, None)
 }
 
-/// The same where it is known which answer an accepted text has.
-pub fn check_known(text: &[u8], printed: &[u8], known: Option<Kind>) -> Result<(), String> {
+/// The same where it is known whether an accepted text deadlocks.
+pub fn check_known(text: &[u8], printed: &[u8], known: Option<bool>) -> Result<(), String> {
     let plan = match read(text) {
         Ok(plan) => plan,
         Err(refusal) => return same(printed, &refused(refusal)),
     };
-    let kind = known.unwrap_or_else(|| kind(&plan));
-    if kind == Kind::Free {
+    if !known.unwrap_or_else(|| deadlocks(&plan)) {
         return same(printed, &accepted(&plan, &Verdict::Free));
     }
-    let schedule = steps(printed)?;
-    if schedule.len() as u64 > plan.size_of_threads() {
-        return Err(format!("{} steps, more than {}", schedule.len(), plan.size_of_threads()));
-    }
-    let state = replay(&plan, &schedule).map_err(|index| format!("step {index} is not permitted"))?;
-    let stuck = state.largest_stuck(&plan);
-    if stuck == 0 {
-        return Err("no thread is stuck at the end of the schedule".into());
-    }
-    let verdict = match kind {
-        Kind::Grown => Verdict::Grown { schedule, stuck },
-        _ => Verdict::Deadlock { schedule, stuck },
-    };
-    same(printed, &accepted(&plan, &verdict))
-}
-
-/// The entries of the steps that are printed.
-fn steps(printed: &[u8]) -> Result<Vec<u16>, String> {
     let mut schedule = Vec::new();
     for line in printed.split(|byte| *byte == 10).filter(|line| line.starts_with(b"(step ")) {
         let numbers = std::str::from_utf8(&line[6..]).ok().and_then(|rest| {
@@ -96,7 +73,15 @@ fn steps(printed: &[u8]) -> Result<Vec<u16>, String> {
             _ => return Err(format!("no step: {}", String::from_utf8_lossy(line))),
         }
     }
-    Ok(schedule)
+    if schedule.len() as u64 > plan.size_of_threads() {
+        return Err(format!("{} steps, more than {}", schedule.len(), plan.size_of_threads()));
+    }
+    let state = replay(&plan, &schedule).map_err(|index| format!("step {index} is not permitted"))?;
+    let stuck = state.largest_stuck(&plan);
+    if stuck == 0 {
+        return Err("no thread is stuck at the end of the schedule".into());
+    }
+    same(printed, &accepted(&plan, &Verdict::Deadlock { schedule, stuck }))
 }
 
 /// Whether the printed bytes are those that are expected.

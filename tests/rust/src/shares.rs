@@ -111,7 +111,7 @@ impl Mix<'_> {
 pub fn mixed(draft: &Draft, percent: usize, twice: usize, random: &mut Random) -> Draft {
     let mut mix = Mix { random, percent, twice, shared: Vec::new() };
     let procs = draft.procs.iter().map(|body| mix.block(body)).collect();
-    Draft { procs, lines: draft.lines.clone() }
+    Draft { procs, threads: draft.threads.clone() }
 }
 
 /// The same with random portions.
@@ -217,7 +217,7 @@ pub fn upgraders(random: &mut Random) -> Draft {
     let procs: Vec<Vec<Tree>> = (0..random.between(1, 3)).map(|_| body(random)).collect();
     let more = (0..random.between(0, 2)).map(|_| random.below(procs.len())).collect::<Vec<_>>();
     let threads = [(0..procs.len()).collect(), more].concat();
-    any_order(Draft::new(procs, threads), random)
+    any_order(Draft { procs, threads }, random)
 }
 
 /// A ring of threads that take their locks in any way, some of which hold what they share, or
@@ -239,7 +239,7 @@ pub fn both_ways(random: &mut Random) -> Draft {
     };
     let procs = (0..count).map(|thread| body(thread, random)).collect();
     let mut draft = Draft::each(procs);
-    random.shuffle(&mut draft.lines);
+    random.shuffle(&mut draft.threads);
     draft
 }
 
@@ -422,7 +422,7 @@ impl Anew {
 fn anew(draft: &Draft, how: Made) -> Draft {
     let mut anew = Anew { random: Random::new(0), how };
     let procs = draft.procs.iter().map(|body| anew.block(body, None)).collect();
-    Draft { procs, lines: draft.lines.clone() }
+    Draft { procs, threads: draft.threads.clone() }
 }
 
 /// The families with shares, and with upgraders: name, plan, whether it deadlocks. Those that the

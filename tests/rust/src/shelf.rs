@@ -10,7 +10,7 @@ use crate::indent::{indent, Padding};
 use crate::opposed::{both_around, MOST_COUPLES};
 use crate::random::Random;
 use crate::recode::records;
-use crate::reference::{Copies, MAX_BYTES, PAIR_WORDS};
+use crate::reference::{MAX_BYTES, PAIR_WORDS};
 
 /// What a text gives.
 #[derive(Clone, Debug, PartialEq, Eq)]
@@ -18,8 +18,6 @@ pub enum Gives {
     Free,
     /// The stuck set of a shortest schedule; threads as bits.
     Deadlock(u32),
-    /// The same, and free at the lowest counts.
-    Grown(u32),
     Refused(u8, usize),
 }
 
@@ -55,8 +53,8 @@ impl Entry {
 
 /// All fixed texts.
 pub fn all() -> Vec<Entry> {
-    let small = [shelf(), shares(), ranges(), crossings(), others(), calls(), idle_procedures()];
-    let large = [remarked(), spaces(), many_pairs(), many_couples(), branching()];
+    let small = [shelf(), shares(), crossings(), others(), calls(), idle_procedures(), remarked(), spaces()];
+    let large = [many_pairs(), many_couples(), branching()];
     small.into_iter().chain(large).flatten().collect()
 }
 
@@ -129,7 +127,7 @@ pub fn shelf() -> Vec<Entry> {
             words: vec![records(&[0])],
             sizes: vec![5, 5],
             couples: vec![(0, 1, 0)],
-            ..entry("C", Draft::new(vec![chain(&[0, 0])], vec![0, 0]), Free)
+            ..entry("C", Draft { procs: vec![chain(&[0, 0])], threads: vec![0, 0] }, Free)
         },
         Entry {
             couples: vec![(0, 1, 0), (0, 2, 0), (1, 2, 0)],
@@ -161,7 +159,7 @@ pub fn shelf() -> Vec<Entry> {
         },
         Entry {
             straight: vec![chain(&[0])],
-            ..entry("I", Draft::new(vec![vec![Tree::Loop(chain(&[0]))]], vec![0, 0]), Free)
+            ..entry("I", Draft { procs: vec![vec![Tree::Loop(chain(&[0]))]], threads: vec![0, 0] }, Free)
         },
         text("J", b"", 4, 1),
         text("K", b"(plan\n(proc\n)\n", 4, 3),
@@ -182,7 +180,7 @@ pub fn shelf() -> Vec<Entry> {
     all.push(entry("97 couples", Draft::each(vec![couples(97)]), Free));
     all.push(entry("lock 31", Draft::each(vec![chain(&[31])]), Free));
     all.push(entry("lock 32", Draft::each(vec![chain(&[32])]), Refused(6, 3)));
-    let threads = |count| Draft::new(vec![skips(1)], vec![0; count]);
+    let threads = |count| Draft { procs: vec![skips(1)], threads: vec![0; count] };
     all.push(entry("6 threads", threads(6), Free));
     all.push(entry("7 threads", threads(7), Refused(5, 11)));
     all
@@ -232,7 +230,7 @@ fn judged_shares() -> Vec<Entry> {
         },
         entry("one upgrader alone", Draft::each(vec![upgrade(0)]), Free),
         one("upgraders of two locks", vec![upgrade(0), upgrade(1)], Free, 0),
-        entry("six upgraders", Draft::new(vec![upgrade(31)], vec![0; 6]), Deadlock(0b11)),
+        entry("six upgraders", Draft { procs: vec![upgrade(31)], threads: vec![0; 6] }, Deadlock(0b11)),
         one("an upgrader beside a reader", vec![upgrade(0), vec![share(0, vec![])]], Free, 0),
         one("an upgrader beside a writer", vec![upgrade(0), chain(&[0])], Free, 0),
         one("readers in both orders", vec![share_share(0, 1), share_share(1, 0)], Free, 0),
@@ -271,7 +269,7 @@ fn judged_shares() -> Vec<Entry> {
         ),
         entry(
             "an upgrader by a call",
-            Draft::new(vec![vec![share(7, vec![Tree::Call(1)])], chain(&[7])], vec![0, 0]),
+            Draft { procs: vec![vec![share(7, vec![Tree::Call(1)])], chain(&[7])], threads: vec![0, 0] },
             Deadlock(3),
         ),
         Entry {
@@ -402,267 +400,6 @@ fn limits_of_shares() -> Vec<Entry> {
     ]
 }
 
-/// Fixed texts with ranges.
-pub fn ranges() -> Vec<Entry> {
-    let mut all = judged_ranges();
-    all.extend(free_ranges());
-    all.extend(nearly_ranges());
-    all.extend(crooked_lines());
-    all.extend(many_lines_of_none());
-    all.extend(rules_beside_crooked_lines());
-    all.extend(counts_past_six());
-    all
-}
-
-/// The same plan with other thread lines: procedure, lowest and highest count.
-fn with_lines(lines: &[(usize, usize, usize)], draft: Draft) -> Draft {
-    let lines = lines.iter().map(|(proc, low, high)| Copies { proc: *proc, low: *low, high: *high });
-    Draft { lines: lines.collect(), ..draft }
-}
-
-/// Two locks in both orders: two copies are a deadlock.
-fn uploader() -> Vec<Tree> {
-    vec![nest(&[0, 1], vec![]), nest(&[1, 0], vec![])]
-}
-
-/// Plans that deadlock at their highest counts.
-fn judged_ranges() -> Vec<Entry> {
-    use Gives::{Deadlock, Grown};
-    let uploaders = |low, high| with_lines(&[(0, low, high)], first(vec![uploader()]));
-    let a = |lines: &[(usize, usize, usize)]| {
-        with_lines(lines, first(vec![chain(&[0, 1]), chain(&[1, 0]), skips(1)]))
-    };
-    let d = |lines: &[(usize, usize, usize)]| {
-        with_lines(lines, first(vec![chain(&[1, 0]), chain(&[2, 1]), chain(&[0, 2])]))
-    };
-    let with_others = |lines: &[(usize, usize, usize)]| with_lines(lines, first(vec![uploader(), skips(1)]));
-    let upgraders = |low| with_lines(&[(0, low, 6)], first(vec![upgrade(0)]));
-    let readers = with_lines(&[(0, 1, 5), (1, 0, 1)], first(vec![share_hold(0, 1), chain(&[1, 0])]));
-    let branched = first(vec![vec![Tree::Loop(uploader())]]);
-    vec![
-        Entry {
-            schedule: Some(vec![1, 1, 1, 1, 1, 1, 0]),
-            sizes: vec![10, 10],
-            couples: vec![(0, 1, 2), (1, 0, 2)],
-            ..entry("one uploader that grows", uploaders(1, 2), Grown(0b11))
-        },
-        entry("uploaders from none to two", uploaders(0, 2), Grown(0b11)),
-        Entry {
-            sizes: vec![10; 3],
-            couples: vec![(0, 1, 2), (0, 2, 2), (2, 1, 2)],
-            ..entry("uploaders from one to three", uploaders(1, 3), Grown(0b111))
-        },
-        entry("uploaders from two to three", uploaders(2, 3), Deadlock(0b111)),
-        entry("two uploaders on one line", uploaders(2, 2), Deadlock(0b11)),
-        entry("six uploaders on one line", uploaders(6, 6), Deadlock(0b11_1111)),
-        Entry {
-            sizes: vec![10; 6],
-            couples: vec![(5, 0, 2), (4, 5, 2)],
-            ..entry("uploaders from none to six", uploaders(0, 6), Grown(0b11_1111))
-        },
-        Entry {
-            schedule: Some(vec![0, 1]),
-            sizes: vec![5, 5, 1],
-            couples: vec![(0, 1, 1), (1, 2, 0)],
-            ..entry("A with a second thread to come", a(&[(0, 1, 1), (1, 0, 1), (2, 1, 1)]), Grown(0b11))
-        },
-        entry("A with a first thread to come", a(&[(0, 0, 1), (1, 1, 1), (2, 1, 1)]), Grown(0b11)),
-        Entry {
-            schedule: Some(vec![3, 4]),
-            sizes: vec![1, 1, 1, 5, 5],
-            couples: vec![(3, 4, 1), (0, 1, 0), (2, 3, 0)],
-            ..entry("A behind three to come", a(&[(2, 0, 3), (0, 1, 1), (1, 1, 1)]), Deadlock(0b1_1000))
-        },
-        Entry {
-            schedule: Some(vec![0, 4]),
-            ..entry("A around three to come", a(&[(1, 1, 1), (2, 0, 3), (0, 1, 1)]), Deadlock(0b1_0001))
-        },
-        entry("D with one of three to come", d(&[(0, 1, 1), (1, 1, 1), (2, 0, 1)]), Grown(0b111)),
-        entry("D with all three to come", d(&[(0, 0, 1), (1, 0, 1), (2, 0, 1)]), Grown(0b111)),
-        entry("two uploaders before others", with_others(&[(0, 2, 2), (1, 0, 4)]), Deadlock(0b11)),
-        entry("two uploaders behind others", with_others(&[(1, 0, 4), (0, 2, 2)]), Deadlock(0b11_0000)),
-        entry(
-            "two lines of one uploader each",
-            with_others(&[(0, 1, 1), (1, 1, 1), (0, 0, 1)]),
-            Grown(0b101),
-        ),
-        entry("upgraders from one to six", upgraders(1), Grown(0b11)),
-        entry("upgraders from two to six", upgraders(2), Deadlock(0b11)),
-        entry("readers beside a writer to come", readers, Grown(0b10_0001)),
-        Entry {
-            straight: vec![uploader()],
-            ..entry("uploaders in a loop", with_lines(&[(0, 1, 2)], branched.clone()), Grown(0b11))
-        },
-        Entry {
-            straight: vec![uploader()],
-            ..entry("two uploaders in a loop", with_lines(&[(0, 2, 2)], branched), Deadlock(0b11))
-        },
-    ]
-}
-
-/// Plans that are free for all counts.
-fn free_ranges() -> Vec<Entry> {
-    use Gives::Free;
-    let guarded = |low, high| with_lines(&[(0, low, high)], first(vec![vec![hold(2, uploader())]]));
-    let of = |lines: &[(usize, usize, usize)], procs| with_lines(lines, first(procs));
-    let line = |line: &str| format!("(plan\n(proc\n(skip)\n)\n{line}\n)\n").into_bytes();
-    vec![
-        Entry {
-            sizes: vec![10],
-            ..entry("uploaders from none to one", of(&[(0, 0, 1)], vec![uploader()]), Free)
-        },
-        entry("guarded uploaders from none to six", guarded(0, 6), Free),
-        entry("six guarded uploaders on one line", guarded(6, 6), Free),
-        entry("no thread, and six skips", of(&[(0, 0, 6)], vec![skips(1)]), Free),
-        Entry { sizes: vec![1], ..free("one copy as a range", &line("(thread 0 1 1)")) },
-        Entry { sizes: vec![1], ..free("one copy as a range, indented", &line("  (thread 0 1 1)")) },
-        free("one copy in both forms", &line("(thread 0 1 1)\n(thread 0)\n(thread 0 1 1)")),
-        entry("named by no copy at the lowest", of(&[(0, 1, 1), (1, 0, 1)], vec![skips(1); 2]), Free),
-        entry(
-            "reached by no copy at the lowest",
-            of(&[(0, 0, 1)], vec![vec![Tree::Call(1)], skips(1)]),
-            Free,
-        ),
-        entry("six copies on three lines", of(&[(0, 0, 3), (0, 2, 2), (0, 1, 1)], vec![skips(1)]), Free),
-    ]
-}
-
-/// Lines that are nearly ranges: rule 3.
-fn nearly_ranges() -> Vec<Entry> {
-    let odd = [
-        ("two numbers", "(thread 0 1)"),
-        ("two numbers, the second zero", "(thread 0 0)"),
-        ("a highest count with a leading zero", "(thread 0 1 01)"),
-        ("a lowest count with a leading zero", "(thread 0 01 1)"),
-        ("a procedure with a leading zero", "(thread 00 1 1)"),
-        ("a highest count of two zeros", "(thread 0 0 00)"),
-        ("four numbers", "(thread 0 1 2 3)"),
-        ("five numbers", "(thread 0 1 1 1 1)"),
-        ("two blanks before the procedure", "(thread  0 1 1)"),
-        ("two blanks before the lowest count", "(thread 0  1 1)"),
-        ("two blanks before the highest count", "(thread 0 1  1)"),
-        ("a blank behind the counts", "(thread 0 1 1 )"),
-        ("a blank for the highest count", "(thread 0 1 )"),
-        ("a tab between the counts", "(thread 0 1\t1)"),
-        ("a comma between the counts", "(thread 0 1,1)"),
-        ("a dash between the counts", "(thread 0 1-1)"),
-        ("a range without its bracket", "(thread 0 1 1"),
-        ("a range with two brackets", "(thread 0 1 1))"),
-        ("a range with a blank behind", "(thread 0 1 1) "),
-        ("a range with a remark behind", "(thread 0 1 1) ;"),
-        ("a range with a carriage return", "(thread 0 1 1)\r"),
-        ("a highest count of four digits", "(thread 0 1 1000)"),
-        ("a lowest count of four digits", "(thread 0 1000 1)"),
-        ("a negative count", "(thread 0 -1 1)"),
-        ("a count with a letter", "(thread 0 1 1s)"),
-        ("threads of a range", "(threads 0 1 1)"),
-        ("a range with a capital", "(Thread 0 1 1)"),
-        ("a call of a range", "(call 0 1 1)"),
-    ];
-    let plan = |line: &str| format!("(plan\n(proc\n(skip)\n)\n{line}\n)\n").into_bytes();
-    let mut all: Vec<Entry> = odd.iter().map(|(name, line)| text(name, &plan(line), 3, 5)).collect();
-    all.extend([
-        text("a range in a procedure", b"(plan\n(proc\n(thread 0 1 1)\n", 4, 3),
-        text("a range first", b"(plan\n(thread 0 0 0)\n", 4, 2),
-        text("a procedure behind a range", &plan("(thread 0 0 0)\n(proc"), 4, 6),
-        text("a range behind the plan", &[SIX, b"(thread 0 1 1)\n"].concat(), 4, 7),
-    ]);
-    all
-}
-
-/// A skip, and lines of its procedure with these counts.
-fn counted(counts: &[(usize, usize)]) -> Draft {
-    let lines: Vec<(usize, usize, usize)> = counts.iter().map(|(low, high)| (0, *low, *high)).collect();
-    with_lines(&lines, first(vec![skips(1)]))
-}
-
-/// Rule 15: the first line of no copies at the highest, or of more at the lowest.
-fn crooked_lines() -> Vec<Entry> {
-    use Gives::Refused;
-    vec![
-        entry("two at the lowest, one at the highest", counted(&[(2, 1)]), Refused(15, 5)),
-        entry("none at either", counted(&[(0, 0)]), Refused(15, 5)),
-        entry("one at the lowest, none at the highest", counted(&[(1, 0)]), Refused(15, 5)),
-        entry("seven at the lowest, six at the highest", counted(&[(7, 6)]), Refused(15, 5)),
-        entry("999 at the lowest, none at the highest", counted(&[(999, 0)]), Refused(15, 5)),
-        entry("crooked behind another", counted(&[(1, 1), (2, 1), (0, 0)]), Refused(15, 6)),
-        entry("none at either behind others", counted(&[(0, 2), (1, 1), (0, 0), (3, 2)]), Refused(15, 7)),
-        entry("a last line of none", counted(&[(1, 1), (1, 4), (1, 1), (0, 0)]), Refused(15, 8)),
-        text("rule 15 in the file", &remark_first(counted(&[(1, 1), (0, 0)])), 15, 12),
-    ]
-}
-
-/// Thousands of lines of no copies keep rule 5.
-fn many_lines_of_none() -> Vec<Entry> {
-    use Gives::Refused;
-    let among = |before: &[(usize, usize)], count: usize, behind: &[(usize, usize)]| {
-        counted(&[before, &vec![(0, 0); count], behind].concat())
-    };
-    // The plan around them has 23 bytes, each of them 15.
-    let most = (MAX_BYTES - 23) / 15;
-    let absent = {
-        let mut draft = among(&[], 2_000, &[]);
-        draft.lines.push(Copies::one(1));
-        draft
-    };
-    vec![
-        entry("2,000 lines of none", among(&[], 2_000, &[]), Refused(15, 5)),
-        entry("as many lines of none as fit", among(&[], most, &[]), Refused(15, 5)),
-        entry("one line of none more than fit", among(&[], most + 1, &[]), Refused(2, 0)),
-        entry("2,000 lines of none behind one", among(&[(1, 1)], 2_000, &[]), Refused(15, 6)),
-        entry("2,000 lines of none behind six", among(&[(1, 1); 6], 2_000, &[]), Refused(15, 11)),
-        entry("2,000 lines of none before six", among(&[], 2_000, &[(0, 6)]), Refused(15, 5)),
-        entry("2,000 lines of none before seven", among(&[], 2_000, &[(0, 7)]), Refused(5, 2_005)),
-        entry("2,000 lines of none before an absent one", absent, Refused(8, 2_005)),
-    ]
-}
-
-/// Rule 15 behind rules 5 to 8, and before 12, 13 and 9.
-fn rules_beside_crooked_lines() -> Vec<Entry> {
-    use Gives::Refused;
-    let of = |lines: &[(usize, usize, usize)], body| with_lines(lines, first(vec![body]));
-    let call = |callee| vec![Tree::Call(callee)];
-    vec![
-        entry("limits before crooked counts", counted(&[(9, 7)]), Refused(5, 5)),
-        entry("limits behind crooked counts", counted(&[(0, 0), (2, 1), (0, 6)]), Refused(5, 7)),
-        entry("lock before crooked counts", of(&[(0, 0, 0)], chain(&[32])), Refused(6, 3)),
-        entry("call before crooked counts", of(&[(0, 0, 0)], call(1)), Refused(7, 3)),
-        entry("an absent procedure of no copies", of(&[(0, 1, 1), (9, 0, 0)], skips(1)), Refused(8, 6)),
-        entry(
-            "thread before crooked counts",
-            of(&[(0, 0, 0), (0, 2, 1), (1, 1, 1)], skips(1)),
-            Refused(8, 7),
-        ),
-        entry("crooked counts before recursion", of(&[(0, 1, 1), (0, 0, 0)], call(0)), Refused(15, 6)),
-        entry(
-            "crooked counts before size",
-            with_lines(&[(9, 1, 1), (9, 2, 1)], doubling(9)),
-            Refused(15, 2 + 4 * 10),
-        ),
-    ]
-}
-
-/// Rule 5 by the highest counts, at the line that takes them past six.
-fn counts_past_six() -> Vec<Entry> {
-    use Gives::{Free, Refused};
-    vec![
-        entry("seven copies on one line", counted(&[(1, 7)]), Refused(5, 5)),
-        entry("seven copies, none at the lowest", counted(&[(0, 7)]), Refused(5, 5)),
-        entry("999 copies", counted(&[(0, 999)]), Refused(5, 5)),
-        entry("three, three and one", counted(&[(3, 3), (0, 3), (1, 1)]), Refused(5, 7)),
-        entry("three and three", counted(&[(3, 3), (0, 3)]), Free),
-        entry("six and one", counted(&[(0, 6), (1, 1)]), Refused(5, 6)),
-        entry("six, none and one", counted(&[(0, 6), (0, 0), (0, 1)]), Refused(5, 7)),
-        entry(
-            "six lines and one to come",
-            counted(&[(1, 1), (1, 1), (1, 1), (1, 1), (1, 1), (1, 1), (0, 1)]),
-            Refused(5, 11),
-        ),
-        entry("four and 999", counted(&[(0, 4), (0, 999), (0, 1)]), Refused(5, 6)),
-        entry("256 copies", counted(&[(0, 256)]), Refused(5, 5)),
-    ]
-}
-
 /// Fixed texts beside the shelf.
 pub fn others() -> Vec<Entry> {
     use Gives::{Deadlock, Free, Refused};
@@ -708,20 +445,24 @@ pub fn others() -> Vec<Entry> {
         text("32,769 line ends", &[10; 32_769], 2, 0),
         text("a long line", &[b'('; 32_768], 3, 1),
         text("a million bytes", &[b'('; 1_000_000], 2, 0),
-        entry("an absent thread", Draft::new(vec![skips(1)], vec![0, 1, 2]), Refused(8, 6)),
+        entry("an absent thread", Draft { procs: vec![skips(1)], threads: vec![0, 1, 2] }, Refused(8, 6)),
         entry(
             "lock before call before thread",
-            Draft::new(vec![vec![Tree::Call(3), hold(32, vec![])]], vec![0, 9]),
+            Draft { procs: vec![vec![Tree::Call(3), hold(32, vec![])]], threads: vec![0, 9] },
             Refused(6, 4),
         ),
-        entry("call before thread", Draft::new(vec![vec![Tree::Call(3)]], vec![0, 9]), Refused(7, 3)),
+        entry(
+            "call before thread",
+            Draft { procs: vec![vec![Tree::Call(3)]], threads: vec![0, 9] },
+            Refused(7, 3),
+        ),
         entry(
             "size before pairs",
             Draft::each(vec![couples(97), vec![Tree::Call(0), Tree::Call(0), Tree::Call(0)]]),
             Refused(9, 2 + 97 * 5 + 2),
         ),
         entry("129 pairs in two", Draft::each(vec![skips(1), couples(97), couples(97)]), Free),
-        entry("a thread twice", Draft::new(vec![chain(&[0, 1])], vec![0, 0]), Free),
+        entry("a thread twice", Draft { procs: vec![chain(&[0, 1])], threads: vec![0, 0] }, Free),
         entry(
             "a thread that waits at its first hold",
             Draft::each(vec![chain(&[0, 1]), chain(&[1, 0]), chain(&[0])]),
@@ -802,7 +543,7 @@ pub fn calls() -> Vec<Entry> {
 
 /// One thread of the first procedure.
 fn first(procs: Vec<Vec<Tree>>) -> Draft {
-    Draft::new(procs, vec![0])
+    Draft { procs, threads: vec![0] }
 }
 
 /// Bodies of nothing but calls, and others behind them.
@@ -829,7 +570,7 @@ pub fn calls_of_all_behind(count: usize) -> Draft {
 fn calls_of_all_others(count: usize, caller: usize) -> Draft {
     let mut procs = vec![skips(1); count];
     procs[caller] = (0..count).filter(|callee| *callee != caller).map(Tree::Call).collect();
-    Draft::new(procs, vec![caller])
+    Draft { procs, threads: vec![caller] }
 }
 
 /// So many calls, no two of them alike, in 64 procedures. The first six, which have a
@@ -844,7 +585,7 @@ pub fn calls_all_different(count: usize) -> Draft {
     procs.push(skips(1));
     let left = count - 31 - 31 * 27 - 26;
     (0..left).for_each(|at| procs[at / 27].push(Tree::Call(37 + at % 27)));
-    Draft::new(procs, 0..6)
+    Draft { procs, threads: (0..6).collect() }
 }
 
 /// Accepted plans with calls of later procedures.
@@ -852,7 +593,7 @@ fn later_calls() -> Vec<Entry> {
     use Gives::{Deadlock, Free};
     let around = |lock, callee| vec![hold(lock, vec![Tree::Call(callee)])];
     let a = vec![around(0, 2), around(1, 3), chain(&[1]), chain(&[0])];
-    let a = Draft::new(a, vec![0, 1]);
+    let a = Draft { procs: a, threads: vec![0, 1] };
     let either = Tree::Either(vec![Tree::Call(0)], vec![Tree::Loop(vec![Tree::Call(3)])]);
     let both_ways = vec![chain(&[5]), vec![Tree::Call(3)], vec![hold(4, vec![either])], chain(&[6])];
     vec![
@@ -909,7 +650,7 @@ fn limits_by_later_calls() -> Vec<Entry> {
         entry("512 pairs by a later call", calling(&[&[1]], &[around(32)]), Refused(9, 2)),
         entry(
             "512 pairs behind another that is too large",
-            calling(&[&[1, 1, 1]], &[skips(342), around(32)]).run_by(vec![0, 2]),
+            Draft { threads: vec![0, 2], ..calling(&[&[1, 1, 1]], &[skips(342), around(32)]) },
             Refused(9, 2),
         ),
         entry("128 pairs by a later call", calling(&[&[1]], &[couples(96)]), Free),
@@ -945,7 +686,7 @@ fn circle(before: usize, count: usize) -> Draft {
     let call = |at: usize| vec![Tree::Call(before + (at + 1) % count)];
     let mut procs: Vec<Vec<Tree>> = vec![skips(1); before].into_iter().chain((0..count).map(call)).collect();
     procs[before].extend((0..before).map(Tree::Call));
-    Draft::new(procs, vec![before])
+    Draft { procs, threads: vec![before] }
 }
 
 /// Rule 12: circles of calls.
@@ -969,7 +710,7 @@ fn circles() -> Vec<Entry> {
 
 /// The same with other threads.
 fn run_by(threads: &[usize], draft: Draft) -> Draft {
-    draft.run_by(threads.to_vec())
+    Draft { threads: threads.to_vec(), ..draft }
 }
 
 /// Rule 12 names a procedure of a circle, and none that only reaches one.
@@ -1014,7 +755,7 @@ fn rules_beside_recursion() -> Vec<Entry> {
     let itself = |threads: &[usize]| run_by(threads, circle(0, 1));
     let mut doubled = doubling(9).reversed();
     doubled.procs.push(vec![Tree::Call(10)]);
-    doubled.lines.push(Copies::one(10));
+    doubled.threads.push(10);
     vec![
         entry("threads before recursion", itself(&[0; 7]), Refused(5, 11)),
         entry("lock before recursion", first(vec![vec![hold(32, vec![Tree::Call(0)])]]), Refused(6, 3)),
@@ -1057,7 +798,6 @@ pub fn idle_procedures() -> Vec<Entry> {
     all.extend(idle_in_the_file());
     all.extend(rules_beside_idle());
     all.extend(used_by_little());
-    all.extend(idle_beside_ranges());
     all
 }
 
@@ -1067,13 +807,13 @@ fn trees(count: usize) -> Draft {
         let calls = (10 * at + 1..10 * at + 10).map(Tree::Call).collect();
         std::iter::once(calls).chain(vec![skips(1); 9])
     };
-    Draft::new((0..count).flat_map(tree).collect(), (0..count).map(|at| 10 * at))
+    Draft { procs: (0..count).flat_map(tree).collect(), threads: (0..count).map(|at| 10 * at).collect() }
 }
 
 /// Exports of forty procedures whose thread lines are lost or made remarks.
 fn exports() -> Vec<Entry> {
     use Gives::{Free, Refused};
-    let forty = |thread: usize| Draft::new(vec![skips(1); 40], vec![thread]);
+    let forty = |thread: usize| Draft { procs: vec![skips(1); 40], threads: vec![thread] };
     let remarks: Vec<u8> = trees(4).text().split_inclusive(|byte| *byte == 10).fold(vec![], |text, line| {
         let lost = line.starts_with(b"(thread ") && line != b"(thread 0)\n";
         [text.as_slice(), if lost { b"; " } else { b"  " }, line].concat()
@@ -1190,17 +930,6 @@ fn rules_beside_idle() -> Vec<Entry> {
             run_by(&[0], Draft::each(vec![around(32), skips(1)])),
             Refused(13, 2 + 32 * 33 + 2),
         ),
-    ]
-}
-
-/// Rule 13 behind rule 15, and where another procedure has a range.
-fn idle_beside_ranges() -> Vec<Entry> {
-    use Gives::Refused;
-    let two = |lines: &[(usize, usize, usize)]| with_lines(lines, first(vec![skips(1); 2]));
-    vec![
-        entry("crooked counts before an idle one", two(&[(0, 0, 0)]), Refused(15, 8)),
-        entry("an idle one beside a range", two(&[(0, 0, 6)]), Refused(13, 5)),
-        entry("an idle first one beside a range", two(&[(1, 0, 1), (1, 1, 1)]), Refused(13, 2)),
     ]
 }
 
@@ -1349,7 +1078,7 @@ fn named_in_the_file() -> Vec<Entry> {
     ];
     let mut push =
         |name, draft: Draft, rule, line: usize| all.push(text(name, &remark_first(draft), rule, 2 * line));
-    let threads = Draft::new(vec![skips(1)], vec![0; 7]);
+    let threads = Draft { procs: vec![skips(1)], threads: vec![0; 7] };
     push("rule 5 in the file", threads, 5, 11);
     push("rule 12 in the file", circle(1, 2), 12, 5);
     push("rule 9 in the file", doubling(9), 9, 37);
@@ -1384,7 +1113,7 @@ pub fn spaces() -> Vec<Entry> {
     // A hold of size 3 behind skips; so many threads of it.
     let threads = |count, skipped| {
         let body = [skips(skipped), chain(&[0])].concat();
-        Draft::new(vec![body], vec![0; count])
+        Draft { procs: vec![body], threads: vec![0; count] }
     };
     let parts = |lock: usize| vec![Tree::Loop(chain(&[lock])), Tree::Either(skips(1), chain(&[lock]))];
     let of_sizes_1_to_3 = || vec![skips(1), skips(2), chain(&[0])];
@@ -1397,20 +1126,20 @@ pub fn spaces() -> Vec<Entry> {
         space("a loop and an either", Draft::each(vec![parts(0), parts(1)]), &[10, 10], Free),
         space(
             "threads from the last procedure to the first",
-            Draft::new(of_sizes_1_to_3(), vec![2, 1, 0]),
+            Draft { procs: of_sizes_1_to_3(), threads: vec![2, 1, 0] },
             &[3, 2, 1],
             Free,
         ),
         space(
             "one procedure of three twice",
-            Draft::new(of_sizes_1_to_3(), vec![2, 0, 1, 2]),
+            Draft { procs: of_sizes_1_to_3(), threads: vec![2, 0, 1, 2] },
             &[3, 1, 2, 3],
             Free,
         ),
         space("a procedure that is only called", calling(&[&[1, 1]], &[skips(3)]), &[8], Free),
         space(
             "callers and their callee",
-            calling(&[&[2, 2], &[0]], &[chain(&[4])]).run_by(vec![1, 2, 0]),
+            Draft { threads: vec![1, 2, 0], ..calling(&[&[2, 2], &[0]], &[chain(&[4])]) },
             &[9, 3, 8],
             Free,
         ),
@@ -1419,10 +1148,15 @@ pub fn spaces() -> Vec<Entry> {
         space("6 threads of size 1,024", threads(6, 1_021), &[1_024; 6], Free),
         entry("6 threads of size 1,025", threads(6, 1_022), Refused(9, 2)),
         space("129 pairs, one thread", first(vec![couples(97)]), &[485], Free),
-        space("129 pairs, two threads", Draft::new(vec![couples(97)], vec![0, 0]), &[485, 485], Free),
+        space(
+            "129 pairs, two threads",
+            Draft { procs: vec![couples(97)], threads: vec![0, 0] },
+            &[485, 485],
+            Free,
+        ),
         space(
             "129 pairs behind others",
-            Draft::new(vec![skips(1), couples(97)], vec![1, 0, 0]),
+            Draft { procs: vec![skips(1), couples(97)], threads: vec![1, 0, 0] },
             &[485, 1, 1],
             Free,
         ),
@@ -1459,13 +1193,22 @@ pub fn many_pairs() -> Vec<Entry> {
     vec![
         // The couple that closes the circle is behind more than 128 others.
         entry("the last of 200 pairs", Draft::each(vec![ascending_couples(181), descending]), Deadlock(3)),
-        entry("200 pairs, ascending", Draft::new(vec![ascending_couples(181)], vec![0; 3]), Free),
+        entry(
+            "200 pairs, ascending",
+            Draft { procs: vec![ascending_couples(181)], threads: vec![0; 3] },
+            Free,
+        ),
         Entry { words: vec![records(&pairs(31))], ..entry("496 pairs", skip_more(31, 0), Free) },
         entry("496 pairs, size 1,024", skip_more(31, 1), Free),
         entry("496 pairs, size 1,025", skip_more(31, 2), Refused(9, 2)),
         entry("512 pairs", skip_more(32, 0), Refused(9, 2)),
         // A circle of 32 locks needs three threads: none holds more than 15 of a chain.
-        couples_of("496 pairs in two threads", Draft::new(vec![around(31)], vec![0, 0]), Free, &[(0, 1, 0)]),
+        couples_of(
+            "496 pairs in two threads",
+            Draft { procs: vec![around(31)], threads: vec![0, 0] },
+            Free,
+            &[(0, 1, 0)],
+        ),
     ]
 }
 
@@ -1546,7 +1289,7 @@ fn crossed_among_others() -> Vec<Entry> {
 fn crossed_in_one_procedure() -> Vec<Entry> {
     use Gives::{Deadlock, Free};
     let both = || vec![nest(&[0, 1], vec![]), nest(&[1, 0], vec![])];
-    let threads = |count| Draft::new(vec![both()], vec![0; count]);
+    let threads = |count| Draft { procs: vec![both()], threads: vec![0; count] };
     vec![
         couples_of("both orders in two threads", threads(2), Deadlock(3), &[(0, 1, 2), (1, 0, 2)]),
         couples_of(
@@ -1557,13 +1300,13 @@ fn crossed_in_one_procedure() -> Vec<Entry> {
         ),
         couples_of(
             "both orders called in two threads",
-            Draft::new(vec![vec![Tree::Call(1)], both()], vec![0, 1]),
+            Draft { procs: vec![vec![Tree::Call(1)], both()], threads: vec![0, 1] },
             Deadlock(3),
             &[(0, 1, 2)],
         ),
         couples_of(
             "both orders inside a guard",
-            Draft::new(vec![vec![hold(2, both())]], vec![0, 0]),
+            Draft { procs: vec![vec![hold(2, both())]], threads: vec![0, 0] },
             Free,
             &[(0, 1, 0)],
         ),

@@ -1,19 +1,19 @@
 //! The calls made of the reference, right or with a fault: what the
 //! comparison has to accept and to find.
 
-use crate::answer::{Answer, COPIED, CROSSED, DEADLOCK, FREE, GROWN, PAIRS, SPACE};
+use crate::answer::{Answer, COPIED, CROSSED, DEADLOCK, FREE, PAIRS, SPACE};
 use crate::compare::{Calls, CopyCall, CrossingsCall, PairsCall, SpaceCall, VerdictCall};
 use crate::crossings::{self, crossed, Couple, COUPLE_BYTES};
 use crate::families::Draft;
 use crate::pairs::{Pair, Pairs};
 use crate::reference::{
     bare, lines, named, passed_over, read, sized, sizes, structure, Plan, Refusal, MAX_BYTES, MAX_PAIRS,
-    MAX_SIZE, MAX_SUM, MAX_THREADS, MAX_WORDS, PAIR_WORDS,
+    MAX_SIZE, MAX_SUM, MAX_WORDS, PAIR_WORDS,
 };
 use crate::straight;
 use crate::tidy::{self, tree, COPY_BYTES};
-use crate::verdict::{conflict, judge, pairs_of_threads, schedule, Kind, Verdict};
-use crate::{askew, miscross, misrange, misread};
+use crate::verdict::{conflict, judge, pairs_of_threads, schedule, Verdict};
+use crate::{askew, miscross, misread};
 
 /// The bytes of a pair in a buffer.
 const PAIR_BYTES: usize = 8 * PAIR_WORDS;
@@ -112,17 +112,13 @@ fn verdict_where(plan: Result<Plan, Refusal>, out: &mut [u8], enough: fn(&Plan, 
 fn put_verdict(plan: &Plan, out: &mut [u8]) -> u64 {
     match judge(plan) {
         Verdict::Free => Answer { kind: FREE, a: 0, b: 0 }.number(),
-        Verdict::Deadlock { schedule, stuck } => put_schedule(DEADLOCK, &schedule, stuck, out),
-        Verdict::Grown { schedule, stuck } => put_schedule(GROWN, &schedule, stuck, out),
+        Verdict::Deadlock { schedule, stuck } => {
+            for (entry, place) in schedule.iter().zip(out.chunks_exact_mut(2)) {
+                place.copy_from_slice(&entry.to_le_bytes());
+            }
+            Answer { kind: DEADLOCK, a: u64::from(stuck), b: schedule.len() as u64 }.number()
+        }
     }
-}
-
-/// Writes a schedule, and answers by a kind.
-fn put_schedule(kind: u64, schedule: &[u16], stuck: u32, out: &mut [u8]) -> u64 {
-    for (entry, place) in schedule.iter().zip(out.chunks_exact_mut(2)) {
-        place.copy_from_slice(&entry.to_le_bytes());
-    }
-    Answer { kind, a: u64::from(stuck), b: schedule.len() as u64 }.number()
 }
 
 fn copy_of(plan: Result<Plan, Refusal>, out: &mut [u8], copy: impl FnOnce(&Plan) -> Vec<u8>) -> u64 {
@@ -182,23 +178,8 @@ fn tidy_lines(text: &[u8], out: &mut [u8], line: fn(&[u8]) -> Vec<u8>) -> u64 {
     copy_of(read(text), out, |plan| lines_by(&tidy::tidy(plan), line))
 }
 
-/// The numbers of a thread line, and none of another.
-fn thread_numbers(line: &[u8]) -> Vec<usize> {
-    let line = std::str::from_utf8(line).unwrap_or("");
-    let numbers = line.strip_prefix("(thread ").and_then(|rest| rest.strip_suffix(")\n"));
-    numbers.map_or(vec![], |all| all.split(' ').filter_map(|number| number.parse().ok()).collect())
-}
-
-/// A bare line in the tidy form: a range of one copy in the old one.
-pub fn respelled(line: &[u8]) -> Vec<u8> {
-    match line.strip_suffix(b" 1 1)\n").filter(|_| line.starts_with(b"(thread ")) {
-        Some(first) => [first, b")\n"].concat(),
-        None => line.to_vec(),
-    }
-}
-
 /// A text whose lines, with their ends, are changed before it is read.
-pub fn lines_by(text: &[u8], change: fn(&[u8]) -> Vec<u8>) -> Vec<u8> {
+fn lines_by(text: &[u8], change: fn(&[u8]) -> Vec<u8>) -> Vec<u8> {
     text.split_inclusive(|byte| *byte == 10).flat_map(change).collect()
 }
 
@@ -240,7 +221,7 @@ fn without_remark(line: &[u8]) -> Vec<u8> {
 fn forms_for_lines(text: &[u8], number: u64) -> u64 {
     let answer = Answer::new(number);
     match lines(text) {
-        Ok(lines) if refused(number) && matches!(answer.a, 4..=9 | 12 | 13 | 15) => {
+        Ok(lines) if refused(number) && matches!(answer.a, 4..=9 | 12 | 13) => {
             let before = lines.forms.iter().filter(|line| (line.number as u64) < answer.b).count();
             Answer { b: before as u64 + 1, ..answer }.number()
         }
@@ -272,7 +253,7 @@ fn refused(number: u64) -> bool {
 }
 
 fn found(number: u64) -> bool {
-    Answer::new(number).has_schedule()
+    Answer::new(number).kind == DEADLOCK
 }
 
 /// A pair list with a fault each.
@@ -599,9 +580,7 @@ pub const FAULTY_VERDICTS: [(&str, VerdictCall); 34] = [
     ("rule 1 only where the schedule does not fit", |text, out| {
         verdict_where(read(text), out, |plan, bytes| match judge(plan) {
             Verdict::Free => true,
-            Verdict::Deadlock { schedule, .. } | Verdict::Grown { schedule, .. } => {
-                2 * schedule.len() <= bytes
-            }
+            Verdict::Deadlock { schedule, .. } => 2 * schedule.len() <= bytes,
         })
     }),
     ("rule 1 before the others, over 6,144 entries", |text, out| {
@@ -683,121 +662,13 @@ pub const FAULTY_VERDICTS: [(&str, VerdictCall); 34] = [
         pairs.iter_mut().for_each(|own| own.reverse());
         let entries = schedule(&plan, &conflict(&pairs).expect("the order does not matter"));
         let state = crate::gateway::replay(&plan, &entries).expect("a run");
-        put_schedule(Answer::new(number).kind, &entries, state.largest_stuck(&plan), out)
+        for (entry, place) in entries.iter().zip(out.chunks_exact_mut(2)) {
+            place.copy_from_slice(&entry.to_le_bytes());
+        }
+        let a = u64::from(state.largest_stuck(&plan));
+        Answer { kind: DEADLOCK, a, b: entries.len() as u64 }.number()
     }),
 ];
-
-/// A verdict with a fault each about ranges.
-pub const FAULTY_ANSWERS: [(&str, VerdictCall); 26] = [
-    ("the lowest counts alone", |text, out| called(text, out, misrange::at_the_lowest_alone)),
-    ("grown called a deadlock", |text, out| called(text, out, misrange::at_the_highest_alone)),
-    ("a deadlock called grown", |text, out| called(text, out, misrange::always_grown)),
-    ("grown by any range", |text, out| called(text, out, misrange::grown_by_any_range)),
-    ("grown from zero", |text, out| called(text, out, misrange::grown_from_zero)),
-    ("no thread is stuck", |text, out| called(text, out, misrange::no_thread_is_stuck)),
-    ("one copy at least", |text, out| called(text, out, misrange::one_copy_at_least)),
-    ("one copy at most", |text, out| called(text, out, misrange::one_copy_at_most)),
-    ("one copy more than the lowest", |text, out| called(text, out, misrange::one_copy_more)),
-    ("one copy less than the highest", |text, out| {
-        called(text, out, misrange::one_copy_less_than_the_highest)
-    }),
-    ("the lowest but for the first line", |text, out| called(text, out, misrange::lowest_but_for_the_first)),
-    ("the lowest but for the last line", |text, out| called(text, out, misrange::lowest_but_for_the_last)),
-    ("a schedule at the lowest counts", |text, out| {
-        let number = verdict(text, &mut out.to_vec());
-        match read(text) {
-            Ok(plan) if Answer::new(number).kind == DEADLOCK => put_verdict(&plan.lowest(), out),
-            _ => verdict(text, out),
-        }
-    }),
-    ("a stuck set at the lowest counts", |text, out| {
-        let number = verdict(text, out);
-        match read(text).map(|plan| judge(&plan.lowest())) {
-            Ok(Verdict::Deadlock { stuck, .. }) if found(number) => {
-                Answer { a: u64::from(stuck), ..Answer::new(number) }.number()
-            }
-            _ => number,
-        }
-    }),
-    ("copies in turn", |text, out| renumbered(text, out, misrange::in_turn)),
-    ("threads backward", |text, out| renumbered(text, out, |plan| (0..plan.threads.len()).rev().collect())),
-    ("grown before any step", |text, out| match grown(verdict(text, &mut out.to_vec())) {
-        true => GROWN + 256 * 3,
-        false => verdict(text, out),
-    }),
-    ("grown with nobody stuck", |text, out| where_grown(text, out, |answer| Answer { a: 0, ..answer })),
-    ("grown with a stuck thread forgotten", |text, out| {
-        where_grown(text, out, |answer| Answer { a: answer.a & (answer.a - 1), ..answer })
-    }),
-    ("grown with all stuck", |text, out| where_grown(text, out, |answer| Answer { a: 0x3f, ..answer })),
-    ("grown with one entry more", |text, out| {
-        where_grown(text, out, |answer| Answer { b: answer.b + 1, ..answer })
-    }),
-    ("grown without its last entry", |text, out| {
-        where_grown(text, out, |answer| Answer { b: answer.b - 1, ..answer })
-    }),
-    ("grown without a number", |text, out| where_grown(text, out, |_| Answer { kind: GROWN, a: 0, b: 0 })),
-    ("grown of another kind", |text, out| where_grown(text, out, |answer| Answer { kind: 4, ..answer })),
-    ("grown, and nothing written", |text, out| {
-        let number = verdict(text, &mut out.to_vec());
-        if grown(number) {
-            number
-        } else {
-            verdict(text, out)
-        }
-    }),
-    ("grown, and the rest cleared", |text, out| {
-        let number = verdict(text, out);
-        if grown(number) {
-            out[2 * Answer::new(number).b as usize..].fill(0);
-        }
-        number
-    }),
-];
-
-fn grown(number: u64) -> bool {
-    Answer::new(number).kind == GROWN
-}
-
-/// The verdict with another answer where it has grown.
-fn where_grown(text: &[u8], out: &mut [u8], other: fn(Answer) -> Answer) -> u64 {
-    let number = verdict(text, out);
-    if grown(number) {
-        other(Answer::new(number)).number()
-    } else {
-        number
-    }
-}
-
-/// The verdict with another one of the three where there is a schedule.
-fn called(text: &[u8], out: &mut [u8], other: fn(&Plan, Kind) -> Kind) -> u64 {
-    let number = verdict(text, &mut out.to_vec());
-    let right = if grown(number) { Kind::Grown } else { Kind::Deadlock };
-    let kind = match read(text) {
-        Ok(plan) if found(number) => other(&plan, right),
-        _ => return verdict(text, out),
-    };
-    match kind {
-        Kind::Free => FREE,
-        Kind::Deadlock => Answer { kind: DEADLOCK, ..Answer::new(verdict(text, out)) }.number(),
-        Kind::Grown => Answer { kind: GROWN, ..Answer::new(verdict(text, out)) }.number(),
-    }
-}
-
-/// The verdict with other numbers of the threads.
-fn renumbered(text: &[u8], out: &mut [u8], numbers: fn(&Plan) -> Vec<usize>) -> u64 {
-    let number = verdict(text, out);
-    let answer = Answer::new(number);
-    let numbers = match read(text) {
-        Ok(plan) if found(number) => numbers(&plan),
-        _ => return number,
-    };
-    for entry in out.chunks_exact_mut(2).take(answer.b as usize) {
-        entry[0] = entry[0] / 8 * 8 + numbers[usize::from(entry[0] % 8)] as u8;
-    }
-    let stuck = (0..numbers.len()).filter(|thread| answer.a >> thread & 1 == 1);
-    Answer { a: stuck.map(|thread| 1 << numbers[thread]).sum(), ..answer }.number()
-}
 
 /// Whether a thread wants to hold what it shares.
 fn upgrades(pair: &Pair) -> bool {
@@ -993,7 +864,7 @@ pub fn faulty_copies<C: Copying>() -> [(&'static str, CopyCall); 28] {
 }
 
 /// A tidy copy with a fault each that it alone can have.
-pub const FAULTY_TIDIES: [(&str, CopyCall); 15] = [
+pub const FAULTY_TIDIES: [(&str, CopyCall); 8] = [
     ("the text as it stands", |text, out| tidy_by(text, out, |line| Some(line))),
     ("indentation kept", |text, out| tidy_by(text, out, |line| tidy_line(line).map(|_| line))),
     ("empty lines kept", |text, out| {
@@ -1001,43 +872,6 @@ pub const FAULTY_TIDIES: [(&str, CopyCall); 15] = [
     }),
     ("remarks kept", |text, out| {
         tidy_by(text, out, |line| if line.starts_with(b";") { Some(line) } else { tidy_line(line) })
-    }),
-    ("one copy as it is written", |text, out| tidy_by(text, out, tidy_line)),
-    ("one copy as a range", |text, out| {
-        tidy_lines(text, out, |line| match thread_numbers(line)[..] {
-            [proc] => format!("(thread {proc} 1 1)\n").into_bytes(),
-            _ => line.to_vec(),
-        })
-    }),
-    ("ranges in the old form", |text, out| {
-        tidy_lines(text, out, |line| match thread_numbers(line)[..] {
-            [proc, _, _] => format!("(thread {proc})\n").into_bytes(),
-            _ => line.to_vec(),
-        })
-    }),
-    ("equal counts in the old form", |text, out| {
-        tidy_lines(text, out, |line| match thread_numbers(line)[..] {
-            [proc, low, high] if low == high => format!("(thread {proc})\n").into_bytes(),
-            _ => line.to_vec(),
-        })
-    }),
-    ("counts exchanged", |text, out| {
-        tidy_lines(text, out, |line| match thread_numbers(line)[..] {
-            [proc, low, high] => format!("(thread {proc} {high} {low})\n").into_bytes(),
-            _ => line.to_vec(),
-        })
-    }),
-    ("the highest count twice", |text, out| {
-        tidy_lines(text, out, |line| match thread_numbers(line)[..] {
-            [proc, _, high] => format!("(thread {proc} {high} {high})\n").into_bytes(),
-            _ => line.to_vec(),
-        })
-    }),
-    ("a range as lines", |text, out| {
-        tidy_lines(text, out, |line| match thread_numbers(line)[..] {
-            [proc, _, high] => format!("(thread {proc})\n").repeat(high).into_bytes(),
-            _ => line.to_vec(),
-        })
     }),
     ("numbers cut to two digits", |text, out| {
         tidy_lines(text, out, |line| match line {
@@ -1092,7 +926,7 @@ fn straight_despite(rule: u8, text: &[u8], out: &mut [u8]) -> u64 {
 }
 
 /// A straightened copy with a fault each that it alone can have.
-pub const FAULTY_STRAIGHTS: [(&str, CopyCall); 48] = [
+pub const FAULTY_STRAIGHTS: [(&str, CopyCall); 43] = [
     ("nothing straightened", |text, out| straight_by(text, out, askew::nothing)),
     ("the first block alone", |text, out| straight_by(text, out, askew::first_block_alone)),
     ("the second block alone", |text, out| straight_by(text, out, askew::second_block_alone)),
@@ -1129,11 +963,6 @@ pub const FAULTY_STRAIGHTS: [(&str, CopyCall); 48] = [
     ("threads lost", |text, out| straight_by(text, out, askew::threads_lost)),
     ("the last thread lost", |text, out| straight_by(text, out, askew::last_thread_lost)),
     ("threads ascending", |text, out| straight_by(text, out, askew::threads_ascending)),
-    ("ranges lost", |text, out| straight_by(text, out, askew::ranges_lost)),
-    ("the highest counts alone", |text, out| straight_by(text, out, askew::highest_alone)),
-    ("a range as lines", |text, out| straight_by(text, out, askew::ranges_as_lines)),
-    ("counts exchanged", |text, out| straight_by(text, out, askew::counts_exchanged)),
-    ("one copy as it is written", |text, out| straight_lines(text, out, askew::lines_that_stay, bare)),
     ("closing lines of loops kept", |text, out| straight_lines(text, out, askew::with_closed_loops, bare)),
     ("closing lines of eithers kept", |text, out| {
         straight_lines(text, out, askew::with_closed_eithers, bare)
@@ -1246,7 +1075,7 @@ fn recounted(text: &[u8], threads: [u64; 2], out: &mut [u8], count: impl Fn(u64,
 }
 
 /// Crossings with a fault each.
-pub const FAULTY_CROSSINGS: [(&str, CrossingsCall); 67] = [
+pub const FAULTY_CROSSINGS: [(&str, CrossingsCall); 62] = [
     ("locks in common", |text, a, b, out| crossed_by(text, (a, b), out, miscross::locks_in_common)),
     ("the first wants alone", |text, a, b, out| crossed_by(text, (a, b), out, miscross::first_wants_alone)),
     ("the second wants alone", |text, a, b, out| crossed_by(text, (a, b), out, miscross::second_wants_alone)),
@@ -1408,24 +1237,6 @@ pub const FAULTY_CROSSINGS: [(&str, CrossingsCall); 67] = [
     ("63 bits of a thread", |text, a, b, out| {
         crossings_at(text, [a, b].map(|thread| thread % (1 << 63)), out)
     }),
-    ("threads by lines", |text, a, b, out| {
-        crossings_of(read(text).map(|plan| misrange::threads_by_lines(&plan)), a, b, out)
-    }),
-    ("threads at the lowest counts", |text, a, b, out| {
-        crossings_of(read(text).map(|plan| plan.lowest()), a, b, out)
-    }),
-    ("copies in turn", |text, a, b, out| {
-        crossings_of(read(text).map(|plan| misrange::threads_in_turn(&plan)), a, b, out)
-    }),
-    ("threads backward", |text, a, b, out| {
-        crossings_of(read(text).map(|plan| misrange::threads_backward(&plan)), a, b, out)
-    }),
-    ("six threads always there", |text, a, b, out| match read(text) {
-        Ok(plan) if a != b && a.max(b) >= plan.threads.len() as u64 && a.max(b) < MAX_THREADS as u64 => {
-            CROSSED
-        }
-        _ => crossings(text, a, b, out),
-    }),
     ("rule 11 for rule 14", |text, a, b, out| {
         let number = crossings(text, a, b, out);
         if Answer::new(number) == Answer::refused(Refusal::NOT_TWO) {
@@ -1455,7 +1266,7 @@ pub const FAULTY_CROSSINGS: [(&str, CrossingsCall); 67] = [
 ];
 
 /// The calls that go by the sum, over sums with a fault each.
-pub const FAULTY_SUMS: [(&str, Calls); 11] = [
+pub const FAULTY_SUMS: [(&str, Calls); 8] = [
     ("one too small", calls_by_sum!(misread::one_too_small)),
     ("one too large", calls_by_sum!(misread::one_too_large)),
     ("of all procedures", calls_by_sum!(misread::sum_of_all_procedures)),
@@ -1464,9 +1275,6 @@ pub const FAULTY_SUMS: [(&str, Calls); 11] = [
     ("the largest thread alone", calls_by_sum!(misread::largest_thread_alone)),
     ("twelve bits of the sum", calls_by_sum!(misread::twelve_bits_of_the_sum)),
     ("shares of size one", calls_by_sum!(misread::shares_of_size_one)),
-    ("at the lowest counts", calls_by_sum!(misrange::sum_at_the_lowest)),
-    ("of each line once", calls_by_sum!(misrange::sum_of_lines)),
-    ("at both counts", calls_by_sum!(misrange::sum_of_both)),
 ];
 
 /// The calls over readings with a fault each.
@@ -1518,41 +1326,4 @@ pub const FAULTY_SHARES: [(&str, Calls); 9] = [
     ("shares are no brackets", calls_over!(misread::shares_are_no_brackets)),
     ("shares are no statements", calls_over!(misread::shares_are_no_statements)),
     ("empty shares let through", calls_over!(misread::empty_shares_let_through)),
-];
-
-/// The calls over readings of ranges with a fault each.
-pub const FAULTY_RANGES: [(&str, Calls); 33] = [
-    ("rule 15 not asked", calls_over!(misrange::rule_15_not_asked)),
-    ("rule 15 for zero alone", calls_over!(misrange::zero_highest_alone)),
-    ("rule 15 for a lowest count above alone", calls_over!(misrange::lowest_above_alone)),
-    ("rule 15 also for a lowest count of zero", calls_over!(misrange::zero_lowest_refused)),
-    ("rule 15 also for equal counts", calls_over!(misrange::equal_counts_refused)),
-    ("rule 15 also for no thread at all", calls_over!(misrange::no_thread_refused)),
-    ("rule 15 at the last line", calls_over!(misrange::last_crooked_line)),
-    ("rule 15 at no line", calls_over!(misrange::no_line_named)),
-    ("rule 4 for rule 15", calls_over!(misrange::no_place_for_a_crooked_line)),
-    ("rule 15 before rule 5", calls_over!(misrange::crooked_before_limits)),
-    ("rule 15 before rule 6", calls_over!(misrange::crooked_before_locks)),
-    ("rule 15 before rule 7", calls_over!(misrange::crooked_before_calls)),
-    ("rule 15 before rule 8", calls_over!(misrange::crooked_before_names)),
-    ("rule 15 behind rule 12", calls_over!(misrange::crooked_behind_recursion)),
-    ("rule 15 behind rule 13", calls_over!(misrange::crooked_behind_idle)),
-    ("rule 15 behind rule 9", calls_over!(misrange::crooked_behind_sizes)),
-    ("rule 5 by the lowest counts", calls_over!(misrange::limit_by_the_lowest)),
-    ("rule 5 by lines", calls_over!(misrange::limit_by_lines)),
-    ("rule 5 without lines of rule 15", calls_over!(misrange::limit_without_crooked_lines)),
-    ("rule 5 for each line", calls_over!(misrange::limit_by_each_line)),
-    ("rule 5 with lines of no copies", calls_over!(misrange::limit_with_lines_of_none)),
-    ("rule 5 at the first thread line", calls_over!(misrange::limit_at_the_first_line)),
-    ("counts exchanged", calls_over!(misrange::counts_exchanged)),
-    ("counts forgotten", calls_over!(misrange::counts_forgotten)),
-    ("the highest count forgotten", calls_over!(misrange::highest_forgotten)),
-    ("used at the lowest counts alone", calls_over!(misrange::used_at_the_lowest_alone)),
-    ("counts of one digit", calls_over!(misrange::counts_of_one_digit)),
-    ("two numbers let through", calls_over!(misrange::two_numbers_let_through)),
-    ("four numbers let through", calls_over!(misrange::four_numbers_let_through)),
-    ("leading zeros let through", calls_over!(misrange::leading_zeros_let_through)),
-    ("blanks let through", calls_over!(misrange::blanks_let_through)),
-    ("tabs let through", calls_over!(misrange::tabs_let_through)),
-    ("brackets let through", calls_over!(misrange::brackets_let_through)),
 ];

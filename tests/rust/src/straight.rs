@@ -25,7 +25,7 @@ pub fn block(trees: &[Tree]) -> Vec<Tree> {
 
 /// A plan without eithers and loops. Procedures and thread lines stay as they are.
 pub fn straightened(draft: &Draft) -> Draft {
-    Draft { procs: draft.procs.iter().map(|body| block(body)).collect(), lines: draft.lines.clone() }
+    Draft { procs: draft.procs.iter().map(|body| block(body)).collect(), threads: draft.threads.clone() }
 }
 
 /// The straightened copy of a plan.

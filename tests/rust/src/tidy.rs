@@ -12,7 +12,7 @@ pub const COPY_BYTES: usize = crate::reference::MAX_BYTES;
 /// nothing of where they stand: equal exactly where the plans are.
 pub fn tree(plan: &Plan) -> Draft {
     let procs = plan.procs.iter().map(|proc| block(plan, proc.body)).collect();
-    Draft { procs, lines: plan.lines.clone() }
+    Draft { procs, threads: plan.threads.clone() }
 }
 
 fn block(plan: &Plan, id: BlockId) -> Vec<Tree> {

@@ -1,21 +1,19 @@
 //! What a library says of texts of one plan: of a text, of its tidy copy and of
 //! the text indented; of the plan with its procedures in another order; of two threads of
-//! it alone; of its straightened copy, and of the plan with more eithers and loops; of the plan
-//! with one count in the place of each range. By the library alone, but for the trees of the
-//! plans, the replay of a schedule, the pairs and sizes of the straightened copy and the lines
-//! of refusals in the other order.
+//! it alone; of its straightened copy, and of the plan with more eithers and loops. By the
+//! library alone, but for the trees of the plans, the replay of a schedule, the pairs and
+//! sizes of the straightened copy and the lines of refusals in the other order.
 
-use crate::answer::{Answer, COPIED, CROSSED, DEADLOCK, FREE, GROWN, REFUSED, SPACE};
+use crate::answer::{Answer, COPIED, CROSSED, DEADLOCK, FREE, REFUSED, SPACE};
 use crate::branches::bent;
 use crate::compare::{not_two, two_threads, Calls, CopyCall};
 use crate::crossings::{alone, COUPLE_BYTES};
 use crate::families::Draft;
 use crate::gateway::replay;
 use crate::generate::neighbour;
-use crate::idle::without_idle;
 use crate::indent::indent;
 use crate::random::Random;
-use crate::reference::{named, read, Copies, Plan, Refusal, MAX_SUM, MAX_WORDS};
+use crate::reference::{named, read, Plan, Refusal, MAX_SUM, MAX_WORDS};
 use crate::straight::straightened;
 use crate::tidy::{tree, COPY_BYTES};
 
@@ -113,7 +111,7 @@ impl Told {
         if one.kind != two.kind {
             return Err(format!("verdict: answer {two:?}, not as {one:?}"));
         }
-        if two.has_schedule() {
+        if two.kind == DEADLOCK {
             other.run_of(plan).map_err(|message| format!("verdict: {message}"))?;
         }
         match self.crossings == other.crossings {
@@ -201,13 +199,7 @@ pub struct Twins {
     /// not the tidy ones; and plans compared with themselves with more eithers and loops.
     pub straight_free: u64,
     pub straight_deadlock: u64,
-    pub straight_grown: u64,
     pub bent: u64,
-    /// Plans with ranges compared with themselves at one count for each line, free and with a
-    /// deadlock; and such as have a count between the two.
-    pub counted_free: u64,
-    pub counted_deadlock: u64,
-    pub between: u64,
 }
 
 impl Twins {
@@ -236,7 +228,6 @@ impl Twins {
         self.straightened(calls, &told, plan)
             .map_err(|message| format!("the straightened copy: {message}"))?;
         self.alone(calls, text, plan, &two)?;
-        self.counted(calls, told.verdict.answer, plan, random)?;
         let straight = told.straight.copied()?.unwrap_or_default().to_vec();
         let own = Copied { tree: tree(plan), tidy: copy.to_vec(), straight };
         self.with_branches(calls, &own, random)?;
@@ -257,7 +248,7 @@ impl Twins {
         Ok(())
     }
 
-    /// Compares what is said of a text that keeps rules 2 to 8 and 15 with what is said of its
+    /// Compares what is said of a text that keeps rules 2 to 8 with what is said of its
     /// plan in another order. The rules behind them are about some procedure, so that
     /// the same one refuses both, if any; the reference says at which line.
     fn shuffled(
@@ -309,8 +300,8 @@ impl Twins {
         }
         let own = read(copy).map_err(|refusal| refusal.to_string())?;
         let smaller = own.sizes.iter().zip(&plan.sizes).all(|(own, size)| own <= size);
-        if own.pairs != plan.pairs || own.lines != plan.lines || !smaller {
-            return Err("other pairs or thread lines, or a larger size".into());
+        if own.pairs != plan.pairs || own.threads != plan.threads || !smaller {
+            return Err("other pairs or threads, or a larger size".into());
         }
         if told.tidy.copied()? == Some(copy) {
             return Ok(());
@@ -319,7 +310,6 @@ impl Twins {
         told.same_straightened(&other, &own)?;
         match other.verdict.answer.kind {
             FREE => self.straight_free += 1,
-            GROWN => self.straight_grown += 1,
             _ => self.straight_deadlock += 1,
         }
         Ok(())
@@ -359,40 +349,6 @@ impl Twins {
         Ok(())
     }
 
-    /// A plan with ranges, at the lowest counts, at the highest and at some between: free at all
-    /// of them where it is free, a deadlock where it is one even at the lowest, and where it has
-    /// grown, free at the first and a deadlock at the second.
-    fn counted(
-        &mut self,
-        calls: Calls,
-        said: Answer,
-        plan: &Plan,
-        random: &mut Random,
-    ) -> Result<(), String> {
-        if !plan.ranges() {
-            return Ok(());
-        }
-        let draft = tree(plan);
-        let all = |count: fn(&Copies) -> usize| draft.lines.iter().map(count).collect::<Vec<_>>();
-        let (lowest, highest) = (all(|line| line.low), all(|line| line.high));
-        let some: Vec<usize> = draft.lines.iter().map(|line| random.between(line.low, line.high)).collect();
-        self.between += u64::from(some != lowest && some != highest);
-        for counts in [&lowest, &highest, &some] {
-            let Some(other) = fixed(&draft, counts, random) else {
-                continue;
-            };
-            let verdict = left(2 * MAX_SUM, |out| (calls.verdict)(&other.text(), out)).answer;
-            match (said.kind, verdict.kind) {
-                (FREE, FREE) => self.counted_free += 1,
-                (DEADLOCK, DEADLOCK) => self.counted_deadlock += 1,
-                (GROWN, FREE) if *counts != highest => self.counted_free += 1,
-                (GROWN, DEADLOCK) if *counts != lowest => self.counted_deadlock += 1,
-                _ => return Err(format!("with counts {counts:?}: verdict {verdict:?}, not as {said:?}")),
-            }
-        }
-        Ok(())
-    }
-
     /// Two accepted texts: their tidy copies are equal exactly where their plans are, and
     /// their straightened copies where their plans are once eithers and loops are gone.
     fn couple(&mut self, what: &str, one: &Copied, two: &Copied) -> Result<(), String> {
@@ -406,19 +362,6 @@ impl Twins {
         let plans = straightened(&one.tree) == straightened(&two.tree);
         alike(what, "straightened", plans, one.straight == two.straight)
     }
-}
-
-/// The plan with so many copies of each line, without the procedures that are idle then; nothing
-/// where it has no thread. Copies stand on a line of one count, or on a line each.
-fn fixed(draft: &Draft, counts: &[usize], random: &mut Random) -> Option<Draft> {
-    let mut lines = Vec::new();
-    for (Copies { proc, .. }, count) in draft.lines.iter().zip(counts) {
-        match random.chance(50) {
-            true => lines.extend(vec![Copies::one(*proc); *count]),
-            false => lines.extend((*count > 0).then_some(Copies { proc: *proc, low: *count, high: *count })),
-        }
-    }
-    (!lines.is_empty()).then(|| without_idle(Draft { lines, ..draft.clone() }))
 }
 
 /// Whether copies are equal exactly where the plans are of which they are.

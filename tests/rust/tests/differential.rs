@@ -2,14 +2,14 @@
 //!
 //!   cargo test --features library --test differential -- [--texts N] [--seed S]
 //!                       [--stack BYTES] [--only NUMBER] [--file PLAN] [--without-large]
-//!                       [--without-share] [--without-ranges] [--recode]
+//!                       [--without-share] [--recode]
 //!
 //! LOCKPLAN_TEXTS and LOCKPLAN_SEED stand for the first two. A text that fails
 //! is made shorter and written to a file. Ends with 1 after a difference, and where no
-//! more than a third of a thousand generated texts or more are accepted. `--without-large`
-//! leaves out the large families, on some of which the stand-in does not end. With
-//! `--without-ranges` no text has a range, with `--without-share` none has a share or a range,
-//! and with `--recode` the library is one from before shares, whose pairs are written as records.
+//! more than a third of a thousand generated texts or more are accepted. The last option
+//! but two leaves out the large families, on some of which the stand-in does not end. With
+//! `--without-share` no text has a share, and with `--recode` the library is one from before
+//! shares, whose pairs are written as records.
 
 fn main() {
     let options = differential::options();
@@ -28,15 +28,13 @@ mod differential {
     use lockplan_tests::compare::{outcome, shorten, Bench, Calls, Outcome};
     use lockplan_tests::families::Draft;
     use lockplan_tests::generate::{
-        beginnings, beginnings_indented, enough_accepted, generate, without_range, without_share, Case,
+        beginnings, beginnings_indented, enough_accepted, generate, without_share, Case,
     };
     use lockplan_tests::library::{CALLS, RECODED};
     use lockplan_tests::random::Random;
-    use lockplan_tests::ranges::has_range;
     use lockplan_tests::shares::has_share;
     use lockplan_tests::twins::Twins;
-    use lockplan_tests::verdict::Kind;
-    use lockplan_tests::{families, guard, lengths, shelf};
+    use lockplan_tests::{families, full, guard, lengths, shares, shelf};
 
     /// Buffers are lent to a fixed text this often.
     const LENT: usize = 4;
@@ -57,7 +55,6 @@ mod differential {
         file: Option<PathBuf>,
         large: bool,
         shares: bool,
-        ranges: bool,
         calls: Calls,
     }
 
@@ -71,7 +68,6 @@ mod differential {
             file: None,
             large: true,
             shares: true,
-            ranges: true,
             calls: CALLS,
         };
         let mut arguments = std::env::args().skip(1);
@@ -84,8 +80,7 @@ mod differential {
                 "--only" => options.only = Some(number(&name, &value())),
                 "--file" => options.file = Some(value().into()),
                 "--without-large" => options.large = false,
-                "--without-share" => (options.shares, options.ranges) = (false, false),
-                "--without-ranges" => options.ranges = false,
+                "--without-share" => options.shares = false,
                 "--recode" => options.calls = RECODED,
                 // What cargo hands to every test program.
                 _ => {}
@@ -98,12 +93,12 @@ mod differential {
         value.replace([',', '_'], "").parse().unwrap_or_else(|_| panic!("{name}: no number: {value}"))
     }
 
-    /// A text that is compared, and its answer where this is known.
+    /// A text that is compared, and whether it deadlocks where this is known.
     #[derive(Clone)]
     struct Compared {
         kind: &'static str,
         text: Rc<Vec<u8>>,
-        known: Option<Kind>,
+        known: Option<bool>,
     }
 
     impl Compared {
@@ -122,20 +117,19 @@ mod differential {
         }
         let entries = shelf::all().into_iter().chain(shelf::all_indented());
         entries.for_each(|entry| push(Compared::new("fixed", entry.text)));
-        let families = families::every_small().into_iter();
+        let families = families::small().into_iter().chain(shares::small_families());
         families.for_each(|(_, draft, _)| push(Compared::new("family", draft.text())));
         lengths::all().into_iter().for_each(|long| push(Compared::new("long", long.text)));
         let short = beginnings(SHORT).into_iter().chain(beginnings_indented(SHORT_INDENTED));
         short.for_each(|text| push(Compared::new("short", text)));
-        let known = |(_, draft, kind): (String, Draft, Kind)| Compared {
-            known: Some(kind),
+        let known = |(_, draft, deadlock): (String, Draft, bool)| Compared {
+            known: Some(deadlock),
             ..Compared::new("large family", draft.text())
         };
         if options.large {
-            all.extend(families::every_full().into_iter().map(known));
+            all.extend(full::all().into_iter().chain(shares::full_families()).map(known));
         }
         all.retain(|one| options.shares || !has_share(&one.text));
-        all.retain(|one| options.ranges || !has_range(&one.text));
         all
     }
 
@@ -143,11 +137,7 @@ mod differential {
     fn compared(fixed: &[Compared], options: &Options, index: u64, random: &mut Random) -> Compared {
         *random = Random::of_text(options.seed, index);
         fixed.get(index as usize).cloned().unwrap_or_else(|| {
-            let Case { kind, text } = match (options.shares, options.ranges) {
-                (false, _) => without_share(random),
-                (_, false) => without_range(random),
-                _ => generate(random),
-            };
+            let Case { kind, text } = if options.shares { generate(random) } else { without_share(random) };
             Compared::new(kind, text)
         })
     }
@@ -164,7 +154,7 @@ mod differential {
     impl Generated {
         fn count(&mut self, outcome: Option<Outcome>) {
             self.texts += 1;
-            self.accepted += u64::from(matches!(outcome, Some(Outcome::Accepted(_))));
+            self.accepted += u64::from(matches!(outcome, Some(Outcome::Free | Outcome::Deadlock)));
             self.idle += u64::from(outcome == Some(Outcome::Refused(13)));
         }
 
@@ -237,9 +227,7 @@ mod differential {
         let enough = generated.enough();
         println!("  {:?}", bench.counts);
         print_twins(&bench.twins);
-        let few = generated.texts < 1_000;
-        let both = few || both_kinds(&bench.twins);
-        let both = both && (few || !options.ranges || all_three(&bench));
+        let both = generated.texts < 1_000 || both_kinds(&bench.twins);
         println!("differential: {differences} differences");
         differences == 0 && enough && both
     }
@@ -253,27 +241,11 @@ mod differential {
         );
         let (free, deadlock) = (twins.alone_free, twins.alone_deadlock);
         println!("  two threads alone: {free} free, {deadlock} with a deadlock");
-        let (free, deadlock, grown) = (twins.straight_free, twins.straight_deadlock, twins.straight_grown);
+        let (free, deadlock) = (twins.straight_free, twins.straight_deadlock);
         println!(
-            "  straightened copies of plans with eithers or loops: {free} free, {deadlock} with a deadlock, {grown} grown"
-        );
-        let (free, deadlock, between) = (twins.counted_free, twins.counted_deadlock, twins.between);
-        println!(
-            "  plans with ranges at one count for each line: {free} free, {deadlock} with a deadlock; {between} between"
+            "  straightened copies of plans with eithers or loops: {free} free, {deadlock} with a deadlock"
         );
         println!("  plans with more eithers and loops: {}", twins.bent);
-    }
-
-    /// Whether plans with ranges had grown in some texts, and were free and had a deadlock at counts
-    /// between.
-    fn all_three(bench: &Bench) -> bool {
-        let twins = &bench.twins;
-        let all = [bench.counts.grown, twins.counted_free, twins.counted_deadlock, twins.between];
-        let some = all.iter().all(|count| *count > 0);
-        if !some {
-            println!("differential: no plans with ranges that have grown, or none at counts between");
-        }
-        some
     }
 
     /// Whether two threads alone, and plans with eithers or loops, were free in some texts and had

@@ -20,8 +20,7 @@ use lockplan_tests::random::Random;
 use lockplan_tests::reference::read;
 use lockplan_tests::report::{check_known, same};
 use lockplan_tests::shelf::{all, all_indented, plans_in};
-use lockplan_tests::verdict::Kind;
-use lockplan_tests::{crossings, families, slip, straight, tidy};
+use lockplan_tests::{crossings, families, shares, slip, straight, tidy};
 
 /// A run of a program on a text.
 fn run(program: &str, arguments: &[&str], text: &[u8]) -> Result<Output, String> {
@@ -55,22 +54,22 @@ fn prints(program: &str, text: &[u8]) -> Result<Vec<u8>, String> {
 }
 
 /// Whether a program prints a text's report.
-fn reports(program: &str, text: &[u8], known: Option<Kind>) -> Result<(), String> {
+fn reports(program: &str, text: &[u8], known: Option<bool>) -> Result<(), String> {
     prints(program, text).and_then(|printed| check_known(text, &printed, known))
 }
 
 /// Whether a program prints a text's tidy copy or its refusal, byte for byte.
-fn tidies(program: &str, text: &[u8], _: Option<Kind>) -> Result<(), String> {
+fn tidies(program: &str, text: &[u8], _: Option<bool>) -> Result<(), String> {
     prints(program, text).and_then(|found| same(&found, &tidy::printed(text)))
 }
 
 /// Whether a program prints a text's straightened copy or its refusal, byte for byte.
-fn straightens(program: &str, text: &[u8], _: Option<Kind>) -> Result<(), String> {
+fn straightens(program: &str, text: &[u8], _: Option<bool>) -> Result<(), String> {
     prints(program, text).and_then(|found| same(&found, &straight::printed(text)))
 }
 
 /// Whether a program prints a text's slip or its refusal, byte for byte.
-fn slips(program: &str, text: &[u8], _: Option<Kind>) -> Result<(), String> {
+fn slips(program: &str, text: &[u8], _: Option<bool>) -> Result<(), String> {
     prints(program, text).and_then(|found| same(&found, &slip::printed(text)))
 }
 
@@ -134,7 +133,7 @@ fn only_a_message(output: &Output) -> Result<(), String> {
 }
 
 /// Whether a program prints where a text's threads cross, byte for byte.
-fn crosses(program: &str, text: &[u8], _: Option<Kind>) -> Result<(), String> {
+fn crosses(program: &str, text: &[u8], _: Option<bool>) -> Result<(), String> {
     for arguments in arguments(text) {
         let arguments: Vec<&str> = arguments.iter().map(String::as_str).collect();
         let output = run(program, &arguments, text)?;
@@ -182,14 +181,14 @@ fn tells(name: &str, program: &str) -> Result<(), String> {
     Ok(())
 }
 
-/// A test of a program: its path, a text, and its answer where this is known.
-type Test = fn(&str, &[u8], Option<Kind>) -> Result<(), String>;
+/// A test of a program: its path, a text, and whether that deadlocks where this is known.
+type Test = fn(&str, &[u8], Option<bool>) -> Result<(), String>;
 
 /// A program that is tested: its name, its path and its test.
 type Tested = (&'static str, String, Test);
 
-/// A text with its name, and its answer where this is known.
-type Case = (String, Vec<u8>, Option<Kind>);
+/// A text with its name, and whether it deadlocks where this is known.
+type Case = (String, Vec<u8>, Option<bool>);
 
 /// The programs that are named.
 fn programs() -> Vec<Tested> {
@@ -207,8 +206,8 @@ fn cases(texts: u64, seed: u64) -> Vec<Case> {
     let fixed = all().into_iter().chain(all_indented());
     let mut cases: Vec<Case> = fixed.map(|entry| (entry.name.to_string(), entry.text, None)).collect();
     cases.extend(plans_in("../../examples").into_iter().map(|(name, text)| (name, text, None)));
-    let families = families::every().into_iter();
-    cases.extend(families.map(|(name, draft, kind)| (name, draft.text(), Some(kind))));
+    let families = families::all().into_iter().chain(shares::all());
+    cases.extend(families.map(|(name, draft, deadlock)| (name, draft.text(), Some(deadlock))));
     for index in 0..texts {
         let case = generate(&mut Random::of_text(seed, index));
         cases.push((format!("seed {seed}, text {index} ({})", case.kind), case.text, None));

@@ -5,7 +5,7 @@ use std::collections::{BTreeMap, BTreeSet, HashSet};
 
 use lockplan_tests::answer::{Answer, REFUSED};
 use lockplan_tests::climb::{Chains, Climb};
-use lockplan_tests::compare::{outcome, Bench, Calls, Outcome};
+use lockplan_tests::compare::{Bench, Calls, Outcome};
 use lockplan_tests::families::{self, Draft, Tree};
 use lockplan_tests::full::{self, most_pairs};
 use lockplan_tests::gateway::{replay, Automaton, State};
@@ -16,25 +16,23 @@ use lockplan_tests::locks::Locks;
 use lockplan_tests::pairs::{by_execution, compositional, Pair};
 use lockplan_tests::random::Random;
 use lockplan_tests::reference::{
-    bare, form, lines, named, passed_over, proc_text, read, sized, sizes, structure, Copies, Form, Lines,
-    Plan, Refusal, Stmt, MAX_BYTES, MAX_PAIRS, MAX_SIZE, MAX_SUM, MAX_WORDS, MOST_PAIRS,
+    bare, form, lines, named, passed_over, proc_text, read, sized, sizes, structure, Form, Lines, Plan,
+    Refusal, Stmt, MAX_BYTES, MAX_PAIRS, MAX_SIZE, MAX_SUM, MAX_WORDS, MOST_PAIRS,
 };
 use lockplan_tests::report::{check, report};
-use lockplan_tests::shares::small_shares;
+use lockplan_tests::shares::{self, small_shares};
 use lockplan_tests::shelf::{self, all, all_indented, shelf, Gives};
 use lockplan_tests::standin::{faulty_copies, Straight, Tidy};
 use lockplan_tests::tidy::{printed, tidy, tree};
 use lockplan_tests::twins::Twins;
 use lockplan_tests::verdict::{
     conflict, conflict_by_choice, conflict_within, conflicting, explore, judge, pairs_of_threads, schedule,
-    schedule_told, Kind, Verdict,
+    schedule_told, Verdict,
 };
 use lockplan_tests::{guard, lengths, slip, standin};
 
 #[path = "selftest/crossings.rs"]
 mod crossings;
-#[path = "selftest/ranges.rs"]
-mod ranged;
 #[path = "selftest/shares.rs"]
 mod shared;
 #[path = "selftest/straight.rs"]
@@ -87,12 +85,8 @@ fn shelf_gives_what_is_stated() {
                     assert_eq!(explore(&plan, 1_000_000), Some(Verdict::Free), "{name}");
                 }
             }
-            (Ok(plan), Gives::Deadlock(set) | Gives::Grown(set)) => {
+            (Ok(plan), Gives::Deadlock(set)) => {
                 assert!(conflict(&pairs_of_threads(&plan)).is_some(), "{name}");
-                let grown = matches!(entry.gives, Gives::Grown(_));
-                assert_eq!(judge(&plan).kind() == Kind::Grown, grown, "{name}");
-                let lowest = explore(&plan.lowest(), 1_000_000).unwrap();
-                assert_eq!(lowest == Verdict::Free, grown, "{name}");
                 let Some(Verdict::Deadlock { schedule, stuck }) = explore(&plan, 1_000_000) else {
                     panic!("{name} is free");
                 };
@@ -281,7 +275,7 @@ fn text_of_a_procedure() {
 
 /// A text without what is passed over, made from its lines.
 fn without_over(text: &[u8]) -> Vec<u8> {
-    standin::lines_by(&standin::copy_by(text, standin::tidy_line), standin::respelled)
+    standin::copy_by(text, standin::tidy_line)
 }
 
 /// The tidy copy from the tree is that from the lines, and a plan of its own.
@@ -464,20 +458,11 @@ fn forms_are_the_listed_lines() {
         assert_eq!(form(format!("(hold {n}").as_bytes()), Some(Form::Hold(n)));
         assert_eq!(form(format!("(share {n}").as_bytes()), Some(Form::Share(n)));
         assert_eq!(form(format!("(call {n})").as_bytes()), Some(Form::Call(n)));
-        assert_eq!(form(format!("(thread {n})").as_bytes()), Some(Form::Thread(Copies::one(n as usize))));
-    }
-    for n in 0..1_000_000 {
-        // Each number at each of the three places, and some together.
-        let (proc, low, high) = (n % 1_000, n * 7 / 1_000 % 1_000, n / 1_000);
-        let line = format!("(thread {proc} {low} {high})");
-        assert_eq!(form(line.as_bytes()), Some(Form::Thread(Copies { proc, low, high })));
-        if n % 97 == 0 {
-            all.insert(line.into_bytes());
-        }
+        assert_eq!(form(format!("(thread {n})").as_bytes()), Some(Form::Thread(n)));
     }
     let lines: Vec<Vec<u8>> = all.iter().cloned().collect();
     let mut random = Random::new(11);
-    let (mut hits, mut ranges) = (0, 0);
+    let mut hits = 0;
     for _ in 0..texts(300_000) {
         let mut line = random.pick(&lines).clone();
         for _ in 0..random.below(3) {
@@ -489,26 +474,10 @@ fn forms_are_the_listed_lines() {
                 _ => {}
             }
         }
-        let range = three_numbers(&line);
-        let told = all.contains(&line) || range;
-        assert_eq!(form(&line).is_some(), told, "{:?}", String::from_utf8_lossy(&line));
-        ranges += u64::from(range);
+        assert_eq!(form(&line).is_some(), all.contains(&line), "{:?}", String::from_utf8_lossy(&line));
         hits += u64::from(all.contains(&line));
     }
-    println!("{hits} lines of a form, {ranges} of three numbers");
-    assert!(ranges > 10_000);
-}
-
-/// Whether a line is a thread line of three numbers, by writing it again.
-fn three_numbers(line: &[u8]) -> bool {
-    let words = String::from_utf8_lossy(line).replace(['(', ')'], " ");
-    let numbers: Vec<usize> = words.split(' ').filter_map(|word| word.parse().ok()).collect();
-    match numbers[..] {
-        [proc, low, high] if proc.max(low).max(high) < 1_000 => {
-            format!("(thread {proc} {low} {high})").as_bytes() == line
-        }
-        _ => false,
-    }
+    println!("{hits} lines of a form");
 }
 
 /// Rule 4 a second time, by a grammar: a stack of what must still come.
@@ -638,7 +607,7 @@ fn slips_of_generated_texts() {
         }
         let draft = tree(&sized(&case.text).unwrap());
         let size = |proc: &usize| written_out(&draft, &draft.procs[*proc]);
-        let sizes: Vec<u64> = draft.threads().iter().map(size).collect();
+        let sizes: Vec<u64> = draft.threads.iter().map(size).collect();
         let mut lines = slip.lines();
         for (thread, size) in sizes.iter().enumerate() {
             assert_eq!(lines.next().unwrap(), format!("(size {thread} {size})"), "{}", case.kind);
@@ -700,8 +669,7 @@ fn by_ways(lines: &Lines) -> Vec<usize> {
 /// of them is one that a thread line names.
 fn by_callers(lines: &Lines) -> Vec<usize> {
     let calls = calls_of(lines);
-    let names = |form: Form, proc: usize| matches!(form, Form::Thread(copies) if copies.proc == proc);
-    let named = |proc: usize| lines.forms.iter().any(|line| names(line.form, proc));
+    let named = |proc: usize| lines.forms.iter().any(|line| line.form == Form::Thread(proc as u32));
     let used = |proc: usize| {
         let mut behind = BTreeSet::from([proc]);
         for _ in 0..calls.len() {
@@ -763,7 +731,7 @@ fn fixed_texts_have_no_idle_procedures() {
     let texts: Vec<(String, Vec<u8>)> = shelf.chain(long).chain(files).collect();
     let draft_of = |text: &[u8]| lines(text).and_then(|lines| structure(&lines)).map(|plan| tree(&plan)).ok();
     let drafts = texts.into_iter().filter_map(|(name, text)| Some((name, draft_of(&text)?)));
-    let families = families::every().into_iter().map(|(name, draft, _)| (name, draft));
+    let families = families::all().into_iter().chain(shares::all()).map(|(name, draft, _)| (name, draft));
     let (met, checked): (Vec<_>, Vec<_>) =
         drafts.chain(families).partition(|(name, _)| about.contains(name.as_str()));
     checked.iter().for_each(|(name, draft)| assert_eq!(idle(draft), [], "{name}"));
@@ -852,12 +820,11 @@ fn shuffling_alters_nothing() {
                     assert_eq!(one.pairs[proc], two.pairs[*number]);
                 }
                 // A schedule of the one is one of the other.
-                let judged = judge(&one);
-                assert_eq!(judged.kind(), judge(&two).kind());
-                if let Verdict::Deadlock { schedule, stuck } | Verdict::Grown { schedule, stuck } = judged {
+                if let Verdict::Deadlock { schedule, stuck } = judge(&one) {
                     right(&two, &schedule, stuck);
                     deadlocks += 1;
                 }
+                assert_eq!(judge(&one) == Verdict::Free, judge(&two) == Verdict::Free);
                 accepted += 1;
             }
             (Err(one), Err(two)) => {
@@ -965,7 +932,6 @@ fn both_verdicts_agree() {
                 deadlocks += 1;
                 sizes[stuck.count_ones() as usize] += 1;
             }
-            Verdict::Grown { .. } => unreachable!("the threads are those of the plan"),
         }
     }
     println!("{free} free, {deadlocks} deadlocks, {given_up} given up, {refused} refused");
@@ -1055,8 +1021,7 @@ fn families_give_what_they_say() {
     // Where more pairs are tried, the verdict is known by how the plan is made alone.
     const TRIES: u64 = 8_000_000;
     let mut given_up = Vec::new();
-    for (name, draft, kind) in families::every() {
-        let deadlock = kind != Kind::Free;
+    for (name, draft, deadlock) in families::all().into_iter().chain(shares::all()) {
         let plan = read(&draft.text()).unwrap_or_else(|refusal| panic!("{name}: {refusal:?}"));
         let pairs: Vec<usize> = plan.threads.iter().map(|proc| plan.pairs[*proc].len()).collect();
         println!("{name}: pairs {pairs:?}, sizes {}", plan.size_of_threads());
@@ -1151,10 +1116,14 @@ fn generator_meets_everything() {
     let (mut over, mut called, mut summed) = (Over::default(), Called::default(), Summed::default());
     let (mut paired, mut unused) = (Paired::default(), Unused::default());
     let (mut crossings, mut branches) = (crossings::Crossings::default(), straight::Branches::default());
-    let (mut shared, mut ranged) = (shared::Shared::default(), ranged::Ranged::default());
+    let mut shared = shared::Shared::default();
     for index in 0..TEXTS {
         let case = generate(&mut Random::of_text(1, index as u64));
-        let outcome = outcome(&case.text);
+        let outcome = match read(&case.text) {
+            Err(refusal) => Outcome::Refused(refusal.rule),
+            Ok(plan) if conflict(&pairs_of_threads(&plan)).is_some() => Outcome::Deadlock,
+            Ok(_) => Outcome::Free,
+        };
         *outcomes.entry(outcome).or_insert(0) += 1;
         *kinds.entry(case.kind).or_insert(0) += 1;
         over.count(&case.text);
@@ -1165,13 +1134,10 @@ fn generator_meets_everything() {
         crossings.count(&case.text);
         branches.count(&case.text);
         shared.count(&case.text);
-        ranged.count(&case.text);
     }
-    let [free, deadlock, grown] =
-        [Kind::Free, Kind::Deadlock, Kind::Grown].map(|kind| outcomes[&Outcome::Accepted(kind)]);
-    let accepted = free + deadlock + grown;
+    let accepted = outcomes[&Outcome::Free] + outcomes[&Outcome::Deadlock];
     println!("{outcomes:?}\n{kinds:?}\n{over:?}\n{called:?}\n{summed:?}\n{paired:?}\n{unused:?}");
-    println!("{crossings:?}\n{branches:?}\n{shared:?}\n{ranged:?}");
+    println!("{crossings:?}\n{branches:?}\n{shared:?}");
     println!("{accepted} of {TEXTS} accepted, {} refused by rule 13", outcomes[&Outcome::Refused(13)]);
     over.enough();
     called.enough();
@@ -1181,11 +1147,10 @@ fn generator_meets_everything() {
     crossings.enough();
     branches.enough();
     shared.enough();
-    ranged.enough();
     for rule in RULES {
         assert!(outcomes[&Outcome::Refused(rule)] >= 30, "rule {rule}");
     }
-    assert!(free > 3_000 && deadlock > 3_000 && grown > 1_500);
+    assert!(outcomes[&Outcome::Free] > 3_000 && outcomes[&Outcome::Deadlock] > 3_000);
     assert!(enough_accepted(accepted, TEXTS as u64));
 }
 
@@ -1198,7 +1163,7 @@ fn a_third_is_not_enough() {
 }
 
 /// The rules that a plan can break.
-const RULES: [u8; 11] = [2, 3, 4, 5, 6, 7, 8, 15, 12, 13, 9];
+const RULES: [u8; 10] = [2, 3, 4, 5, 6, 7, 8, 12, 13, 9];
 
 /// What there is of calls.
 #[derive(Debug, Default)]
@@ -1359,8 +1324,8 @@ impl Unused {
         self.far += usize::from(calls >= 20);
         self.farthest += usize::from(calls == 63);
         let draft = tree(plan);
-        let lines = draft.lines[..draft.lines.len() - 1].to_vec();
-        self.by_the_last += usize::from(!idle(&Draft { lines, ..draft.clone() }).is_empty());
+        let but_the_last = draft.threads[..draft.threads.len() - 1].to_vec();
+        self.by_the_last += usize::from(!idle(&Draft { threads: but_the_last, ..draft.clone() }).is_empty());
         let outside = |block: &Vec<Tree>| -> Vec<Tree> {
             block.iter().filter(|tree| matches!(tree, Tree::Call(_))).cloned().collect()
         };
@@ -1434,7 +1399,7 @@ impl Paired {
 fn pairs_are_fewer_than_half_the_size() {
     let (mut procs, mut most, mut equal) = (0, 0, 0);
     let fixed = all().into_iter().map(|entry| entry.text);
-    let plans = families::every().into_iter().map(|(_, draft, _)| draft.text());
+    let plans = families::all().into_iter().chain(shares::all()).map(|(_, draft, _)| draft.text());
     let generated = (0..texts(20_000)).map(|index| generate(&mut Random::of_text(131, index)).text);
     for text in fixed.chain(plans).chain(generated) {
         let Ok(plan) = read(&text) else {
@@ -1472,7 +1437,7 @@ struct Over {
     texts: usize,
     accepted: usize,
     /// By rule, with a line that is passed over before the one that is named.
-    before: [usize; 16],
+    before: [usize; 14],
     /// A remark or blank line that is not ended.
     not_ended: usize,
     /// Too long, and nothing else is broken.
@@ -1539,13 +1504,9 @@ fn comparison_accepts_the_stand_in() {
     assert!(twins.shuffled > 1_000 && twins.shuffled_refused > 150);
     println!("two threads alone: {} free, {} deadlocks", twins.alone_free, twins.alone_deadlock);
     assert!(twins.alone_free > 1_000 && twins.alone_deadlock > 1_000);
-    let (free, deadlock, grown) = (twins.straight_free, twins.straight_deadlock, twins.straight_grown);
-    println!("straightened: {free} free, {deadlock} deadlocks, {grown} grown");
+    println!("straightened: {} free, {} deadlocks", twins.straight_free, twins.straight_deadlock);
     println!("{} plans with more eithers and loops", twins.bent);
-    assert!(free > 700 && deadlock > 400 && grown > 50 && twins.bent > 1_000);
-    let (free, deadlock) = (twins.counted_free, twins.counted_deadlock);
-    println!("at one count for each line: {free} free, {deadlock} deadlocks; {} between", twins.between);
-    assert!(free > 300 && deadlock > 300 && twins.between > 100 && bench.counts.grown > 300);
+    assert!(twins.straight_free > 700 && twins.straight_deadlock > 500 && twins.bent > 1_000);
 }
 
 /// The comparison finds each fault of the stand-in, and soon.
@@ -1559,7 +1520,7 @@ fn comparison_finds_every_fault() {
     for (name, pairs) in standin::FAULTY_PAIRS {
         found("pairs", name, Calls { pairs, ..standin::CALLS });
     }
-    for (name, verdict) in standin::FAULTY_VERDICTS.into_iter().chain(standin::FAULTY_ANSWERS) {
+    for (name, verdict) in standin::FAULTY_VERDICTS {
         found("verdict", name, Calls { verdict, ..standin::CALLS });
     }
     for (name, tidy) in standin::FAULTY_TIDIES.into_iter().chain(faulty_copies::<Tidy>()) {
@@ -1578,8 +1539,7 @@ fn comparison_finds_every_fault() {
         found("verdict by a sum", name, Calls { verdict, ..standin::CALLS });
         found("space by a sum", name, Calls { space, ..standin::CALLS });
     }
-    let readings = standin::FAULTY_READINGS.into_iter().chain(standin::FAULTY_SHARES);
-    for (name, calls) in readings.chain(standin::FAULTY_RANGES) {
+    for (name, calls) in standin::FAULTY_READINGS.into_iter().chain(standin::FAULTY_SHARES) {
         found("reading", name, calls);
     }
 }

@@ -1,6 +1,6 @@
 -- Part b of each case is below 2 to the power 40, and the number of the case is the answer's.
 use Rattle.answers.specs.Answers.{verdict_number}
-use Rattle.answers.proofs.Sums.{high-entries, grown-entries, verdict-line, verdict_case}
+use Rattle.answers.proofs.Sums.{high-entries, verdict-line, verdict_case}
 use borrow.Author.Rules.{rules}
 use Rattle.answers.proofs.verdict_number.Statement.{statement}
 use Rattle.answers.proofs.verdict_number.Tie as tie
@@ -23,12 +23,6 @@ enum-known-verdict-2 c = search rules
 number-of-requires-3 : tie.Need-number-of-requires-3
 number-of-requires-3 c κs = search (verdict-line, rules)
 
-enum-known-verdict-3 : tie.Need-enum-known-verdict-3
-enum-known-verdict-3 c = search rules
-
-number-of-requires-4 : tie.Need-number-of-requires-4
-number-of-requires-4 c κs = search (grown-entries, rules)
-
 returns : tie.Need-returns
 unfolding verdict_number
 returns c = search (verdict_case, rules)
@@ -41,10 +35,6 @@ returns-3 : tie.Need-returns-3
 unfolding verdict_number
 returns-3 c = search (verdict_case, rules)
 
-returns-4 : tie.Need-returns-4
-unfolding verdict_number
-returns-4 c = search (verdict_case, rules)
-
 pub verdict-number-spec : {M : Type 1} → statement M
 verdict-number-spec =
     tie.close
@@ -55,9 +45,6 @@ verdict-number-spec =
     number-of-requires-2
     enum-known-verdict-2
     number-of-requires-3
-    enum-known-verdict-3
-    number-of-requires-4
     returns
     returns-2
-    returns-3
-    returns-4)
+    returns-3)

@@ -25,8 +25,14 @@ put-text-requires-2 c κs = search (line-room, lines, rules)
 enum-known-form : tie.Need-enum-known-form
 enum-known-form c = search rules
 
-put-thread-requires : tie.Need-put-thread-requires
-put-thread-requires c κs = search (thread-room, rules)
+slice-aggregate-put-number-line : tie.Need-slice-aggregate-put-number-line
+slice-aggregate-put-number-line c = search rules
+
+slice-aggregate-put-number-line-2 : tie.Need-slice-aggregate-put-number-line-2
+slice-aggregate-put-number-line-2 c = search rules
+
+put-number-line-requires : tie.Need-put-number-line-requires
+put-number-line-requires c κs = search (thread-room, rules)
 
 enum-told-3 : tie.Need-enum-told-3
 enum-told-3 c = search rules
@@ -49,18 +55,6 @@ put-text-requires-4 c κs = search (line-room, lines, rules)
 enum-known-form-2 : tie.Need-enum-known-form-2
 enum-known-form-2 c = search rules
 
-slice-aggregate-put-number-line : tie.Need-slice-aggregate-put-number-line
-slice-aggregate-put-number-line c = search rules
-
-slice-aggregate-put-number-line-2 : tie.Need-slice-aggregate-put-number-line-2
-slice-aggregate-put-number-line-2 c = search rules
-
-put-number-line-requires : tie.Need-put-number-line-requires
-put-number-line-requires c κs = search (call-room, rules)
-
-enum-known-form-3 : tie.Need-enum-known-form-3
-enum-known-form-3 c = search rules
-
 slice-aggregate-put-number-line-3 : tie.Need-slice-aggregate-put-number-line-3
 slice-aggregate-put-number-line-3 c = search rules
 
@@ -68,7 +62,19 @@ slice-aggregate-put-number-line-4 : tie.Need-slice-aggregate-put-number-line-4
 slice-aggregate-put-number-line-4 c = search rules
 
 put-number-line-requires-2 : tie.Need-put-number-line-requires-2
-put-number-line-requires-2 c κs = search (hold-room, rules)
+put-number-line-requires-2 c κs = search (call-room, rules)
+
+enum-known-form-3 : tie.Need-enum-known-form-3
+enum-known-form-3 c = search rules
+
+slice-aggregate-put-number-line-5 : tie.Need-slice-aggregate-put-number-line-5
+slice-aggregate-put-number-line-5 c = search rules
+
+slice-aggregate-put-number-line-6 : tie.Need-slice-aggregate-put-number-line-6
+slice-aggregate-put-number-line-6 c = search rules
+
+put-number-line-requires-3 : tie.Need-put-number-line-requires-3
+put-number-line-requires-3 c κs = search (hold-room, rules)
 
 enum-told-5 : tie.Need-enum-told-5
 enum-told-5 c = search rules
@@ -109,14 +115,14 @@ put-text-requires-8 c κs = search (line-room, lines, rules)
 enum-known-form-4 : tie.Need-enum-known-form-4
 enum-known-form-4 c = search rules
 
-slice-aggregate-put-number-line-5 : tie.Need-slice-aggregate-put-number-line-5
-slice-aggregate-put-number-line-5 c = search rules
+slice-aggregate-put-number-line-7 : tie.Need-slice-aggregate-put-number-line-7
+slice-aggregate-put-number-line-7 c = search rules
 
-slice-aggregate-put-number-line-6 : tie.Need-slice-aggregate-put-number-line-6
-slice-aggregate-put-number-line-6 c = search rules
+slice-aggregate-put-number-line-8 : tie.Need-slice-aggregate-put-number-line-8
+slice-aggregate-put-number-line-8 c = search rules
 
-put-number-line-requires-3 : tie.Need-put-number-line-requires-3
-put-number-line-requires-3 c κs = search (share-room, rules)
+put-number-line-requires-4 : tie.Need-put-number-line-requires-4
+put-number-line-requires-4 c κs = search (share-room, rules)
 
 same_length : tie.Need-same-length
 same_length c = search rules
@@ -201,7 +207,9 @@ put-form-spec =
     slice-aggregate-put-text-2
     put-text-requires-2
     enum-known-form
-    put-thread-requires
+    slice-aggregate-put-number-line
+    slice-aggregate-put-number-line-2
+    put-number-line-requires
     enum-told-3
     slice-aggregate-put-text-3
     put-text-requires-3
@@ -209,13 +217,13 @@ put-form-spec =
     slice-aggregate-put-text-4
     put-text-requires-4
     enum-known-form-2
-    slice-aggregate-put-number-line
-    slice-aggregate-put-number-line-2
-    put-number-line-requires
-    enum-known-form-3
     slice-aggregate-put-number-line-3
     slice-aggregate-put-number-line-4
     put-number-line-requires-2
+    enum-known-form-3
+    slice-aggregate-put-number-line-5
+    slice-aggregate-put-number-line-6
+    put-number-line-requires-3
     enum-told-5
     slice-aggregate-put-text-5
     put-text-requires-5
@@ -229,9 +237,9 @@ put-form-spec =
     slice-aggregate-put-text-8
     put-text-requires-8
     enum-known-form-4
-    slice-aggregate-put-number-line-5
-    slice-aggregate-put-number-line-6
-    put-number-line-requires-3
+    slice-aggregate-put-number-line-7
+    slice-aggregate-put-number-line-8
+    put-number-line-requires-4
     same_length
     returns
     same-length-2

@@ -1,4 +1,4 @@
--- Rules 4 to 8 and 15 come first; of a table that keeps them, 12, 13 and 9 decide, and its layout and the space are found on the way.
+-- Rules 4 to 8 come first; of a table that keeps them, 12, 13 and 9 decide, and its layout and the space are found on the way.
 use Rattle.checked.proofs.Checked.{grammar_refused, grammar_table, grammar_kept}
 use borrow.Author.Rules.{rules}
 use Rattle.checked.proofs.check_table.Statement.{statement}

@@ -16,7 +16,7 @@ enum-told-2 c = search rules
 
 returns : tie.Need-returns
 unfolding references_refusal
-returns c = search (first-refuses, first_passes, rules) depth 12
+returns c = search (first-refuses, first_passes, rules) depth 10
 
 check-numbers-requires-2 : tie.Need-check-numbers-requires-2
 check-numbers-requires-2 c κs = search rules
@@ -29,27 +29,14 @@ enum-told-4 c = search rules
 
 returns-2 : tie.Need-returns-2
 unfolding references_refusal
-returns-2 c = search (first-refuses, first_passes, rules) depth 12
+returns-2 c = search (first-refuses, first_passes, rules) depth 10
 
 check-numbers-requires-3 : tie.Need-check-numbers-requires-3
 check-numbers-requires-3 c κs = search rules
 
-enum-told-5 : tie.Need-enum-told-5
-enum-told-5 c = search rules
-
-enum-told-6 : tie.Need-enum-told-6
-enum-told-6 c = search rules
-
 returns-3 : tie.Need-returns-3
 unfolding references_refusal
-returns-3 c = search (first-refuses, first_passes, rules) depth 12
-
-check-numbers-requires-4 : tie.Need-check-numbers-requires-4
-check-numbers-requires-4 c κs = search rules
-
-returns-4 : tie.Need-returns-4
-unfolding references_refusal
-returns-4 c = search (first-refuses, first_passes, rules) depth 12
+returns-3 c = search (first-refuses, first_passes, rules) depth 10
 
 pub check-references-spec : {M : Type 1} → statement M
 check-references-spec =
@@ -64,8 +51,4 @@ check-references-spec =
     enum-told-4
     returns-2
     check-numbers-requires-3
-    enum-told-5
-    enum-told-6
-    returns-3
-    check-numbers-requires-4
-    returns-4)
+    returns-3)

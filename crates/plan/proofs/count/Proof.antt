@@ -4,12 +4,6 @@ use borrow.Author.Rules.{rules}
 use Rattle.plan.proofs.count.Statement.{statement}
 use Rattle.plan.proofs.count.Tie as tie
 
-copies-in-requires : tie.Need-copies-in-requires
-copies-in-requires c κs = search rules
-
-add-threads : tie.Need-overflow-add-threads
-add-threads c = search rules
-
 is-proc-requires : tie.Need-is-proc-requires
 is-proc-requires c κs = search rules
 
@@ -22,6 +16,12 @@ is-statement-requires c κs = search rules
 add-if-requires-2 : tie.Need-add-if-requires-2
 add-if-requires-2 c κs = search rules
 
+is-thread-requires : tie.Need-is-thread-requires
+is-thread-requires c κs = search rules
+
+add-if-requires-3 : tie.Need-add-if-requires-3
+add-if-requires-3 c κs = search rules
+
 depth-after-requires : tie.Need-depth-after-requires
 depth-after-requires c κs = search rules
 
@@ -32,11 +32,11 @@ pub count_spec : {M : Type 1} → statement M
 count_spec =
     tie.close
     (tie.spec
-    copies-in-requires
-    add-threads
     is-proc-requires
     add-if-requires
     is-statement-requires
     add-if-requires-2
+    is-thread-requires
+    add-if-requires-3
     depth-after-requires
     returns)

@@ -8,12 +8,6 @@ use Rattle.plan.proofs.form_at.Tie as tie
 cast-n : tie.Need-overflow-cast-n
 cast-n c = search rules
 
-cast-least : tie.Need-overflow-cast-least
-cast-least c = search rules
-
-cast-most : tie.Need-overflow-cast-most
-cast-most c = search rules
-
 returns : tie.Need-returns
 unfolding form_at
 returns c = simp c.match.keys1
@@ -79,8 +73,6 @@ form-at-spec =
     tie.close
     (tie.spec
     cast-n
-    cast-least
-    cast-most
     returns
     returns-2
     returns-3

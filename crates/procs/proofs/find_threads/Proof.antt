@@ -6,7 +6,7 @@ use lib.ListN.{length, take, drop}
 use Rattle.plan.specs.Table.{form_at, table_forms}
 use Rattle.plan.specs.Settled.{PlanTable}
 use Rattle.procs.specs.Passes.{threads_from}
-use Rattle.procs.proofs.Finding.{copies-room, copies-more, copies_length, copies-fits, threads-counted, threads-found}
+use Rattle.procs.proofs.Finding.{thread-none, thread-room, thread-fits, thread-more, threads-counted, threads-found}
 use borrow.Author.Rules.{rules}
 use Rattle.limits.specs.Limits.{max_threads}
 use Rattle.procs.proofs.find_threads.Statement.{statement}
@@ -32,26 +32,35 @@ shared-slice-read-form-at c = search rules
 form-at-requires : tie.Need-form-at-requires invariant-loop decreases-loop
 form-at-requires c κs = search rules
 
-copies-in-requires : tie.Need-copies-in-requires invariant-loop decreases-loop
-copies-in-requires c κs = search rules
+add-i : tie.Need-overflow-add-i invariant-loop decreases-loop
+add-i c = search rules
+
+is-thread-requires : tie.Need-is-thread-requires invariant-loop decreases-loop
+is-thread-requires c κs = search rules
 
 number-in-requires : tie.Need-number-in-requires invariant-loop decreases-loop
 number-in-requires c κs = search rules
 
-put-copies-requires : tie.Need-put-copies-requires invariant-loop decreases-loop
-put-copies-requires c κs = search (copies-room, rules)
+mul-threads : tie.Need-overflow-mul-threads invariant-loop decreases-loop
+mul-threads c = search rules
+
+slice-write-threads : tie.Need-slice-write-threads invariant-loop decreases-loop
+slice-write-threads c = search (thread-room, rules)
 
 add-n : tie.Need-overflow-add-n invariant-loop decreases-loop
-add-n c = search (copies-room, rules)
-
-add-i : tie.Need-overflow-add-i invariant-loop decreases-loop
-add-i c = search rules
+add-n c = search (thread-room, rules)
 
 loop-less : tie.Need-loop-smaller invariant-loop decreases-loop
 loop-less c = search rules
 
 loop-again : tie.Need-loop-preserved invariant-loop decreases-loop
-loop-again c = (search rules, search rules, search rules, search (copies_length, rules), search (copies-fits, rules), search (copies-more, rules))
+loop-again c = search (thread-fits, thread-more, rules)
+
+loop-less-2 : tie.Need-loop-smaller-2 invariant-loop decreases-loop
+loop-less-2 c = search rules
+
+loop-again-2 : tie.Need-loop-preserved-2 invariant-loop decreases-loop
+loop-again-2 c = search (thread-none, rules)
 
 same_length : tie.Need-same-length invariant-loop decreases-loop
 same_length c = search rules
@@ -69,12 +78,15 @@ find-threads-spec =
     mul-form-at
     shared-slice-read-form-at
     form-at-requires
-    copies-in-requires
-    number-in-requires
-    put-copies-requires
-    add-n
     add-i
+    is-thread-requires
+    number-in-requires
+    mul-threads
+    slice-write-threads
+    add-n
     loop-less
     loop-again
+    loop-less-2
+    loop-again-2
     same_length
     returns)

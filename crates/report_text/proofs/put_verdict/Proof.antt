@@ -1,5 +1,5 @@
 -- The lines of each case, with the schedule's entries within the table.
-use Rattle.report_text.proofs.Parts.{free_part, refused-part, schedule-room, deadlock-within, deadlock-part, grown-within, grown-part}
+use Rattle.report_text.proofs.Parts.{free_part, refused-part, schedule-within, schedule-room, deadlock-part}
 use borrow.Author.Rules.{rules}
 use Rattle.report_text.proofs.put_verdict.Statement.{statement}
 use Rattle.report_text.proofs.put_verdict.Tie as tie
@@ -23,7 +23,7 @@ part-put-deadlock-start : tie.Need-slice-bounds-put-deadlock-start
 part-put-deadlock-start c = search rules
 
 part-put-deadlock-end : tie.Need-slice-bounds-put-deadlock-end
-part-put-deadlock-end c = search (deadlock-within, rules)
+part-put-deadlock-end c = search (schedule-within, rules)
 
 put-deadlock-requires : tie.Need-put-deadlock-requires
 put-deadlock-requires c κs = search (schedule-room, rules)
@@ -33,21 +33,6 @@ enum-known-verdict-2 c = search rules
 
 put-refused-requires : tie.Need-put-refused-requires
 put-refused-requires c κs = search rules
-
-enum-known-verdict-3 : tie.Need-enum-known-verdict-3
-enum-known-verdict-3 c = search rules
-
-sub-put-grown : tie.Need-overflow-sub-put-grown
-sub-put-grown c = search rules
-
-part-put-grown-start : tie.Need-slice-bounds-put-grown-start
-part-put-grown-start c = search rules
-
-part-put-grown-end : tie.Need-slice-bounds-put-grown-end
-part-put-grown-end c = search (grown-within, rules)
-
-put-grown-requires : tie.Need-put-grown-requires
-put-grown-requires c κs = search (schedule-room, rules)
 
 same_length : tie.Need-same-length
 same_length c = search rules
@@ -67,12 +52,6 @@ same-length-3 c = search rules
 returns-3 : tie.Need-returns-3
 returns-3 c = search (refused-part, rules)
 
-same-length-4 : tie.Need-same-length-4
-same-length-4 c = search rules
-
-returns-4 : tie.Need-returns-4
-returns-4 c = search (grown-part, rules)
-
 pub put-verdict-spec : {M : Type 1} → statement M
 put-verdict-spec =
     tie.close
@@ -87,16 +66,9 @@ put-verdict-spec =
     put-deadlock-requires
     enum-known-verdict-2
     put-refused-requires
-    enum-known-verdict-3
-    sub-put-grown
-    part-put-grown-start
-    part-put-grown-end
-    put-grown-requires
     same_length
     returns
     same-length-2
     returns-2
     same-length-3
-    returns-3
-    same-length-4
-    returns-4)
+    returns-3)

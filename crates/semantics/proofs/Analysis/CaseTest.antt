@@ -1,8 +1,8 @@
 -- A test, for closed computation, of what a table of cases says of a plan. Where a case passes, what it says holds of the runs and of the critical pairs themselves
--- (`passes-facts`): freedom by the characterisation, a deadlock at the lowest counts too, a schedule by running it, its stuck set by the rounds.
+-- (`passes-facts`): freedom by the characterisation, a schedule by running it, its stuck set by the rounds.
 use Prim.Native.Nat.{ℕ, zero, suc, ◌+◌, ◌≤◌, ◌<◌}
 use mathlib.Core.List.Memᴰ
-use mathlib.Core.List.{List, [], ◌∷◌, Memᴰ}
+use mathlib.Core.List.{List, [], ◌∷◌, map, Memᴰ}
 use mathlib.Core.Bool.{Bool, true, false, not, ◌&&◌}
 use mathlib.Core.Logic.{⊎_elim}
 use mathlib.Core.Option.{Option, none, some}
@@ -16,14 +16,13 @@ use Rattle.laws.specs.Bytes.{equal}
 use Rattle.laws.proofs.Tests.{same_test, T_and, T-or, T_true, lt_or_le}
 use Rattle.laws.proofs.Bytes.{equal_is}
 use Rattle.semantics.specs.Plan.{Block, done, skip, call, hold, loop, either, end, body_in, Written, WellFormed, Ranks, LockPlan}
-use Rattle.semantics.specs.Ranges.{RangedPlan, lowest, highest, TrueOf}
 use Rattle.semantics.specs.CallMasks.{reaches}
 use Rattle.semantics.specs.Sizes.{thread_sizes}
 use Rattle.semantics.specs.Run.{ThreadState, run, start}
-use Rattle.semantics.specs.Stuck.{Largest, Schedule, StuckReached}
+use Rattle.semantics.specs.Stuck.{Largest, Schedule}
 use Rattle.semantics.specs.Pairs.{pair_list}
-use Rattle.semantics.specs.Cases.{Expected, free, deadlock, grown, set_of, Holds, CaseFacts}
-use Rattle.semantics.specs.Conflict.{any, conflict_in}
+use Rattle.semantics.specs.Cases.{Expected, free, deadlock, set_of, Holds, CaseFacts}
+use Rattle.semantics.specs.Conflict.{any, conflicting}
 use Rattle.semantics.proofs.Thread.Remainders.{plain_body}
 use Rattle.semantics.proofs.Calls.Closure.{reacher_present, reaches-is}
 use Rattle.semantics.proofs.Calls.Ranks.{acyclic-ranks}
@@ -32,7 +31,6 @@ use Rattle.semantics.proofs.Critical.PairList.{pair_list-critical}
 use Rattle.semantics.proofs.Stuck.LargestStuck.{rounds, rounds-largest, rounds_in}
 use Rattle.semantics.proofs.Ground.Members.{any-is}
 use Rattle.semantics.proofs.Conflicts.Characterisation.{Ranked, plan-characterisation}
-use Rattle.semantics.proofs.Conflicts.Ranges.{free-between, conflict-stuck}
 
 -- ---- the test
 
@@ -72,29 +70,20 @@ unfoldable pub stuck_are : ℕ → List Block → List ℕ → Option (List Thre
 stuck_are n ps us none = false
 stuck_are n ps us (some ts) = same_below n (rounds n ps ts) (set_of us) && any (rounds n ps ts) us
 
--- whether a schedule leads to these stuck threads
-unfoldable pub leads_to : LockPlan → List ℕ → List ℕ → Bool
-leads_to plan es us =
+unfoldable pub answers : LockPlan → Expected → Bool
+answers plan free = not (conflicting (map (pair_list plan.procs) plan.threads))
+answers plan (deadlock es us) =
     leb (length es) (thread_sizes plan)
     && (all (λ t. ltb t (length plan.threads)) us
     && stuck_are (length plan.threads) plan.procs us (run plan.procs (start plan.procs plan.threads) es))
 
--- by conflicts at the highest counts or at the lowest, and by a schedule at the highest
-unfoldable pub answers : RangedPlan → Expected → Bool
-answers plan free = not (conflict_in (highest plan))
-answers plan (deadlock es us) = conflict_in (lowest plan) && leads_to (highest plan) es us
-answers plan (grown es us) = not (conflict_in (lowest plan)) && leads_to (highest plan) es us
-
--- whether there are at most 8 threads, each of a procedure that is there
-unfoldable pub runs_few : LockPlan → Bool
-runs_few plan = all (λ n. ltb n (length plan.procs)) plan.threads && leb (length plan.threads) 8
-
-unfoldable pub passes : RangedPlan → List (List ℕ) → Expected → Bool
+unfoldable pub passes : LockPlan → List (List ℕ) → Expected → Bool
 passes plan pairs a =
     let ps = plan.procs in
+    let ns = plan.threads in
     all_written (length ps) ps
     && (same_below (length ps) (λ p. reaches ps p p) (λ p. false)
-    && (runs_few (highest plan) && (runs_few (lowest plan) && (pairs_from ps 0 pairs && answers plan a))))
+    && (all (λ n. ltb n (length ps)) ns && (leb (length ns) 8 && (pairs_from ps 0 pairs && answers plan a))))
 
 -- ---- what it implies
 
@@ -216,60 +205,41 @@ module _ (plan : LockPlan) (ranked : Ranked plan) where
           let (u, _, r) = any-is (rounds n ps ts) us one in
           record { there = ts; reached = e; largest = subst (Largest ps ts) is (rounds-largest ps bodies ts m n (omega arith) u r); short = short }
 
-  leads_to_lem : (es us : List ℕ) → T (leads_to plan es us) → Schedule plan es (set_of us)
-  unfolding leads_to
-  leads_to_lem es us h =
+  expected-holds : (a : Expected) → T (answers plan a) → Holds plan a
+  unfolding answers
+  expected-holds free h = (plan-characterisation plan ranked).free.0 (T_not (conflicting (map (pair_list ps) plan.threads)) h)
+  expected-holds (deadlock es us) h =
       let test = stuck_are n ps us (run ps (start ps plan.threads) es) in
       let (short, y) = T_and (leb (length es) (thread_sizes plan)) (all (λ t. ltb t n) us && test) h in
       let (small, ends) = T_and (all (λ t. ltb t n) us) test y in
       stuck_are_lem es us small ends (leb→le (length es) (thread_sizes plan) short)
 
--- procedures that have ranks, at given counts
-few-ranked : (plan : LockPlan) → Ranks plan.procs → T (runs_few plan) → Ranked plan
-unfolding runs_few
-few-ranked plan ranks h =
-    let there : ℕ → Bool = λ n. ltb n (length plan.procs) in
-    let (x, y) = T_and (all there plan.threads) (leb (length plan.threads) 8) h in
-    record {
-      ranks = ranks;
-      there = λ t b. ltb→lt (get_or plan.threads t 0) (length plan.procs) (all-at there plan.threads x t b);
-      few = leb→le (length plan.threads) 8 y;
-    }
-
-module _ (plan : RangedPlan) (high : Ranked (highest plan)) (low : Ranked (lowest plan)) where
-  expected-holds : (a : Expected) → T (answers plan a) → Holds plan a
-  unfolding answers TrueOf
-  expected-holds free h = free-between plan high ((plan-characterisation (highest plan) high).free.0 (T_not (conflict_in (highest plan)) h))
-  expected-holds (deadlock es us) h =
-      let (c, y) = T_and (conflict_in (lowest plan)) (leads_to (highest plan) es us) h in
-      (leads_to_lem (highest plan) high es us y, conflict-stuck (lowest plan) low c)
-  expected-holds (grown es us) h =
-      let (c, y) = T_and (not (conflict_in (lowest plan))) (leads_to (highest plan) es us) h in
-      let s = leads_to_lem (highest plan) high es us y in
-      let stuck : StuckReached (highest plan) =
-      record { entries = es; there = s.there; set = set_of us; reached = s.reached; stuck = s.largest.stuck } in
-      (s, ((plan-characterisation (lowest plan) low).free.0 (T_not (conflict_in (lowest plan)) c), stuck))
-
 -- a case that passes
-pub passes-facts : (plan : RangedPlan) (pairs : List (List ℕ)) (a : Expected) → T (passes plan pairs a) → CaseFacts plan pairs a
+pub passes-facts : (plan : LockPlan) (pairs : List (List ℕ)) (a : Expected) → T (passes plan pairs a) → CaseFacts plan pairs a
 unfolding passes
 passes-facts plan pairs a h =
     let ps = plan.procs in
+    let ns = plan.threads in
     let t₄ = answers plan a in
     let t₃ = pairs_from ps 0 pairs && t₄ in
-    let t₂ = runs_few (lowest plan) && t₃ in
-    let t₁ = runs_few (highest plan) && t₂ in
+    let t₂ = leb (length ns) 8 && t₃ in
+    let t₁ = all (λ n. ltb n (length ps)) ns && t₂ in
     let none = same_below (length ps) (λ p. reaches ps p p) (λ p. false) in
     let (w, k) = T_and (all_written (length ps) ps) (none && t₁) h in
     let (h₀, k₁) = T_and none t₁ k in
-    let (h₁, k₂) = T_and (runs_few (highest plan)) t₂ k₁ in
-    let (h₂, k₃) = T_and (runs_few (lowest plan)) t₃ k₂ in
+    let (h₁, k₂) = T_and (all (λ n. ltb n (length ps)) ns) t₂ k₁ in
+    let (h₂, k₃) = T_and (leb (length ns) 8) t₃ k₂ in
     let (h₃, h₄) = T_and (pairs_from ps 0 pairs) t₄ k₃ in
     let ranks = plan-ranks ps w h₀ in
+    let ranked : Ranked plan = record {
+      ranks = ranks;
+      there = λ t b. ltb→lt (get_or ns t 0) (length ps) (all-at (λ n. ltb n (length ps)) ns h₁ t b);
+      few = leb→le (length ns) 8 h₂;
+    } in
     let same : (p : ℕ) → p < length pairs → (p < length ps) × (pair_list ps p ≡ get_or pairs p []) =
     λ p b. rw zero-add at (pairs-from ps 0 pairs h₃ p b) in
     record {
       listed = λ p b. sym (same p b).1;
       critical = λ p b w. rw (← (same p b).1) (pair_list-critical ps ranks.rank ranks.sound p (ranks.below p (same p b).0) w);
-      expected = expected-holds plan (few-ranked (highest plan) ranks h₁) (few-ranked (lowest plan) ranks h₂) a h₄;
+      expected = expected-holds plan ranked a h₄;
     }

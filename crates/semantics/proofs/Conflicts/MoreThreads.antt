@@ -1,14 +1,15 @@
 -- Another thread never removes a deadlock: a search that succeeds does so with one list more, wherever it is put in.
-use Prim.Native.Nat.{ℕ, ◌≤◌, ◌<◌}
+use Prim.Native.Nat.{zero, suc, ℕ, ◌≤◌, ◌<◌}
 use mathlib.Core.Bool.{Bool, true, false}
 use mathlib.Core.List.Memᴰ
 use mathlib.Core.List.{List, [], ◌∷◌, ◌++◌, map, map-append, Memᴰ}
 use mathlib.Core.Logic.{inl, inr, ⊎_elim}
+use mathlib.Core.Path.{refl}
+use native.Mathlib.Nat.{not-suc-le-zero, le_of_suc-le-suc}
 use native.Mathlib.Omega.{arith}
 use lib.Bits.{bit_or}
 use lib.Dec.{T}
 use lib.ListN.{length, get_or, length-append}
-use Rattle.laws.proofs.Members.{get_or-mem}
 use Rattle.laws.proofs.Tests.{T_and, and_T, T-or, or_T}
 use Rattle.semantics.specs.Plan.{Block, Sound}
 use Rattle.semantics.specs.Stuck.{DeadlockFree}
@@ -35,6 +36,11 @@ module _ (c b : ℕ → ℕ → Bool) where
       (search_insert xs vs ys (bit_or m (had_of v)) (still_unmet c b m v ws) true r)) x p))
       (T-or (search_from c b (xs ++ ys) m ws some) (any (takes c b (xs ++ ys) m ws) x) t))
 
+at_mem : (ns : List ℕ) (t : ℕ) → t < length ns → Memᴰ (get_or ns t 0) ns
+at_mem [] t h = absurd (not-suc-le-zero h)
+at_mem (n ∷ ns) zero h = Memᴰ.head refl
+at_mem (n ∷ ns) (suc t) h = Memᴰ.tail (at_mem ns t (le_of_suc-le-suc h))
+
 -- a gateway that is free of deadlocks with a thread of procedure p more is so without it (source 000, after Definition 2.2)
 pub deadlock-free-fewer : (ps : List Block) (rank : ℕ → ℕ) → Sound ps rank → (ms : List ℕ) (p : ℕ) (ns : List ℕ) (d : ℕ)
     → ((q : ℕ) → Memᴰ q (ms ++ p ∷ ns) → rank q < d)
@@ -43,8 +49,8 @@ deadlock-free-fewer ps rank s ms p ns d deep few free =
     let fewer : length (ms ++ ns) ≤ 8 = rw length-append (omega (arith, rw length-append at few)) in
     let less : (q : ℕ) → Memᴰ q (ms ++ ns) → Memᴰ q (ms ++ p ∷ ns) =
     λ q m. ⊎_elim (λ i. Memᴰ.append_left (p ∷ ns) i) (λ i. Memᴰ.append_right ms (Memᴰ.tail i)) (Memᴰ.append_cases ms m) in
-    (characterisation ps rank s (ms ++ ns) fewer d (λ t b. deep (get_or (ms ++ ns) t 0) (less (get_or (ms ++ ns) t 0) (get_or-mem (ms ++ ns) t 0 b)))).free.0
-    (λ h. (characterisation ps rank s (ms ++ p ∷ ns) few d (λ t b. deep (get_or (ms ++ p ∷ ns) t 0) (get_or-mem (ms ++ p ∷ ns) t 0 b))).free.1 free
+    (characterisation ps rank s (ms ++ ns) fewer d (λ t b. deep (get_or (ms ++ ns) t 0) (less (get_or (ms ++ ns) t 0) (at_mem (ms ++ ns) t b)))).free.0
+    (λ h. (characterisation ps rank s (ms ++ p ∷ ns) few d (λ t b. deep (get_or (ms ++ p ∷ ns) t 0) (at_mem (ms ++ p ∷ ns) t b))).free.1 free
     (rw (map-append (pairs d ps) ms (p ∷ ns))
     (search_insert compatible_sets excludes_set (map (pairs d ps) ms) (pairs d ps p) (map (pairs d ps) ns) 0 [] false
     (rw (map-append (pairs d ps) ms ns) at h))))

@@ -1,6 +1,6 @@
--- The arms of the match are the cases of `once_or`.
+-- The arms of the match are the cases of `numbered`.
 use Rattle.text.specs.Kinds.{thread_kind}
-use Rattle.text.proofs.Branches.{once_is, once_not}
+use Rattle.text.proofs.Branches.{numbered_is, numbered-not}
 use borrow.Author.Rules.{rules}
 use Rattle.text.proofs.thread_kind.Statement.{statement}
 use Rattle.text.proofs.thread_kind.Tie as tie
@@ -17,16 +17,13 @@ enum-known-n c = search rules
 enum_told : tie.Need-enum-told
 enum_told c = search rules
 
-range-kind-requires : tie.Need-range-kind-requires
-range-kind-requires c κs = search rules
-
 returns : tie.Need-returns
 unfolding thread_kind
-returns c = search (once_is, rules)
+returns c = search (numbered_is, rules)
 
 returns-2 : tie.Need-returns-2
 unfolding thread_kind
-returns-2 c = search (once_not, rules)
+returns-2 c = search (numbered-not, rules)
 
 pub thread-kind-spec : {M : Type 1} → statement M
 thread-kind-spec =
@@ -36,6 +33,5 @@ thread-kind-spec =
     number-between-requires
     enum-known-n
     enum_told
-    range-kind-requires
     returns
     returns-2)

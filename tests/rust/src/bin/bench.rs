@@ -3,12 +3,11 @@
 //! With `--lengths` those of the library's calls on texts of 32,768 bytes that are
 //! mostly passed over, each beside a bare text of that length. With `--crossings` those of
 //! the crossings of two threads with many pairs or couples. With `--without-share` the families
-//! with shares or ranges are left out, which a library from before them refuses, with
-//! `--without-ranges` those with ranges; with `--ours` the times of the reference are. Those are
-//! of the highest counts, and of the lowest too where they differ.
+//! with shares are left out, which a library from before them refuses; with `--ours` the times
+//! of the reference are.
 //!
 //!   cargo run --release --features library --bin bench -- [--rounds N]
-//!                       [--family NAME] [--spin TABLE] [--without-share] [--without-ranges] [--ours]
+//!                       [--family NAME] [--spin TABLE] [--without-share] [--ours]
 //!   cargo run --release --features library --bin bench -- --lengths [--rounds N]
 //!   cargo run --release --features library --bin bench -- --crossings [--rounds N]
 
@@ -21,13 +20,11 @@ use lockplan_tests::compare::kind;
 use lockplan_tests::crossings::{crossed, COUPLE_BYTES};
 use lockplan_tests::families::Draft;
 use lockplan_tests::opposed::{both_around, MOST_COUPLES};
-use lockplan_tests::ranges::has_range;
 use lockplan_tests::reference::{read, Plan, MAX_SUM, MAX_WORDS};
-use lockplan_tests::shares::has_share;
 use lockplan_tests::tidy::COPY_BYTES;
 use lockplan_tests::times::median;
-use lockplan_tests::verdict::{conflict_within, pairs_of_threads, Kind};
-use lockplan_tests::{families, full, lengths, library, standin};
+use lockplan_tests::verdict::{conflict_within, pairs_of_threads};
+use lockplan_tests::{families, full, lengths, library, shares, standin};
 
 /// Pairs that the reference tries before it gives up.
 const TRIES: u64 = 50_000_000;
@@ -118,7 +115,7 @@ fn print_lengths(rounds: usize) {
 
 /// The plans of two threads whose crossings are timed.
 fn opposed() -> Vec<(&'static str, Draft)> {
-    let two = |block| Draft::new(vec![block], vec![0; 2]);
+    let two = |block| Draft { procs: vec![block], threads: vec![0; 2] };
     vec![
         ("philosophers-2", families::philosophers(2)),
         ("detours", families::detours(14)),
@@ -173,13 +170,7 @@ fn reference(rounds: usize, text: &[u8]) -> (String, String) {
     let mut tried = Some(0);
     let time = median(rounds, || {
         let plan = read(black_box(text)).expect("an accepted plan");
-        let search = |plan: &Plan, left: u64| conflict_within(&pairs_of_threads(plan), left);
-        let (found, mut left) =
-            search(&plan, TRIES).map_or((None, None), |(found, left)| (found, Some(left)));
-        if found.is_some() && plan.ranges() {
-            left = left.and_then(|left| search(&plan.lowest(), left)).map(|(_, left)| left);
-        }
-        tried = left.map(|left| TRIES - left);
+        tried = conflict_within(&pairs_of_threads(&plan), TRIES).map(|(_, left)| TRIES - left);
     });
     (microseconds(time), tried.map_or("given up".into(), |tried| tried.to_string()))
 }
@@ -191,9 +182,8 @@ struct Timed {
     family: String,
     /// The table of SPIN.
     spin: String,
-    /// Whether those with shares are timed, those with ranges, and the reference.
+    /// Whether those with shares are timed, and the reference.
     shares: bool,
-    ranges: bool,
     reference: bool,
 }
 
@@ -206,12 +196,12 @@ fn print_families(timed: &Timed) -> usize {
         "family", "verdict", "entries", "pairs", "library us", "reference us", "tried", "spin s"
     );
     let mut wrong = 0;
-    for (name, draft, known) in families::every() {
-        let text = draft.text();
-        let left_out = !timed.shares && has_share(&text) || !timed.ranges && has_range(&text);
-        if !name.starts_with(family) || left_out {
+    let with_shares = if timed.shares { shares::all() } else { vec![] };
+    for (name, draft, deadlock) in families::all().into_iter().chain(with_shares) {
+        if !name.starts_with(family) {
             continue;
         }
+        let text = draft.text();
         let mut out = vec![0; 2 * MAX_SUM];
         let answer = Answer::new(library::verdict(&text, &mut out));
         let ours = median(rounds, || {
@@ -220,16 +210,12 @@ fn print_families(timed: &Timed) -> usize {
         let theirs = timed.reference.then(|| reference(rounds, &text));
         let plan = read(&text).expect("an accepted plan");
         let pairs: usize = plan.threads.iter().map(|proc| plan.pairs[*proc].len()).sum();
-        let expected = match known {
-            Kind::Free => "free",
-            Kind::Deadlock => "deadlock",
-            Kind::Grown => "grown",
-        };
+        let expected = if deadlock { "deadlock" } else { "free" };
         wrong += usize::from(kind(answer) != expected);
         println!(
             "{name:44} {:9} {:7} {pairs:7} {:>14} {:>14} {:>10} {:>12}{}",
             kind(answer),
-            if answer.has_schedule() { answer.b } else { 0 },
+            if deadlock { answer.b } else { 0 },
             microseconds(ours),
             theirs.as_ref().map_or("-", |(time, _)| time),
             theirs.as_ref().map_or("-", |(_, tried)| tried),
@@ -242,7 +228,7 @@ fn print_families(timed: &Timed) -> usize {
 
 fn main() {
     let (family, spin) = (String::new(), String::new());
-    let mut timed = Timed { rounds: 15, family, spin, shares: true, ranges: true, reference: true };
+    let mut timed = Timed { rounds: 15, family, spin, shares: true, reference: true };
     let (mut long_texts, mut crossings) = (false, false);
     let mut arguments = std::env::args().skip(1);
     while let Some(name) = arguments.next() {
@@ -250,8 +236,7 @@ fn main() {
         match name.as_str() {
             "--lengths" => long_texts = true,
             "--crossings" => crossings = true,
-            "--without-share" => (timed.shares, timed.ranges) = (false, false),
-            "--without-ranges" => timed.ranges = false,
+            "--without-share" => timed.shares = false,
             "--ours" => timed.reference = false,
             "--rounds" => timed.rounds = value().parse().expect("a number"),
             "--family" => timed.family = value(),

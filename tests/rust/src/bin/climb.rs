@@ -4,7 +4,7 @@
 //!                       [--start NAME] [--want free|deadlock|any] [--enough N] [--write FILE]
 //!                       [--shares yes|no]
 //!
-//! The start is a family, a plan in a file, or by default a random one; at the highest counts. Prints each time
+//! The start is a family, a plan in a file, or by default a random one. Prints each time
 //! that is a tenth longer than the one before, and writes the best plan. The same seed
 //! gives the same proposals as long as the same ones are kept, which depends on the times.
 //! A call of more than `--enough` seconds (20) ends the climb: its plan is written as the best.
@@ -14,13 +14,13 @@ use std::hint::black_box;
 use std::sync::{Arc, Mutex};
 use std::time::{Duration, Instant};
 
-use lockplan_tests::answer::{Answer, REFUSED};
+use lockplan_tests::answer::{Answer, DEADLOCK, REFUSED};
 use lockplan_tests::climb::{Chains, Climb};
 use lockplan_tests::families::{self, Draft};
 use lockplan_tests::random::Random;
 use lockplan_tests::reference::{read, MAX_SUM};
 use lockplan_tests::tidy::tree;
-use lockplan_tests::{library, times};
+use lockplan_tests::{library, shares, times};
 
 /// Calls of which the least time counts.
 const CALLS: usize = 4;
@@ -46,7 +46,7 @@ fn measure(text: &[u8], least: u64, running: &Running) -> Option<(bool, u64)> {
         }
     }
     *running.lock().expect("no other holder") = None;
-    (answer.kind != REFUSED).then_some((answer.has_schedule(), nanoseconds))
+    (answer.kind != REFUSED).then_some((answer.kind == DEADLOCK, nanoseconds))
 }
 
 /// Ends the program when a call takes too long, with its text as the best plan.
@@ -66,7 +66,8 @@ fn watch(running: Running, enough: Duration, write: Option<String>) {
 
 /// The plan of a family or of a file.
 fn plan(start: &str) -> Draft {
-    let family = families::every().into_iter().find(|(name, _, _)| name == start);
+    let mut families = families::all().into_iter().chain(shares::all());
+    let family = families.find(|(name, _, _)| name == start);
     family.map(|(_, draft, _)| draft).unwrap_or_else(|| {
         let text =
             std::fs::read(start).unwrap_or_else(|error| panic!("no family, no file: {start}: {error}"));

@@ -1,8 +1,7 @@
 //! One number for all that the library answers and writes on fixed and generated
 //! texts: two builds that print the same number give the same answers.
 //!
-//!   cargo run --release --features library --bin digest -- [--texts N] [--seed S]
-//!                       [--without-share] [--without-ranges] [--recode]
+//!   cargo run --release --features library --bin digest -- [--texts N] [--seed S] [--without-share] [--recode]
 //!
 //! LOCKPLAN_LIB names the folder of another build. Of each text it asks for the verdict, the
 //! space, the pair list of each procedure and of one behind the last, the tidy and the
@@ -12,10 +11,9 @@
 //! too few. What the programs print of the text is taken in, too, where LOCKPLAN_PROGRAM,
 //! LOCKPLAN_TIDY, LOCKPLAN_STRAIGHT, LOCKPLAN_SLIP and LOCKPLAN_CROSSINGS name them.
 //!
-//! With `--without-ranges` there is no `(thread P A B)` in any text, fixed or generated: a library
-//! from before ranges has the number that the library with them has. With `--without-share` there
-//! is no share either. With `--recode` the library is one from before shares, and its pairs are
-//! taken in as records: of texts without share it has the number that the library with shares has.
+//! With `--without-share` there is no share in any text, fixed or generated. With `--recode` the
+//! library is one from before shares, and its pairs are taken in as records: of texts without
+//! share it has the number that the library with shares has.
 
 use std::io::Write;
 use std::process::{Command, Stdio};
@@ -24,12 +22,11 @@ use lockplan_tests::answer::{Answer, REFUSED};
 use lockplan_tests::compare::Calls;
 use lockplan_tests::crossings::COUPLE_BYTES;
 use lockplan_tests::families;
-use lockplan_tests::generate::{generate, without_range, without_share};
+use lockplan_tests::generate::{generate, without_share};
 use lockplan_tests::library::{CALLS, RECODED};
 use lockplan_tests::random::Random;
-use lockplan_tests::ranges::has_range;
 use lockplan_tests::reference::{MAX_SUM, MAX_WORDS};
-use lockplan_tests::shares::has_share;
+use lockplan_tests::shares::{self, has_share};
 use lockplan_tests::shelf::{all, all_indented};
 use lockplan_tests::tidy::COPY_BYTES;
 
@@ -113,16 +110,16 @@ fn option(name: &str, default: u64) -> u64 {
 fn main() {
     let given = |name: &str| std::env::args().any(|word| word == name);
     let (texts, seed) = (option("--texts", 10_000), option("--seed", 1));
-    let without_shares = given("--without-share");
-    let without_ranges = without_shares || given("--without-ranges");
+    let without = given("--without-share");
     let fixed = all().into_iter().chain(all_indented()).map(|entry| entry.text);
-    let plans = families::every().into_iter().map(|(_, draft, _)| draft.text());
+    let plans = families::all().into_iter().chain(shares::all());
+    let plans = plans.map(|(_, draft, _)| draft.text());
     let generated = (0..texts).map(|index| {
         let random = &mut Random::of_text(seed, index);
-        match (without_shares, without_ranges) {
-            (true, _) => without_share(random).text,
-            (_, true) => without_range(random).text,
-            _ => generate(random).text,
+        if without {
+            without_share(random).text
+        } else {
+            generate(random).text
         }
     });
     let mut digest = Digest {
@@ -131,9 +128,7 @@ fn main() {
         programs: PROGRAMS.iter().filter_map(|name| std::env::var(name).ok()).collect(),
     };
     let (mut count, mut accepted) = (0_u64, 0_u64);
-    let kept =
-        |text: &Vec<u8>| (!without_shares || !has_share(text)) && (!without_ranges || !has_range(text));
-    for text in fixed.chain(plans).chain(generated).filter(kept) {
+    for text in fixed.chain(plans).chain(generated).filter(|text| !without || !has_share(text)) {
         count += 1;
         accepted += u64::from(digest.text(&text));
     }

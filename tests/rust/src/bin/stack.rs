@@ -21,6 +21,7 @@ use lockplan_tests::generate::{generate, statements};
 use lockplan_tests::guard::{report_faults, Pages};
 use lockplan_tests::random::Random;
 use lockplan_tests::reference::{read, MAX_BRACKETS, MAX_PROCS, MAX_SIZE, MAX_SUM, MAX_WORDS};
+use lockplan_tests::shares;
 use lockplan_tests::shelf::all;
 use lockplan_tests::tidy::COPY_BYTES;
 
@@ -267,7 +268,7 @@ impl Tower {
         let other = if procs.len() < MAX_PROCS { procs.len() } else { 0 };
         procs.resize(procs.len().max(other + 1), Vec::new());
         procs[other].push(nest(&[1, 0], vec![]));
-        Draft::new(procs, vec![self.calls, other])
+        Draft { procs, threads: vec![self.calls, other] }
     }
 
     fn accepted(self) -> bool {
@@ -327,7 +328,8 @@ type Texts = Vec<(String, Vec<u8>)>;
 /// Other plans that are measured, by name.
 fn others_of(texts: u64, seed: u64) -> Vec<(String, Texts)> {
     let fixed = all().into_iter().map(|entry| (entry.name.to_string(), entry.text));
-    let families = families::every().into_iter().map(|(name, draft, _)| (name, draft.text()));
+    let families = families::all().into_iter().chain(shares::all());
+    let families = families.map(|(name, draft, _)| (name, draft.text()));
     let random = |index| (format!("text {index}"), generate(&mut Random::of_text(seed, index)).text);
     vec![
         ("shelf".into(), fixed.collect()),
@@ -362,7 +364,7 @@ impl Row {
             let all: usize = draft.procs.iter().map(|body| statements(body)).sum();
             let (calls, brackets, skips) = (tower.calls, tower.brackets(), tower.skips);
             let plan = format!("{calls} calls {order}, {brackets} brackets, {skips} skips, {all} statements");
-            let answer = self.take(painted, draft.threads()[0], &draft.text(), &plan);
+            let answer = self.take(painted, draft.threads[0], &draft.text(), &plan);
             assert_eq!(answer.kind, DEADLOCK, "{plan}");
         }
     }

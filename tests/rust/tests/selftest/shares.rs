@@ -124,7 +124,7 @@ fn order_of_records() {
 
 #[test]
 fn report_of_upgraders() {
-    let text = Draft::new(vec![upgrader(0)], vec![0, 0]).text();
+    let text = Draft { procs: vec![upgrader(0)], threads: vec![0, 0] }.text();
     let expected = "(report\n(proc 0\n(pair 0s)\n(pair 0 0s)\n)\n\
         (deadlock\n(stuck 0 1)\n(step 0 0)\n(step 1 0)\n)\n)\n";
     assert_eq!(String::from_utf8(report(&text)).unwrap(), expected);
@@ -375,7 +375,7 @@ fn shares_count_as_holds() {
         match (read(&text), read(&with_holds)) {
             (Ok(one), Ok(two)) => {
                 assert_eq!(one.sizes, two.sizes);
-                assert!(one.blocks.len() == two.blocks.len() && one.lines == two.lines);
+                assert!(one.blocks.len() == two.blocks.len() && one.threads == two.threads);
                 accepted += 1;
             }
             (Err(one), Err(two)) => {

@@ -3,7 +3,6 @@
 use lockplan_tests::answer::FREE;
 use lockplan_tests::askew;
 use lockplan_tests::branches::{about_branches, bent};
-use lockplan_tests::ranges::ranged;
 use lockplan_tests::reference::{MAX_BRACKETS, MAX_STATEMENTS};
 use lockplan_tests::shares::mixed;
 use lockplan_tests::straight::{printed, straight, straightened};
@@ -23,7 +22,7 @@ fn shelf_straightened() {
             continue;
         }
         stated += 1;
-        let expected = Draft { procs: entry.straight, lines: plan.lines.clone() };
+        let expected = Draft { procs: entry.straight, threads: plan.threads.clone() };
         assert_eq!(straightened(&tree(&plan)), expected, "{name}");
         assert_eq!(straight(&plan), expected.text(), "{name}");
     }
@@ -69,7 +68,7 @@ fn straightened_copies() {
         assert_eq!(copy, askew::copy_by_lines(&text));
         let own = read(&copy).expect("an accepted copy");
         assert_eq!((tidy(&own), straight(&own)), (copy.clone(), copy.clone()));
-        assert_eq!((&own.lines, &own.pairs), (&plan.lines, &plan.pairs));
+        assert_eq!((&own.threads, &own.pairs), (&plan.threads, &plan.pairs));
         assert!(own.sizes.iter().zip(&plan.sizes).all(|(own, size)| own <= size));
         assert!(own.blocks.iter().flatten().all(|stmt| !matches!(stmt, Stmt::Loop(_) | Stmt::Either(..))));
         let found = conflict(&pairs_of_threads(&own));
@@ -150,7 +149,7 @@ fn bent_plans() {
 #[test]
 fn straightened_copies_find_faults() {
     let names = ["rule 5 of the copy", "rule 1 by the bytes of the text"];
-    let entries = shelf::branching().into_iter().chain(shelf::shares()).chain(shelf::ranges());
+    let entries = shelf::branching().into_iter().chain(shelf::shares());
     let fixed: Vec<Vec<u8>> = entries.map(|entry| entry.text).collect();
     let faulty = standin::FAULTY_STRAIGHTS.into_iter().filter(|(name, _)| !names.contains(name));
     for (name, straight) in faulty {
@@ -160,9 +159,7 @@ fn straightened_copies_find_faults() {
             let random = &mut Random::of_text(304, index as u64);
             let branches = |random: &mut Random| {
                 let draft = about_branches(random);
-                let draft = mixed(&draft, 30, 0, random);
-                let ranges = if random.chance(50) { ranged(&draft, random) } else { draft };
-                ranges.text()
+                mixed(&draft, 30, 0, random).text()
             };
             let text = fixed.get(index).cloned().unwrap_or_else(|| branches(random));
             let message = twins.check(calls, &text, &read(&text), random).err()?;

@@ -12,11 +12,14 @@ decreases-loop text wanted k left₀ at₀ left at = length text - at
 loop-holds : tie.Need-loop-init invariant-loop decreases-loop
 loop-holds c = search rules
 
-counted-requires : tie.Need-counted-requires invariant-loop decreases-loop
-counted-requires c κs = search rules
+letter-requires : tie.Need-letter-requires invariant-loop decreases-loop
+letter-requires c κs = search rules
 
 returns : tie.Need-returns invariant-loop decreases-loop
 returns c = search rules
+
+sub-left : tie.Need-overflow-sub-left invariant-loop decreases-loop
+sub-left c = search rules
 
 next-line-requires : tie.Need-next-line-requires invariant-loop decreases-loop
 next-line-requires c κs = search rules
@@ -37,8 +40,9 @@ find_spec =
     invariant-loop
     decreases-loop
     loop-holds
-    counted-requires
+    letter-requires
     returns
+    sub-left
     next-line-requires
     loop-less
     loop-again

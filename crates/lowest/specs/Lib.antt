@@ -1,2 +1,0 @@
--- The pair lists at the lowest counts, in the tables of those at the highest.
-pub mod Emptied
