@@ -12,9 +12,13 @@ use lib.Dec.{T, ltb, eqb, ltb→lt, nltb→le, not_T, eqb→eq, eqb_refl}
 
 pub T_and : (a b : Bool) → T (a && b) → T a × T b
 T_and true true t = (tt, tt)
+T_and false b t = elim t [ ]
+T_and true false t = elim t [ ]
 
 pub and_T : (a b : Bool) → T a → T b → T (a && b)
 and_T true true p q = tt
+and_T false b p q = elim p [ ]
+and_T true false p q = elim q [ ]
 
 pub T-dec : (b : Bool) → T b ⊎ (T b → ⊥)
 T-dec true = inl tt
@@ -22,6 +26,7 @@ T-dec false = inr (λ t. t)
 
 pub T_true : (b : Bool) → T b → b ≡ true
 T_true true t = refl
+T_true false t = elim t [ ]
 
 pub T_false : (b : Bool) → (T b → ⊥) → b ≡ false
 T_false true f = absurd (f tt)

@@ -143,6 +143,7 @@ set_of_lem : (us : List ℕ) (t : ℕ) → T (set_of us t) → Memᴰ t us
 unfolding set_of
 set_of_lem (u ∷ us) t h =
     ⊎_elim (λ a. Memᴰ.head (eqb→eq t u a)) (λ b. Memᴰ.tail (set_of_lem us t b)) (T-or (eqb t u) (set_of us t) h)
+set_of_lem [] t h = elim h [ ]
 
 pairs-from : (ps : List Block) (k : ℕ) (wss : List (List ℕ)) → T (pairs_from ps k wss) → (p : ℕ) → p < length wss
     → (k + p < length ps) × (pair_list ps (k + p) ≡ get_or wss p [])
@@ -162,6 +163,8 @@ pairs-from ps k (ws ∷ wss) t (suc p) b =
 agree-is : (a b : Bool) → T (agree a b) → a ≡ b
 agree-is true true t = refl
 agree-is false false t = refl
+agree-is false true t = elim t [ ]
+agree-is true false t = elim t [ ]
 
 same-below : (n : ℕ) (S R : ℕ → Bool) → T (same_below n S R) → (t : ℕ) → t < n → S t ≡ R t
 unfolding same_below
@@ -204,6 +207,7 @@ module _ (plan : LockPlan) (ranked : Ranked plan) where
           (lt_or_le t n)) in
           let (u, _, r) = any-is (rounds n ps ts) us one in
           record { there = ts; reached = e; largest = subst (Largest ps ts) is (rounds-largest ps bodies ts m n (omega arith) u r); short = short }
+      go none e h = elim h [ ]
 
   expected-holds : (a : Expected) → T (answers plan a) → Holds plan a
   unfolding answers

@@ -17,7 +17,7 @@ use Rattle.semantics.specs.Plan.{Block, done, skip, call, hold, loop, either, en
 use Rattle.semantics.specs.Sizes.{size_with, size_at}
 use Rattle.semantics.specs.Run.{ThreadState, thread, initial, unlocked, up, move}
 use Rattle.semantics.specs.Pairs.{pair_of, had_from, had, fresh, pair_at, pairs_with, pairs_at, pairs}
-use Rattle.semantics.specs.Execution.{exec, state_after, Execution}
+use Rattle.semantics.specs.Execution.{exec, state_after, move_or_stay, Execution}
 use Rattle.semantics.specs.Paths.{fresh_in, step_of, choice_of, mask_in, choices, mask_at, holding, put, gives, Walked, found, passed, and_then, walk_with, walk_at}
 use Rattle.semantics.specs.Paths.{path_to, Stands, Finds, PathFound}
 use Rattle.semantics.proofs.Ground.LockSets.{held_begin}
@@ -37,7 +37,7 @@ after_append : (ps : List Block) (x : ThreadState) (cs ds : List ℕ) (j : ℕ) 
 unfolding state_after
 after_append ps x cs ds zero h = refl
 after_append ps x [] ds (suc j) h = absurd (omega arith)
-after_append ps x (c ∷ cs) ds (suc j) h = after_append ps _ cs ds j (omega arith)
+after_append ps x (c ∷ cs) ds (suc j) h = after_append ps (move_or_stay ps c x) cs ds j (omega arith)
 
 module _ {ps : List Block} {x : ThreadState} {path : List ℕ} {m : ℕ} {cs : List ℕ} {b : Block} (st : Stands ps x path m cs b) where
   -- one step more is written
@@ -298,7 +298,7 @@ module _ (ps : List Block) (rank : ℕ → ℕ) (s : Sound ps rank) (x : ThreadS
       rw e at (walk_at_lem ps rank s x w d p k r m cs path (length path + size_at d ps p) st (omega arith)) in
       let u = outcome-passed o in (u.0, u.2)
 
-  pub visited : {d m d' m' : ℕ} {path path' : List ℕ} {b b' : Block} → Visits ps w d' m' path' b' d m path b → Written (λ q. rank q < d) b
+  pub visited : {d' m' : ℕ} {path' : List ℕ} {b' : Block} {d m : ℕ} {path : List ℕ} {b : Block} → Visits ps w d' m' path' b' d m path b → Written (λ q. rank q < d) b
       → (r : Block) (cs : List ℕ) (n : ℕ) → Stands ps x path m cs (b ⨾ r) → length path + size_with (size_at d ps) b ≤ n → Visited ps rank x d' m' path' b' n
   unfolding Written ◌⨾◌ size_with size_at
   visited here v r cs n st h = record { following = r; count = cs; stands = st; written = v; room = h }

@@ -220,6 +220,8 @@ fresh_to_lem S a f g =
 
 or_of_none : (x y : Bool) → T (not (x || y)) → (T x → ⊥) × (T y → ⊥)
 or_of_none false false t = (λ h. h, λ h. h)
+or_of_none false true t = elim t [ ]
+or_of_none true y t = elim t [ ]
 
 pub fresh-not : (S : ℕ → Bool) (a : ℕ) → T (fresh_to S a) → T (S a) → ⊥
 unfolding fresh_to

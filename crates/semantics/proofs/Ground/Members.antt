@@ -13,6 +13,7 @@ pub any-is : (f : ℕ → Bool) (vs : List ℕ) → T (any f vs) → (v : ℕ) �
 unfolding any
 any-is f (v ∷ vs) t =
     ⊎_elim (λ a. (v, Memᴰ.head refl, a)) (λ b. let r = any-is f vs b in (r.0, Memᴰ.tail r.1, r.2)) (T-or (f v) (any f vs) t)
+any-is f [] t = elim t [ ]
 
 pub is_any : (f : ℕ → Bool) (vs : List ℕ) (v : ℕ) → Memᴰ v vs → T (f v) → T (any f vs)
 unfolding any

@@ -61,6 +61,12 @@ meet l m e z = omega (arith, of_disjoint (2 ^ l) m z l (bit_pow l))
 hold-positive : (b : Block) → T (at_hold b) → 0 < first_wanted b
 unfolding at_hold first_wanted
 hold-positive (hold l x r) h = some-bit (2 ^ l) l (bit_pow l)
+hold-positive done h = elim h [ ]
+hold-positive (skip _) h = elim h [ ]
+hold-positive (call _ _) h = elim h [ ]
+hold-positive (loop _ _) h = elim h [ ]
+hold-positive (either _ _ _) h = elim h [ ]
+hold-positive (end _ _) h = elim h [ ]
 
 positive-hold : (b : Block) → 0 < first_wanted b → T (at_hold b)
 unfolding at_hold first_wanted

@@ -63,15 +63,24 @@ test-le false false f = omega arith
 
 test_lt : (a b : Bool) → T (not a) → T b → cond {A = ℕ} a 1 0 < cond b 1 0
 test_lt false true f g = omega arith
+test_lt false false f g = elim g [ ]
+test_lt true b f g = elim f [ ]
 
 test-one : (a : Bool) → T a → cond {A = ℕ} a 1 0 ≡ 1
 test-one true t = refl
+test-one false t = elim t [ ]
 
 -- ---- a round
 
 at-hold : (b : Block) → T (at_hold b) → (l : ℕ) × (x : Block) × (r : Block) × (b ≡ hold l x r)
 unfolding at_hold
 at-hold (hold l x r) h = (l, x, r, refl)
+at-hold done h = elim h [ ]
+at-hold (skip _) h = elim h [ ]
+at-hold (call _ _) h = elim h [ ]
+at-hold (loop _ _) h = elim h [ ]
+at-hold (either _ _ _) h = elim h [ ]
+at-hold (end _ _) h = elim h [ ]
 
 first_in : (ts : List ThreadState) (t : ℕ) → T (begins_hold ts t) → t < length ts
 unfolding at_hold
