@@ -1,18 +1,20 @@
 // The answers of the calls, and the 64-bit numbers that carry them to C.
+#![tactic(auto)]
+
 ghost use Rattle.std.specs.Prelude.{◌≡◌, ◌^◌, ◌<◌};
 ghost use Rattle.answers.specs.Answers.{answer_number, counted_number, counted_high, verdict_number, verdict_high};
 
 use text::Refusal;
 
 // How much a call found or wrote, or the refusal: the pairs of a list, the bytes of a tidy copy or of a straightened one, the entries that a schedule needs, the couples of two threads.
-#[derive(Drop)]
+#[derive(Clone, Copy)]
 pub enum Counted {
     Count(usize),
     Refused(Refusal),
 }
 
 // The verdict on a plan: no run of its gateway reaches a stuck set; a schedule of so many entries leads to one, the largest there (bit t for thread t); or the refusal.
-#[derive(Drop)]
+#[derive(Clone, Copy)]
 pub enum Verdict {
     Free,
     Deadlock { entries: usize, stuck: u8 },

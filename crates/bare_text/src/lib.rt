@@ -1,4 +1,6 @@
 // The writer of a plan's text in 01's bare form, from the table of its forms: all of them, or those that straightening retains.
+#![tactic(auto)]
+
 ghost use Rattle.std.specs.Prelude.{true, [], ◌++◌, ◌≡◌, ◌+◌, ◌≤◌, ◌<◌, length};
 ghost use Rattle.laws.specs.Wrote.{Wrote};
 ghost use Rattle.text.specs.Forms.{number_in};
@@ -10,7 +12,7 @@ ghost use Rattle.bare_text.specs.Writing.{form_line, SmallTable, RoomFor, opens_
 use text::Form;
 
 // How far a writer has come: the place of the next form in the table, how many bytes it wrote, and whether the block around them is left behind them.
-#[derive(Drop)]
+#[derive(Clone, Copy)]
 pub struct Progress {
     pub next: usize,
     pub used: usize,

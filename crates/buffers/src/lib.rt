@@ -1,4 +1,6 @@
 // Numbers into a lent buffer: as they are, or as bytes, lowest first. The rest of the buffer is kept.
+#![tactic(auto)]
+
 ghost use Rattle.std.specs.Prelude.{◌≡◌, ◌+◌, ◌*◌, ◌≤◌, length};
 ghost use Rattle.laws.specs.Wrote.{Wrote};
 ghost use Rattle.buffers.specs.LittleEndian.{number_bytes, list_bytes};

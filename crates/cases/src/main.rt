@@ -1,6 +1,8 @@
 // The reference plans of document 01 and some more, from the files that `index` names beside the program: for each the critical pairs of its procedures, the slip of the
 // space that it needs, the verdict or the refusal, where its threads cross, the texts of its procedures, the tidy copy, the straightened one with its own pairs and verdict, and
 // the report. A schedule is replayed by a second gateway, crate `replay`, which reads the plan's text by itself: the entries of each verdict, and the steps in the lines of each report.
+#![tactic(auto)]
+
 mod copies;
 mod crossings;
 mod failing;

@@ -13,7 +13,7 @@ const PRINTED: usize = 8 * RECORD;
 const SHORT: usize = 300;
 
 // What is shown of a procedure.
-#[derive(Drop)]
+#[derive(Clone, Copy)]
 pub enum Shown {
     Pairs,
     Text,

@@ -1,5 +1,7 @@
 // The plan's rules over a text, in checking order, each tested over the whole text before the next; and of a text that keeps them the layout of its table and the space
 // that a schedule needs.
+#![tactic(auto)]
+
 ghost use Rattle.std.specs.Prelude.{◌≡◌, ◌≤◌, length};
 ghost use Rattle.limits.specs.Limits.{max_forms};
 ghost use Rattle.plan.specs.Table.{table_forms, FormRoom};
@@ -16,7 +18,7 @@ use procs::Layout;
 use sizes::{CheckedSizes, Space};
 
 // The reading of a text, and where it is accepted the layout of its table and the space that a schedule needs.
-#[derive(Drop)]
+#[derive(Clone, Copy)]
 pub struct CheckedText {
     pub reading: Reading,
     pub layout: Layout,

@@ -1,5 +1,7 @@
 // Pairs as two columns, the masks of what is had and the codes of what is wanted: the one place that knows what a code is. A code is the third word of a pair, "wanted lock times 2 plus 1
 // for a hold": its lowest 6 digits, the others count for nothing where pairs are compared.
+#![tactic(auto)]
+
 ghost use Rattle.std.specs.Prelude.{◌≡◌, ◌+◌, ◌*◌, ◌%◌, ◌<◌, ◌≤◌, length, take, eqb, ltb};
 ghost use Rattle.laws.specs.Wrote.{Wrote};
 ghost use Rattle.limits.specs.Limits.{claim_count};

@@ -1,5 +1,7 @@
 // The tidy copy and the straightened copy of a plan text: the forms of an accepted plan, or of that plan straightened, in 01's bare form, into a lent output; and what the programs
 // `tidy` and `straight` print.
+#![tactic(auto)]
+
 ghost use Rattle.std.specs.Prelude.{◌≤◌, length};
 ghost use Rattle.limits.specs.Limits.{max_bytes, max_forms};
 ghost use Rattle.laws.specs.Wrote.{Wrote};

@@ -1,5 +1,7 @@
 // What the program `crossings` prints of two threads: their couples, line by line and part by part into a lent buffer. Each function writes at a place and answers the place behind
 // what it wrote; the rest of the buffer is kept.
+#![tactic(auto)]
+
 ghost use Rattle.std.specs.Prelude.{◌≡◌, [], ◌++◌, ◌+◌, ◌≤◌, length, get_or};
 ghost use Rattle.limits.specs.Limits.{max_pair_words};
 ghost use Rattle.laws.specs.Wrote.{Wrote};

@@ -1,5 +1,7 @@
 // Couples of critical pairs that cross: counted, and the first ones that fit put into lent buffers, as words or as bytes. Both buffers are of any length: a caller that wants
 // one of the two forms, or the number alone, lends an empty buffer for the other. Pairs are given as the pair list has them, three words each.
+#![tactic(auto)]
+
 ghost use Rattle.std.specs.Prelude.{◌+◌, ◌*◌, ◌/◌, ◌<◌, ◌≤◌, ◌≡◌, length, get_or};
 ghost use Rattle.limits.specs.Limits.{max_pairs, max_pair_words};
 ghost use Rattle.couples.specs.Couples.{couple, crosses, couples_with, couples_of};
@@ -9,7 +11,7 @@ ghost use Rattle.couples.specs.Records.{claims_from, pairs_from, pair_in};
 use limits::CLAIM_COUNT;
 
 // A pair: the mask of what it has and the code of what it wants.
-#[derive(Drop)]
+#[derive(Clone, Copy)]
 pub struct Pair {
     pub mask: u64,
     pub code: u32,

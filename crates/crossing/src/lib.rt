@@ -1,4 +1,6 @@
 // Where two threads of a plan cross: the rules, then the pair lists of the two threads, then their couples, as words into the caller's buffer, or as bytes.
+#![tactic(auto)]
+
 ghost use Rattle.std.specs.Prelude.{◌≡◌, ◌≤◌, ◌<◌, length};
 ghost use Rattle.limits.specs.Limits.{max_forms, max_pair_words};
 ghost use Rattle.semantics.specs.Plan.{thread_proc};
@@ -15,7 +17,7 @@ use procs::Layout;
 use text::Refusal;
 
 // How many pairs the first and the second thread have, or the refusal.
-#[derive(Drop)]
+#[derive(Clone, Copy)]
 pub enum TwoLists {
     Both { first: usize, second: usize },
     Refused(Refusal),

@@ -1,4 +1,6 @@
 // Where the threads of a text cross, printed to standard output: which of them do, or the couples of two threads, part by part.
+#![tactic(auto)]
+
 ghost use Rattle.std.specs.Prelude.{◌≤◌, ◌≡◌, length};
 ghost use mathlib.Core.List.{flatten};
 ghost use Rattle.limits.specs.Limits.{max_pair_words};

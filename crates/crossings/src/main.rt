@@ -1,5 +1,7 @@
 // Where the threads of the plan on standard input cross: without arguments which threads do, with the numbers of two threads their couples; or the line of the refusal. What it
 // prints, and what its arguments ask for, is decided by the library `crossings_text`; arguments that ask for neither, and a stream that fails, are told on standard error.
+#![tactic(auto)]
+
 ghost use Rattle.std.specs.Prelude.{◌-◌, ◌≡◌};
 
 use crossings_text::Request;

@@ -1,4 +1,6 @@
 // What the program `crossings` prints of a text when it is asked for no two threads, which of them cross; and what its arguments ask for.
+#![tactic(auto)]
+
 ghost use Rattle.std.specs.Prelude.{◌≡◌, ◌+◌, ◌*◌, ◌≤◌, ◌<◌, length};
 ghost use Rattle.std.proofs.Math.Option.{none};
 ghost use Rattle.limits.specs.Limits.{max_forms};
@@ -24,14 +26,14 @@ pub const CROSSINGS_ROOM: usize = 11 + MAX_THREADS * CROSS_ROW_ROOM + 2;
 const MOST_ASKED: u64 = 999;
 
 // What was read of an argument: whether it is a number, and which.
-#[derive(Drop)]
+#[derive(Clone, Copy)]
 pub struct Asked {
     pub known: bool,
     pub number: u64,
 }
 
 // What the program is asked for: which threads cross, or the couples of two threads.
-#[derive(Drop)]
+#[derive(Clone, Copy)]
 pub enum Request {
     All,
     Two { first: u64, second: u64 },

@@ -1,4 +1,6 @@
 // The procedures that are reachable from the threads of a plan, by what each procedure reaches, and rule 13: an idle procedure, which no thread names or reaches through calls.
+#![tactic(auto)]
+
 ghost use Rattle.std.specs.Prelude.{◌≡◌, ◌<◌, length};
 ghost use Rattle.limits.specs.Limits.{max_procs};
 ghost use Rattle.semantics.specs.CallMasks.{join_reached, reachable_mask};

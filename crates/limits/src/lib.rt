@@ -1,4 +1,6 @@
 // The limits of a plan, for code: the one place where their values stand. specs/Limits.antt has the same for contracts and says where each is from.
+#![tactic(auto)]
+
 ghost use Rattle.std.specs.Prelude.{◌≡◌};
 ghost use Rattle.limits.specs.Limits.{max_bytes, max_forms, max_procs, max_statements, max_threads, max_brackets, lock_count, claim_count, max_size, size_room, max_pairs, max_pair_words, max_listed, max_entries};
 
@@ -31,7 +33,7 @@ pub const MAX_LISTED: usize = MAX_THREADS * MAX_PAIRS;
 pub const MAX_ENTRIES: usize = MAX_THREADS * MAX_SIZE;
 
 // The limits that rules name.
-#[derive(Drop)]
+#[derive(Clone, Copy)]
 pub struct Named {
     pub bytes: usize,
     pub procs: usize,
@@ -44,7 +46,7 @@ pub struct Named {
 }
 
 // The limits that follow from them.
-#[derive(Drop)]
+#[derive(Clone, Copy)]
 pub struct Derived {
     pub forms: usize,
     pub claims: usize,

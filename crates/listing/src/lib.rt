@@ -1,4 +1,6 @@
 // The pair list of a procedure: the rules, then its critical pairs, three words each, into the caller's buffer, or by way of a list of MAX_PAIR_WORDS as bytes.
+#![tactic(auto)]
+
 ghost use Rattle.std.specs.Prelude.{◌≤◌, min, length};
 ghost use Rattle.limits.specs.Limits.{max_forms, max_pair_words};
 ghost use Rattle.plan.specs.Settled.{RulesKept};

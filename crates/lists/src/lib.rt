@@ -1,4 +1,6 @@
 // The pair lists of a plan's threads, one after another in two columns.
+#![tactic(auto)]
+
 ghost use Rattle.std.specs.Prelude.{◌+◌, ◌≤◌, ◌<◌, length};
 ghost use Rattle.limits.specs.Limits.{max_pairs};
 ghost use Rattle.laws.specs.Wrote.{Wrote};

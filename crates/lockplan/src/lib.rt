@@ -1,5 +1,7 @@
 // The library's calls: the verdict on a plan, the space that its schedule needs, the pair list of a procedure, where two threads cross, a procedure's text, the tidy copy and
 // the straightened copy of a plan text; and all but a procedure's text for C.
+#![tactic(auto)]
+
 ghost use Rattle.copies.specs.Copies.{Tidied, TidiedNumber, Straightened, StraightenedNumber};
 ghost use Rattle.crossing.specs.Crossed.{Crossed, CrossedBytes};
 ghost use Rattle.listing.specs.Listed.{Listed, ListedBytes};

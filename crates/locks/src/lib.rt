@@ -1,4 +1,6 @@
 // The bit of each lock and of each claim, sets of claims as masks and what stands against one, the words of a pair in a buffer, and an entry of a schedule taken apart.
+#![tactic(auto)]
+
 ghost use Rattle.std.specs.Prelude.{◌≡◌, ◌+◌, ◌*◌, ◌/◌, ◌%◌, ◌<◌, ◌^◌};
 ghost use Rattle.limits.specs.Limits.{lock_count, mask_size, claim_count};
 ghost use Rattle.laws.specs.Mask.{in_mask};

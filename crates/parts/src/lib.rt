@@ -1,4 +1,6 @@
 // The part of a plan text that a procedure is: whole lines as they stand, from its `(proc` line to its closing line, line end included.
+#![tactic(auto)]
+
 ghost use Rattle.std.specs.Prelude.{◌≡◌, ◌+◌, ◌-◌, ◌≤◌, length, drop};
 ghost use Rattle.plan.specs.Table.{table_forms};
 ghost use Rattle.parts.specs.Parts.{left_after, skip_lines, forms_before, PartAt, forms_span};

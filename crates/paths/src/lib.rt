@@ -1,4 +1,6 @@
 // The path to a critical pair: the walk of a procedure, with its steps written down as it goes.
+#![tactic(auto)]
+
 ghost use Rattle.std.specs.Prelude.{◌≡◌, false, ◌+◌, ◌^◌, ◌<◌, ◌≤◌, length, get_or, take};
 ghost use Rattle.limits.specs.Limits.{claim_count, max_size};
 ghost use Rattle.text.specs.declared.Form.TheVariants.{Call, Loop, Either};
@@ -14,7 +16,7 @@ use text::Form;
 const CLAIMS: u64 = CLAIM_COUNT as u64;
 
 // Where a walk stopped: at the hold that was looked for or not, the next place of the table, and how many steps are written.
-#[derive(Drop)]
+#[derive(Clone, Copy)]
 pub struct Stop {
     pub reached: bool,
     pub next: usize,
@@ -22,14 +24,14 @@ pub struct Stop {
 }
 
 // Where a walk goes on: the place of the table, and how many steps are written.
-#[derive(Drop)]
+#[derive(Clone, Copy)]
 struct Spot {
     next: usize,
     count: usize,
 }
 
 // How a walk goes: how deep calls may go, what is had, and the mask and the code of the pair that is looked for.
-#[derive(Drop)]
+#[derive(Clone, Copy)]
 pub struct Way {
     pub depth: usize,
     pub mask: u64,
@@ -38,7 +40,7 @@ pub struct Way {
 }
 
 // What a path leads to: the procedure, and the mask and the code of one of its pairs.
-#[derive(Drop)]
+#[derive(Clone, Copy)]
 pub struct Goal {
     pub procedure: usize,
     pub aim: u64,

@@ -1,5 +1,7 @@
 // The plan text as a table of forms (rules 2 and 3), and the rules 4 to 8: each is a pass over the table. A rule over the table names a form by its number, from 1, in the
 // place of a line; `in_file` gives the form's line.
+#![tactic(auto)]
+
 ghost use Rattle.std.specs.Prelude.{◌≡◌, ◌+◌, ◌-◌, ◌≤◌, ◌<◌, length};
 ghost use Rattle.limits.specs.Limits.{max_bytes};
 ghost use Rattle.text.specs.Forms.{number_in, is_proc};
@@ -13,7 +15,7 @@ use limits::{LOCK_COUNT, MAX_BRACKETS, MAX_BYTES, MAX_PROCS, MAX_STATEMENTS, MAX
 use text::{Form, Line, Place, Refusal};
 
 // What a form does to the machine of rule 4: it goes on in a mode, opens a bracket, closes one and goes on in a mode, or has no place.
-#[derive(Drop)]
+#[derive(Clone, Copy)]
 pub enum Advance {
     Stay(u8),
     Push(u8),
@@ -22,7 +24,7 @@ pub enum Advance {
 }
 
 // What has been read of a text: procedures, statements, threads, and the brackets open within the procedure.
-#[derive(Drop)]
+#[derive(Clone, Copy)]
 pub struct Counts {
     pub procs: usize,
     pub statements: usize,
@@ -31,14 +33,14 @@ pub struct Counts {
 }
 
 // What rule 5 gives: how many procedures there are, where no limit is passed, or the refusal.
-#[derive(Drop)]
+#[derive(Clone, Copy)]
 pub enum Limited {
     Within(usize),
     Past(Refusal),
 }
 
 // What reading a plan gives: how many forms it has, or the refusal.
-#[derive(Drop)]
+#[derive(Clone, Copy)]
 pub enum Reading {
     Accepted(usize),
     Refused(Refusal),

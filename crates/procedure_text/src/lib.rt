@@ -1,4 +1,6 @@
 // The text of a procedure: the rules, then the lines of the text that the procedure is.
+#![tactic(auto)]
+
 ghost use Rattle.std.specs.Prelude.{◌≤◌, length};
 ghost use Rattle.limits.specs.Limits.{max_forms};
 ghost use Rattle.plan.specs.Settled.{PlanTable};

@@ -1,4 +1,6 @@
 // What each procedure of a plan reaches through calls, as a mask of procedures for each, and rule 12: a procedure that reaches itself.
+#![tactic(auto)]
+
 ghost use Rattle.std.specs.Prelude.{◌≡◌, map, ◌≤◌, ◌<◌, length, take, get_or};
 ghost use Rattle.limits.specs.Limits.{max_procs};
 ghost use Rattle.laws.specs.Mask.{in_mask};

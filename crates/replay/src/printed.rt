@@ -7,7 +7,7 @@ use super::lines::next_line;
 
 // What was read so far: how many lines `(free)` and `(deadlock` there are, the threads that are named stuck, as a mask, how many steps were taken, and whether all lines of a
 // deadlock were right: the stuck threads once and ascending, each step permitted.
-#[derive(Drop)]
+#[derive(Clone, Copy)]
 pub struct Told {
     pub free: usize,
     pub deadlocks: usize,

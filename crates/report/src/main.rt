@@ -1,4 +1,6 @@
 // The report on the plan that standard input holds. What it says is decided by the library `report_text`; a stream that fails is told on standard error.
+#![tactic(auto)]
+
 use streams::TEXT_ROOM;
 
 // The report on a text that was read, unless reading failed.

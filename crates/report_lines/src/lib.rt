@@ -1,5 +1,7 @@
 // The lines of the report into a lent buffer, one behind another. Each function writes at a place and answers the place behind what it wrote; the rest of the buffer
 // is kept.
+#![tactic(auto)]
+
 ghost use Rattle.std.specs.Prelude.{◌++◌, ◌≡◌, ◌+◌, ◌*◌, ◌<◌, ◌≤◌, length};
 ghost use Rattle.limits.specs.Limits.{lock_count, claim_count};
 ghost use Rattle.laws.specs.Wrote.{Wrote};

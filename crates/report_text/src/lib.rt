@@ -1,4 +1,6 @@
 // The report on a plan text, part by part. The text is read and judged once, into lent tables, and each part is written from them into a lent buffer.
+#![tactic(auto)]
+
 ghost use Rattle.std.specs.Prelude.{◌+◌, ◌≤◌, ◌<◌, length, take, ◌≡◌};
 ghost use Rattle.limits.specs.Limits.{max_forms, max_pairs, max_entries};
 ghost use Rattle.semantics.specs.Pairs.{pair_list};
@@ -26,7 +28,7 @@ pub const PART_ROOM: usize = PROC_OPEN_ROOM + MAX_PAIRS * PAIR_LINE_ROOM + 2;
 pub const MOST_PARTS: usize = MAX_PROCS + 3;
 
 // What was found of a text: how many forms of it the table has, how many procedures are reported, the layout of the table, and the verdict.
-#[derive(Drop)]
+#[derive(Clone, Copy)]
 pub struct Findings {
     pub forms: usize,
     pub procs: usize,

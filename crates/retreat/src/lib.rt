@@ -1,5 +1,7 @@
 // A schedule from a path of each thread of a cycle to its pair: the way back along the paths (source 000, Lemma 4.3), which ends with a run from
 // the start to a moment with a stuck set, and the largest such set there.
+#![tactic(auto)]
+
 ghost use Rattle.std.specs.Prelude.{◌≡◌, cond, not, ◌&&◌, false, ◌+◌, ◌-◌, ◌*◌, ◌%◌, ◌^◌, ◌≤◌, ◌<◌, eqb, ltb, length, get_or, set, drop};
 ghost use Rattle.std.specs.Int.Bits.{bit_and};
 ghost use Rattle.limits.specs.Limits.{max_threads, claim_count, max_size, max_entries};
@@ -17,7 +19,7 @@ use limits::{MAX_ENTRIES, MAX_SIZE, MAX_THREADS};
 
 // What a schedule is made from, beside the columns of steps: how many threads there are, and of each how long its path is, the mask of the claim that its
 // block begins with, and that of the claim that it wants at its path's end.
-#[derive(Drop)]
+#[derive(Clone, Copy)]
 pub struct Targets {
     pub threads: usize,
     pub positions: [u64; MAX_THREADS],
@@ -26,14 +28,14 @@ pub struct Targets {
 }
 
 // How many entries the schedule has, and the largest stuck set at its end: bit t for thread t.
-#[derive(Drop)]
+#[derive(Clone, Copy)]
 pub struct Outcome {
     pub entries: usize,
     pub stuck: u8,
 }
 
 // How many threads are on the way back, the mask of the claim that the block of each begins with, and the place from which the entries stand.
-#[derive(Drop)]
+#[derive(Clone, Copy)]
 struct Way {
     threads: usize,
     begins: [u64; MAX_THREADS],
@@ -41,7 +43,7 @@ struct Way {
 }
 
 // Where a thread jumps to, and the claim that it wants there, as a mask.
-#[derive(Drop)]
+#[derive(Clone, Copy)]
 struct Landing {
     place: u64,
     wants: u64,

@@ -1,4 +1,6 @@
 // The sizes of a plan's procedures, rule 9, and the space that a schedule of the plan needs.
+#![tactic(auto)]
+
 ghost use Rattle.std.specs.Prelude.{◌≡◌, ◌+◌, ◌≤◌, ◌<◌, min, length, get_or};
 ghost use Rattle.limits.specs.Limits.{max_procs, max_threads, size_room};
 ghost use Rattle.semantics.specs.Plan.{Ranks};
@@ -23,7 +25,7 @@ const LARGEST: u64 = MAX_SIZE as u64;
 const CAP: u64 = SIZE_ROOM as u64;
 
 // The space that a schedule needs: how many threads there are, the size of each one's procedure, and their sum.
-#[derive(Drop)]
+#[derive(Clone, Copy)]
 pub struct Space {
     pub threads: usize,
     pub each: [u64; MAX_THREADS],
@@ -31,7 +33,7 @@ pub struct Space {
 }
 
 // A reading of a plan's table, and the space of a plan that is not refused.
-#[derive(Drop)]
+#[derive(Clone, Copy)]
 pub struct CheckedSizes {
     pub reading: Reading,
     pub space: Space,

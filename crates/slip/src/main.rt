@@ -1,5 +1,7 @@
 // The slip of the space that the plan on standard input needs, or the line of its refusal. What it prints is decided by the library `space`; a stream that fails is told on
 // standard error.
+#![tactic(auto)]
+
 use streams::TEXT_ROOM;
 
 // The slip of a text that was read, unless reading failed.

@@ -1,4 +1,6 @@
 // The space that a schedule of a plan needs: the sum of its threads' sizes, as an answer, as a number for C, and as a slip with the size of each thread.
+#![tactic(auto)]
+
 ghost use Rattle.std.specs.Prelude.{◌++◌, ◌≡◌, ◌+◌, ◌*◌, ◌≤◌, length, get_or};
 ghost use Rattle.limits.specs.Limits.{max_forms, max_threads};
 ghost use Rattle.laws.specs.Wrote.{Wrote};

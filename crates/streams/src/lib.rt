@@ -1,5 +1,7 @@
 // The standard streams of a program: a text read from standard input, and printed to standard output the report on a text, part by part, its tidy copy or
 // its straightened one, or the slip of the space that it needs.
+#![tactic(auto)]
+
 ghost use Rattle.std.specs.Prelude.{◌≤◌, ◌≡◌, length};
 ghost use mathlib.Core.List.{flatten};
 ghost use Rattle.io.specs.Counts.{IsPrefixLen};
@@ -18,7 +20,7 @@ use space::SLIP_ROOM;
 pub const TEXT_ROOM: usize = MAX_BYTES + 1;
 
 // What was printed: whether all of it was written, and how many bytes were, of each write all or none.
-#[derive(Drop)]
+#[derive(Clone, Copy)]
 pub struct Printed {
     pub whole: bool,
     pub bytes: usize,
@@ -116,7 +118,7 @@ pub fn print_slip(text: &[u8]) -> Printed
 }
 
 // What was read: how many bytes, and whether that is all, to the end or as far as the buffer goes.
-#[derive(Drop)]
+#[derive(Clone, Copy)]
 pub struct Input {
     pub whole: bool,
     pub bytes: usize,

@@ -1,4 +1,6 @@
 // The tables that a schedule to a cycle is made from: the path of each of its threads to its pair, what each thread begins with and what it wants.
+#![tactic(auto)]
+
 ghost use Rattle.std.specs.Prelude.{◌≡◌, ◌%◌, ◌≤◌, ◌<◌, length};
 ghost use Rattle.limits.specs.Limits.{max_entries};
 ghost use Rattle.columns.specs.Columns.{pair_number, steps, pair_by};

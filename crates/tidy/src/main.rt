@@ -1,5 +1,7 @@
 // The tidy copy of the plan that standard input holds, or the line of its refusal. What it prints is decided by the library `copies`; a stream that fails is told on
 // standard error.
+#![tactic(auto)]
+
 use streams::TEXT_ROOM;
 
 // The copy of a text that was read, unless reading failed.

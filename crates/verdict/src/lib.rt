@@ -1,4 +1,6 @@
 // The verdict on a plan text: the rules, the last of them about the lent buffer, then the analysis of its table.
+#![tactic(auto)]
+
 ghost use Rattle.std.specs.Prelude.{◌≡◌, ◌/◌, ◌≤◌, min, length};
 ghost use Rattle.limits.specs.Limits.{max_entries};
 ghost use Rattle.semantics.specs.Sizes.{thread_sizes};

@@ -1,4 +1,6 @@
 // The wiring table: each lock with its bit. What it prints is decided by the library `wiring_text`; a stream that fails is told on standard error.
+#![tactic(auto)]
+
 use wiring_text::WIRING_ROOM;
 
 fn main() {

@@ -1,4 +1,6 @@
 // The wiring table as text: a row for each lock, with its number, its bit in a mask and that bit in hexadecimal.
+#![tactic(auto)]
+
 ghost use Rattle.std.specs.Prelude.{◌++◌, ◌≡◌, ◌+◌, ◌≤◌, ◌<◌, ◌^◌, length};
 ghost use Rattle.limits.specs.Limits.{lock_count, mask_size};
 ghost use Rattle.laws.specs.Wrote.{Wrote};
