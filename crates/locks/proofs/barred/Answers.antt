@@ -1,11 +1,7 @@
 -- The shift to the left keeps the lower half, and the held locks are below it, so the join is a sum.
 use native.Mathlib.Omega.{arith}
 use Rattle.locks.proofs.StandAgainst.{machine_bars}
-use Rattle.locks.proofs.barred.Statement.{statement}
-use Rattle.locks.proofs.barred.Tie as tie
+use Rattle.locks.proofs.barred.Goals as goal
 
-returns : tie.Need-returns
+pub returns : goal.returns
 returns c = machine_bars c.args.mask (omega arith)
-
-pub barred-spec : {M : Type 1} → statement M
-barred-spec = tie.close (tie.spec returns)
