@@ -169,7 +169,7 @@ pub kept-settled : (plan : LockPlan) → Grammatical plan → Kept (count_if is_
 unfolding Kept forms counted kind_in
 kept-settled plan g k =
     let m = length plan.procs in
-    let j : Kept m no_counts (forms plan) = rw (count-forms plan) at k in
+    let j : Kept m no_counts (forms plan) = subst (λ n. Kept n no_counts (forms plan)) (count-forms plan) k in
     let x = kept-procs plan.procs g.blocks m 0 0 (thread_forms plan.threads (Close ∷ [])) j.1 in
     let y = kept-threads plan.threads m (0 + length plan.procs) (0 + all_statements plan.procs) 0 x.later in
     record {
