@@ -1,0 +1,7 @@
+-- The two places are those of the lines that the definition names, the first not behind the second.
+use Rattle.parts.proofs.Turns.{part_returned}
+use borrow.Author.Rules.{rules}
+use Rattle.parts.proofs.proc_part.Goals as goal
+
+pub returns : goal.returns
+returns c = search (part_returned, rules)
