@@ -72,9 +72,11 @@ refused_with_lem : (o : Option Refusal) (r l : ℕ) → T (refused_with o r l) �
 refused_with_lem (some q) r l h =
     let (x, y) = T_and (eqb q.rule r) (eqb q.line l) h in
     ap₂ {C = Option Refusal} (λ a b. some (refusal a b)) (eqb→eq q.rule r x) (eqb→eq q.line l y)
+refused_with_lem none r l h = elim h [ ]
 
 not-refused : (o : Option Refusal) → T (not_refused o) → o ≡ none
 not-refused none h = refl
+not-refused (some _) h = elim h [ ]
 
 comes_out_lem : (text : List ℕ) (o : Outcome) → T (comes_out text o) → Gives text o
 unfolding comes_out
