@@ -1,0 +1,13 @@
+-- The set after each round is that of the definition's rounds.
+use borrow.Author.Rules.{rules}
+use Rattle.retreat.proofs.StuckRounds.{rounds-first, rounds-more, rounds-done}
+use Rattle.retreat.proofs.stuck_set.Goals as goal
+
+pub loop-round-init : goal.loop-round-init
+loop-round-init c = search (rounds-first, rules)
+
+pub loop-round-preserved : goal.loop-round-preserved
+loop-round-preserved c = search (rounds-more, rules)
+
+pub returns : goal.returns
+returns c = search (rounds-done, rules)

@@ -1,0 +1,13 @@
+-- The set so far is that of the threads below t.
+use Prim.Native.Nat.{◌-◌, ◌≤◌}
+use mathlib.Core.Path.{◌≡◌}
+use lib.ListN.{length}
+use Rattle.limits.specs.Limits.{max_threads}
+use Rattle.semantics.specs.StuckRounds.{wanting}
+use Rattle.retreat.proofs.wanting_set.Given as goal
+
+abbrev pub invariant-loop-t : goal.invariant-loop-t
+invariant-loop-t l = (l.t ≤ l.n) × (l.n ≤ max_threads) × (max_threads ≤ length l.wanted) × (l.all ≡ wanting l.t l.wanted)
+
+abbrev pub decreases-loop-t : goal.decreases-loop-t
+decreases-loop-t l = l.n - l.t
