@@ -1,6 +1,5 @@
 -- The bytes of the lines still to be passed, from the place on, are what was left at the start.
 use borrow.Author.Rules.{rules}
-use Prim.Native.Nat.{◌-◌}
 use Rattle.parts.proofs.Turns.{skip_stop, skip-again, skip-end}
 use Rattle.parts.proofs.line_start.Goals as goal
 

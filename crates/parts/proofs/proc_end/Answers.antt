@@ -1,6 +1,5 @@
 -- What is left before the next such form, from the place on, is what was left at the start.
 use borrow.Author.Rules.{rules}
-use Prim.Native.Nat.{◌-◌}
 use Rattle.parts.proofs.Turns.{end-found, end-again, end_none}
 use Rattle.parts.proofs.proc_end.Goals as goal
 
