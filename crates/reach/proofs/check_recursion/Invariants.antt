@@ -1,0 +1,18 @@
+-- No procedure before p reaches itself, so the lowest of those from p on is the lowest of all.
+use Prim.Native.Nat.{◌-◌, ◌≤◌}
+use mathlib.Core.Path.{◌≡◌}
+use lib.ListN.{length}
+use Rattle.plan.specs.Settled.{PlanTable, table_plan}
+use Rattle.plan.specs.Rules.{lowest_from}
+use Rattle.procs.specs.Laid.{Laid}
+use Rattle.reach.specs.Reached.{ReachTable}
+use Rattle.reach.proofs.RecursiveProcs.{recurs}
+use Rattle.reach.proofs.check_recursion.Given as goal
+
+abbrev pub invariant-loop-p : goal.invariant-loop-p
+invariant-loop-p l =
+    PlanTable l.table × Laid l.table l.layout × (l.procs ≡ length (table_plan l.table).procs) × ReachTable l.table l.masks × (l.p ≤ l.procs)
+    × (lowest_from (recurs l.table) l.p (l.procs - l.p) ≡ lowest_from (recurs l.table) 0 l.procs)
+
+abbrev pub decreases-loop-p : goal.decreases-loop-p
+decreases-loop-p l = l.procs - l.p
