@@ -8,7 +8,7 @@ use Rattle.report_lines.proofs.put_members.Given as goal
 
 abbrev pub invariant-loop-rest : goal.invariant-loop-rest
 invariant-loop-rest l =
-    (l.i < 2 ^ 64) × (l.at + length (lines_of behind_blank (members 64 l.mask)) ≤ length l.initial.out) × (length l.rest ≡ length l.initial.out) × Listing 64 behind_blank l.initial.out l.rest l.at i l.mask l.i
+    (l.rest < 2 ^ 64) × (l.at + length (lines_of behind_blank (members 64 l.mask)) ≤ length l.initial.out) × (length l.out ≡ length l.initial.out) × Listing 64 behind_blank l.initial.out l.out l.at l.i l.mask l.rest
 
 abbrev pub decreases-loop-rest : goal.decreases-loop-rest
-decreases-loop-rest l = l.i
+decreases-loop-rest l = l.rest

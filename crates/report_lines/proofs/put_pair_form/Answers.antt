@@ -7,11 +7,7 @@ pub put_had-j-requires : goal.put_had-j-requires
 put_had-j-requires c = search (form-had-room, rules)
 
 pub put_text-requires : goal.put_text-requires
-put_text-requires c =
-    let had = c in
-    let wanted = had in
-    let word = wanted in
-    form-end-room _ _ _ word.word_in.ensures.1 word.requires _ _ wanted.put_wanted.ensures _ _ _ had.put_had-j.ensures
+put_text-requires c = form-end-room _ _ _ c.word_in-wanted.ensures.1 c.requires _ _ c.put_wanted-i.ensures _ _ _ c.put_had-j.ensures
 
 pub returns : goal.returns
 returns c = search (pair-whole, rules)

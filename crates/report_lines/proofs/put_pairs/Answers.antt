@@ -1,6 +1,5 @@
 -- After k turns the lines of the first k pairs are written, each within its room; a turn writes the next line behind them.
 use borrow.Author.Rules.{rules}
-use Prim.Native.Nat.{◌-◌}
 use Rattle.report_lines.proofs.Joined.{pair-short, columns_none, columns_room, columns_more, columns_done, columns_within}
 use Rattle.report_lines.proofs.put_pairs.Goals as goal
 

@@ -1,6 +1,5 @@
 -- After k turns the lines of the first k entries are written, each within its room; a turn writes the next line behind them.
 use borrow.Author.Rules.{rules}
-use Prim.Native.Nat.{◌-◌}
 use Rattle.report_lines.proofs.Joined.{step-short, joined-none, joined-room, joined-more, joined-done, joined-within}
 use Rattle.report_lines.proofs.put_steps.Goals as goal
 

@@ -1,6 +1,5 @@
 -- The bytes written so far are the first i of the text; a turn writes the next behind them, and at the end they are all of it.
 use borrow.Author.Rules.{rules}
-use Prim.Native.Nat.{◌-◌}
 use lib.ListN.{length-set}
 use Rattle.laws.proofs.Wrote.{copy-none, copy_more, copy_done}
 use Rattle.report_lines.proofs.put_text.Goals as goal
