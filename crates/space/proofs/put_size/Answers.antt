@@ -15,4 +15,4 @@ pub put_text-requires : goal.put_text-requires
 put_text-requires c = omega (arith, number_short)
 
 pub returns : goal.returns
-returns c = (search (size-whole, rules), omega (arith, number_short))
+returns c = record { wrote = search (size-whole, rules); upper_bound = omega (arith, number_short) }

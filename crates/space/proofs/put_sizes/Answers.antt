@@ -1,5 +1,4 @@
 -- After t turns the lines of the threads below t are written, each within its room; a turn writes the next line behind them.
-use Prim.Native.Nat.{◌-◌}
 use Rattle.space.proofs.Lines.{lines_none, lines_more, lines-done}
 use borrow.Author.Rules.{rules}
 use Rattle.space.proofs.put_sizes.Goals as goal
