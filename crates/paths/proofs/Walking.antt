@@ -23,7 +23,7 @@ use Rattle.paths.specs.declared.Way.{Way}
 use Rattle.paths.specs.Walks.{claim_in, procs_in, aim_of, forms_from, InPlan, Inside, size_in, walk_in, FrontKept, PutAt, WalkReady, stopped, outcome_of, BlockWalked, Walks, Left, StatementWalked, StatementWalks}
 use Rattle.paths.proofs.Buffers.{kept_same, kept_then, kept_back}
 use Rattle.paths.proofs.Measure.{measure}
-use Rattle.paths.proofs.Blocks.{claim-form, other-form, none-begins, statement-begins, table_more, table_none, table-behind}
+use Rattle.paths.proofs.Blocks.{claim-form, none-begins, statement-begins, table_more, table_none, table-behind}
 use Rattle.paths.proofs.Blocks.{close-only, skip-only, call-only, hold-only, loop-only, either-only}
 
 module _ (ps : List Block) (d : ℕ) where
@@ -111,11 +111,11 @@ module _ {ws : List ℕ} {way : Way} {at n i count : ℕ} {s s₁ : List ℕ} (a
     })
 
     -- a statement more
-    module _ (tags : OneOf (0 ∷ 1 ∷ 2 ∷ 4 ∷ 5 ∷ 6 ∷ 7 ∷ 8 ∷ 9 ∷ 10 ∷ 11 ∷ []) (tag_of the_type f)) {r : Stop} {s₂ : List ℕ} (p : StatementWalks ws way f (i + 1) s₁ count r s₂) where
+    module _ (other : f ≡ Close → ⊥) {r : Stop} {s₂ : List ℕ} (p : StatementWalks ws way f (i + 1) s₁ count r s₂) where
       statement-passed : {b : Block} {later : List Form} (l : Left ws way (take n s) n b later i count s₁) → n + size_in ws way b ≤ length s
           → StatementWalked ws way (take count s₁) count l.rest later r s₂
       statement-passed {b} {later} l k =
-          p.walked l.rest later (other-form (0 ∷ 1 ∷ 2 ∷ 4 ∷ 5 ∷ 6 ∷ 7 ∷ 8 ∷ 9 ∷ 10 ∷ 11 ∷ []) f Close tags tt) (form-left l) l.inside
+          p.walked l.rest later other (form-left l) l.inside
           (omega (arith, l.short, a.buffer.size))
 
       pub along-reached : r.reached ≡ true → Walks ws way at s n (take n s) n r s₂

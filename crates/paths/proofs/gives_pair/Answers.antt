@@ -6,7 +6,7 @@ pub returns-then-claim-ge-CLAIMS : goal.returns-then-claim-ge-CLAIMS
 returns-then-claim-ge-CLAIMS c = gives_none _ c.if-claim-ge-CLAIMS.true
 
 pub returns-then-fresh : goal.returns-then-fresh
-returns-then-fresh c = gives-tested _ _ _ _ _ _ c.Fresh-in.ensures c.if-fresh.true c.code_of_lem.ensures c.is_same.ensures
+returns-then-fresh c = gives-tested _ _ _ _ _ _ c.fresh_in-fresh.ensures c.if-fresh.true c.code_of.ensures c.is_same.ensures
 
 pub returns : goal.returns
-returns c = gives-not _ _ _ _ c.Fresh-in.ensures c.if-fresh.false
+returns c = gives-not _ _ _ _ c.fresh_in-fresh.ensures c.if-fresh.false
