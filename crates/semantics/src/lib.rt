@@ -1,3 +1,2 @@
 // The semantics of lock plans: definitions and theorems alone, no code.
 #![tactic(auto)]
-

@@ -1,6 +1,5 @@
 -- The first i elements are copied: one more at each turn.
 use borrow.Author.Rules.{rules}
-use Prim.Native.Nat.{◌-◌}
 use Rattle.laws.proofs.Wrote.{wrote_none}
 use Rattle.buffers.proofs.LittleEndian.{copied_more, copied-done}
 use Rattle.buffers.proofs.copy_entries.Goals as goal

@@ -1,6 +1,5 @@
 -- The bytes written and those that are left, of what is left of the number, are the number's.
 use borrow.Author.Rules.{rules}
-use Prim.Native.Nat.{◌-◌}
 use Rattle.buffers.proofs.LittleEndian.{number-none, number_more, number-done}
 use Rattle.buffers.proofs.put_number.Goals as goal
 

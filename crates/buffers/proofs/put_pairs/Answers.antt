@@ -1,6 +1,5 @@
 -- The numbers written and those that are left are the list, as bytes.
 use borrow.Author.Rules.{rules}
-use Prim.Native.Nat.{◌-◌}
 use mathlib.Core.Path.{refl}
 use Rattle.buffers.proofs.LittleEndian.{list-none, list-more, list_done}
 use Rattle.buffers.proofs.put_pairs.Goals as goal
