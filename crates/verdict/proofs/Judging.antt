@@ -3,14 +3,12 @@
 use Prim.Native.Nat.{ℕ, ◌-◌, ◌*◌, ◌/◌, ◌^◌, ◌<◌, ◌≤◌, min}
 use native.Mathlib.Omega.{arith}
 use mathlib.Core.Path.{◌≡◌, refl, sym, ap, ◌∙◌}
-use mathlib.Core.List.{List, [], ◌∷◌}
+use mathlib.Core.List.{List, []}
 use mathlib.Core.Logic.{⊎_elim}
 use mathlib.Core.Option.{Option, none, some, or_else}
 use lib.ListN.{length, take, length-take, length-append}
 use lib.Seq.{take_at}
 use borrow.Author.Tests.{lt-ltb, le-ltb}
-use denote.Enum.Declared.{tag_of}
-use types.Run.{OneOf, miss}
 use Rattle.limits.specs.Limits.{max_entries}
 use Rattle.laws.specs.Wrote.{Wrote}
 use Rattle.laws.proofs.Tests.{lt_or_le}
@@ -35,7 +33,6 @@ use Rattle.answers.specs.declared.Verdict.TheVariants.{Free, Deadlock, Refused}
 use Rattle.answers.specs.Answers.{verdict_number, verdict_high}
 use Rattle.answers.specs.Judgement.{Judgement}
 use Rattle.answers.proofs.LineBounds.{verdict_bounded}
-use Rattle.answers.specs.contracts.Verdict.{the_type}
 use Rattle.verdict.specs.Judged.{LentJudged, Judged, JudgedBytes}
 
 -- ---- rule 1
@@ -70,10 +67,10 @@ module _ (text table : List ℕ) (n : ℕ) (q : Reading) (t : Tabled (plan_refus
 -- ---- bytes
 
 -- only a deadlock has a schedule
-no_schedule : (refused : Option Refusal) (plan : LockPlan) (v : Verdict) (es : List ℕ) → Judgement refused plan v es → OneOf (0 ∷ 2 ∷ []) (tag_of the_type v) → es ≡ []
+no_schedule : (refused : Option Refusal) (plan : LockPlan) (v : Verdict) (es : List ℕ) → Judgement refused plan v es → ((n S : ℕ) → v ≡ Deadlock n S → ⊥) → es ≡ []
 unfolding Judgement
 no_schedule refused plan Free es j h = j.1
-no_schedule refused plan (Deadlock n S) es j h = absurd (miss (0 ∷ 2 ∷ []) 1 tt h)
+no_schedule refused plan (Deadlock n S) es j h = absurd (h n S refl)
 no_schedule refused plan (Refused x) es j h = j.1
 
 small : (text : List ℕ) (lent : ℕ) (v : Verdict) (es : List ℕ) → Judgement (verdict_refusal text lent) (plan_of text) v es → length es ≤ max_entries → verdict_high v < 2 ^ 40
@@ -111,7 +108,7 @@ module _ (text before entries entries' : List ℕ) (r : Verdict) (d : Judged tex
   judged-lent : Judgement (verdict_refusal text (length before / 2)) (plan_of text) r d.schedule
   judged-lent = rw (ap (verdict_refusal text) l ∙ same-lent text (length before / 2)) at d.judged
 
-  pub bytes-kept : (v : ℕ) → OneOf (0 ∷ 2 ∷ []) (tag_of the_type r) → v ≡ verdict_number r → JudgedBytes text before v before
+  pub bytes-kept : (v : ℕ) → ((n S : ℕ) → r ≡ Deadlock n S → ⊥) → v ≡ verdict_number r → JudgedBytes text before v before
   unfolding list_bytes
   bytes-kept v o k = record {
     verdict = r;

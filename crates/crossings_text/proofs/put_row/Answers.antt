@@ -1,6 +1,5 @@
 -- After u turns the lines with the threads below u are written, each within its room; a turn writes the next behind them.
 use borrow.Author.Rules.{rules}
-use Prim.Native.Nat.{◌-◌}
 use Rattle.crossings_text.proofs.Tables.{row-none, row_more, row_done}
 use Rattle.crossings_text.proofs.put_row.Goals as goal
 

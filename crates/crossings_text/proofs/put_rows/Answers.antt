@@ -1,6 +1,5 @@
 -- After t turns the lines of the threads below t are written, each row within its room; a turn writes the next row behind them.
 use borrow.Author.Rules.{rules}
-use Prim.Native.Nat.{◌-◌}
 use Rattle.crossings_text.proofs.Tables.{rows_none, rows_more, rows-done}
 use Rattle.crossings_text.proofs.put_rows.Goals as goal
 

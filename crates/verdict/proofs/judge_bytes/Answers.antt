@@ -7,7 +7,7 @@ pub verdict_number-requires : goal.verdict_number-requires
 verdict_number-requires c = search (verdict-small, rules)
 
 pub returns-in_default : goal.returns-in_default
-returns-in_default c = search (bytes-kept, rules)
+returns-in_default c = search (bytes-kept, c.in_default.not-Deadlock, rules)
 
 pub slice_bounds-put_entries-end : goal.slice_bounds-put_entries-end
 slice_bounds-put_entries-end c = search (schedule-within, rules)
