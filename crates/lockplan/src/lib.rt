@@ -1,5 +1,5 @@
 // The library's calls: the verdict on a plan, the space that its schedule needs, the pair list of a procedure, where two threads cross, a procedure's text, the tidy copy and
-// the straightened copy of a plan text; and all but a procedure's text for C.
+// the straightened copy of a plan text; and all but a procedure's text for C, as lockplan_c exports them.
 #![tactic(auto)]
 
 ghost use Rattle.copies.specs.Copies.{Tidied, TidiedNumber, Straightened, StraightenedNumber};
