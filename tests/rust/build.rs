@@ -18,7 +18,7 @@ fn main() {
     let archive = folder.join("liblockplan.a");
     println!("cargo:rerun-if-changed={}", archive.display());
     if !archive.is_file() {
-        eprintln!("{} is not there: rt staticlib lockplan makes it,", archive.display());
+        eprintln!("{} is not there: scripts/program library makes it,", archive.display());
         eprintln!("and LOCKPLAN_LIB names its folder where it is another.");
         std::process::exit(1);
     }
