@@ -16,6 +16,8 @@ ghost use Rattle.std.specs.Prelude.{◌≤◌, length};
 use limits::{MAX_ENTRIES, MAX_PAIR_WORDS};
 use lockplan::Verdict;
 use procs::Shown;
+use std::rt::Files;
+use std::{fs, str};
 use streams::TEXT_ROOM;
 use text::Refusal;
 
@@ -60,46 +62,49 @@ fn show_plan(text: &[u8], list: &mut [u64], out: &mut [u16]) {
     reports::show_report(text);
 }
 
+// The file of this name, where it can be read.
+fn open_file<R: Files>(rt: &R, path: &[u8]) -> Option<R::File> {
+    let name = str::from_utf8(path).ok()?;
+    fs::open(rt, name).ok()
+}
+
 // A file into the start of a buffer: how many bytes.
-fn read_file(path: &[u8], buffer: &mut [u8]) -> usize
+fn read_file(rt: &impl Files, path: &[u8], buffer: &mut [u8]) -> usize
     ensures { result ≤ length buffer.new }
 {
-    let fd = os::open_read(path);
-    if fd < 0 {
+    let Some(mut file) = open_file(rt, path) else {
         io::write_all(1, b"  no such file\n");
         return 0;
-    }
-    let n = io::read_full(fd, buffer);
-    libc::close(fd);
-    n
+    };
+    streams::read_from(&mut file, buffer).bytes
 }
 
 // A line of the index: the file's name, a blank, and what the plan is.
-fn show_case(line: &[u8], buffer: &mut [u8], list: &mut [u64], out: &mut [u16]) {
+fn show_case(rt: &impl Files, line: &[u8], buffer: &mut [u8], list: &mut [u64], out: &mut [u16]) {
     if line.len() == 0 {
         return;
     }
     io::write_all(1, line);
     let end = replay::lines::after(line, 0, b' ') - 1;
-    let n = read_file(&line[0..end], buffer);
+    let n = read_file(rt, &line[0..end], buffer);
     show_plan(&buffer[0..n], list, out);
 }
 
-fn show_all(index: &[u8], buffer: &mut [u8], list: &mut [u64], out: &mut [u16]) {
+fn show_all(rt: &impl Files, index: &[u8], buffer: &mut [u8], list: &mut [u64], out: &mut [u16]) {
     let mut at: usize = 0;
     while at < index.len() {
         let next = replay::lines::next_line(index, at);
-        show_case(&index[at..next], buffer, list, out);
+        show_case(rt, &index[at..next], buffer, list, out);
         at = next;
     }
 }
 
-fn main() {
+fn main(rt: HostRuntime) {
     let mut index = [0u8; INDEX_ROOM];
     let mut buffer = [0u8; TEXT_ROOM];
     let mut list = [0u64; MAX_PAIR_WORDS];
     let mut out = [0u16; MAX_ENTRIES];
     failing::show_failing();
-    let n = read_file(b"index", &mut index);
-    show_all(&index[0..n], &mut buffer, &mut list, &mut out);
+    let n = read_file(&rt, b"index", &mut index);
+    show_all(&rt, &index[0..n], &mut buffer, &mut list, &mut out);
 }

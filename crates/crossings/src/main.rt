@@ -5,10 +5,23 @@
 ghost use Rattle.std.specs.Prelude.{◌-◌, ◌≡◌};
 
 use crossings_text::Request;
+use std::env::FillError;
+use std::rt::Env;
 use streams::TEXT_ROOM;
 
 // So many bytes of an argument are taken: a longer one is no number.
 const ARGUMENT_ROOM: usize = 64;
+
+// How many arguments there are, the program's own name among them: the list ends at the first that is not there.
+fn argument_count(rt: &impl Env) -> usize {
+    let mut argument = [0u8; ARGUMENT_ROOM];
+    for i in 0..usize::MAX {
+        if let Err(FillError::NotPresent) = rt.arg(i, &mut argument) {
+            return i;
+        }
+    }
+    usize::MAX
+}
 
 // How many arguments there are, of which `all` counts the program's own name too.
 fn behind_name(all: usize) -> usize
@@ -21,12 +34,12 @@ fn behind_name(all: usize) -> usize
 }
 
 // What the arguments ask for.
-fn asked() -> Request {
+fn asked(rt: &impl Env) -> Request {
     let mut first = [0u8; ARGUMENT_ROOM];
     let mut second = [0u8; ARGUMENT_ROOM];
-    let m = os::arg(1, &mut first);
-    let n = os::arg(2, &mut second);
-    let arguments = behind_name(os::arg_count());
+    let m = rt.arg(1, &mut first).unwrap_or(0);
+    let n = rt.arg(2, &mut second).unwrap_or(0);
+    let arguments = behind_name(argument_count(rt));
     crossings_text::request_of(arguments, &first[..m], &second[..n])
 }
 
@@ -42,8 +55,8 @@ fn cross_input(text: &[u8], whole: bool, request: Request) {
     }
 }
 
-fn main() {
-    let request = asked();
+fn main(rt: HostRuntime) {
+    let request = asked(&rt);
     if let Request::Unknown = request {
         io::write_all(
             2,
@@ -52,7 +65,7 @@ fn main() {
         return;
     }
     let mut text = [0u8; TEXT_ROOM];
-    let input = streams::read_input(&mut text);
+    let input = streams::read_input(&rt, &mut text);
     let n = input.bytes;
     cross_input(&text[..n], input.whole, request);
 }

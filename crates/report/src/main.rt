@@ -15,9 +15,9 @@ fn report_input(text: &[u8], whole: bool) {
     }
 }
 
-fn main() {
+fn main(rt: HostRuntime) {
     let mut text = [0u8; TEXT_ROOM];
-    let input = streams::read_input(&mut text);
+    let input = streams::read_input(&rt, &mut text);
     let n = input.bytes;
     report_input(&text[..n], input.whole);
 }

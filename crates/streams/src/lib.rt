@@ -15,6 +15,7 @@ ghost use Rattle.streams.specs.Printing.{AllPrinted, AllOrNone, ReportPrinted};
 use limits::{MAX_BYTES, MAX_ENTRIES, MAX_FORMS};
 use report_text::{Findings, MOST_PARTS, PART_ROOM};
 use space::SLIP_ROOM;
+use std::io::Read;
 
 // The room for a text that is read: rule 2 needs one byte more than its limit.
 pub const TEXT_ROOM: usize = MAX_BYTES + 1;
@@ -124,20 +125,18 @@ pub struct Input {
     pub bytes: usize,
 }
 
-// What a descriptor has, into the start of a buffer.
-pub fn read_from(descriptor: i32, text: &mut [u8]) -> Input
+// What a reader has, into the start of a buffer.
+pub fn read_from<R: Read>(reader: &mut R, text: &mut [u8]) -> Input
     ensures { IsPrefixLen result.bytes text.new }
 {
     let mut n: usize = 0;
     while n < text.len() {
-        let got = libc::read(descriptor, &mut text[n..]);
-        if got < 0 {
+        let Ok(more) = reader.read(&mut text[n..]) else {
             return Input {
                 whole: false,
                 bytes: n,
             };
-        }
-        let more = io::count(got, &text[n..]);
+        };
         if more == 0 {
             return Input {
                 whole: true,
@@ -153,8 +152,8 @@ pub fn read_from(descriptor: i32, text: &mut [u8]) -> Input
 }
 
 // Standard input into the start of a buffer.
-pub fn read_input(text: &mut [u8]) -> Input
+pub fn read_input(rt: &impl std::io::Input, text: &mut [u8]) -> Input
     ensures { IsPrefixLen result.bytes text.new }
 {
-    read_from(0, text)
+    read_from(&mut rt.reader(), text)
 }
