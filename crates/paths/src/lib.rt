@@ -6,7 +6,7 @@ ghost use Rattle.limits.specs.Limits.{claim_count, max_size};
 ghost use Rattle.text.specs.declared.Form.TheVariants.{Call, Loop, Either};
 ghost use Rattle.plan.specs.Grammar.{claim_form};
 ghost use Rattle.columns.specs.Columns.{pair_number, steps};
-ghost use Rattle.semantics.specs.Paths.{step_of, gives, holding, put as putStep};
+ghost use Rattle.semantics.specs.Paths.{step_of, gives, holding, put as put_step};
 ghost use Rattle.paths.specs.Walks.{claim_in, stopped, PutAt, WalkReady, Walks, StatementWalks, PathAsked, PathWritten};
 ghost use Rattle.paths.specs.Wanted.{FirstWantedAt};
 
@@ -172,7 +172,7 @@ fn enter(
 ) -> Stop
     requires { WalkReady table.now starts.now way (steps choices.old masks.old) from.count × (choice < 4) }
     ensures { Walks table.now way from.next (steps choices.old masks.old) from.count
-        (putStep (take from.count (steps choices.old masks.old)) choice way.mask) (from.count + 1) result (steps choices.new masks.new) }
+        (put_step (take from.count (steps choices.old masks.old)) choice way.mask) (from.count + 1) result (steps choices.new masks.new) }
 {
     let count = put(choices, masks, from.count, choice, way.mask);
     let inside = Spot {

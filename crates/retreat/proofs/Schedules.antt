@@ -25,7 +25,7 @@ use Rattle.semantics.specs.Execution.{state_after}
 use Rattle.semantics.specs.StuckRounds.{stuck_rounds}
 use Rattle.columns.specs.Columns.{steps}
 use Rattle.columns.proofs.Steps.{steps-length, steps-at, step-choice, step-mask}
-use Rattle.semantics.specs.Paths.{step_of, choices as choicesOf, choice_of, mask_in, mask_at, Stands}
+use Rattle.semantics.specs.Paths.{step_of, choices as choices_of, choice_of, mask_in, mask_at, Stands}
 use Rattle.semantics.proofs.Analysis.Paths.{stands-first, stands-last, stands-masks}
 use Rattle.semantics.proofs.Retreat.RetreatMoves.{paths_of, AtCycle, cycle-target, finished, finished-schedule, paths-short}
 use Rattle.retreat.specs.declared.Targets.{Targets}
@@ -50,7 +50,7 @@ module _ (choices rows lens : List ℕ) (t : ℕ) (turns : max_entries ≤ lengt
       get_or-take (get_or lens t 0) (drop (row_start t) (steps choices rows)) j 0 h ∙ get_or-drop (row_start t) (steps choices rows) j 0
       ∙ steps-at choices rows (row_start t + j) (omega arith) (omega arith)
 
-  path-choice : (j : ℕ) → j < length (choicesOf (path_of choices rows lens t)) → get_or (choicesOf (path_of choices rows lens t)) j 0 ≡ choice_at choices t j
+  path-choice : (j : ℕ) → j < length (choices_of (path_of choices rows lens t)) → get_or (choices_of (path_of choices rows lens t)) j 0 ≡ choice_at choices t j
   unfolding choice_at
   path-choice j h =
       get_or-map choice_of (path_of choices rows lens t) j 0
@@ -80,8 +80,8 @@ leads-nowhere ps p path e =
 
 -- ---- what is right for a plan and a cycle of its threads
 
-module _ (plan : LockPlan) (vss : List (List ℕ)) (k : ℕ) (threadOf pair : ℕ → ℕ) (choices rows : List ℕ) (targets : Targets)
-    (r : Right plan vss k threadOf pair choices rows targets) (fit : TargetsFit choices rows targets) where
+module _ (plan : LockPlan) (vss : List (List ℕ)) (k : ℕ) (thread_of pair : ℕ → ℕ) (choices rows : List ℕ) (targets : Targets)
+    (r : Right plan vss k thread_of pair choices rows targets) (fit : TargetsFit choices rows targets) where
   abbrev ps : List Block
   ps = plan.procs
 
@@ -98,7 +98,7 @@ module _ (plan : LockPlan) (vss : List (List ℕ)) (k : ℕ) (threadOf pair : �
   path t = path_of choices rows lens t
 
   abbrev P : ℕ → List ℕ
-  P t = choicesOf (path t)
+  P t = choices_of (path t)
 
   abbrev s : ℕ → ℕ → ThreadState
   s t = state_after ps (initial ps (proc_at t)) (P t)
@@ -110,7 +110,7 @@ module _ (plan : LockPlan) (vss : List (List ℕ)) (k : ℕ) (threadOf pair : �
   few : n ≤ max_threads
   few = omega (arith, fit.few, r.all)
 
-  present : (i : ℕ) → i < k → threadOf i < n
+  present : (i : ℕ) → i < k → thread_of i < n
   present i b = omega (arith, r.present i b, r.all)
 
   below : (t : ℕ) → t < n → t < targets.threads
@@ -126,20 +126,20 @@ module _ (plan : LockPlan) (vss : List (List ℕ)) (k : ℕ) (threadOf pair : �
   sized t b = path-length choices rows lens t fit.turns fit.paths (omega (arith, few)) (in_row t b)
 
   -- a thread is a member of the cycle or not
-  member_or : (t : ℕ) → ((i : ℕ) × (i < k) × (threadOf i ≡ t)) ⊎ ((i : ℕ) → i < k → threadOf i ≢ t)
+  member_or : (t : ℕ) → ((i : ℕ) × (i < k) × (thread_of i ≡ t)) ⊎ ((i : ℕ) → i < k → thread_of i ≢ t)
   member_or t =
-      ⊎_elim (λ (q : (i : ℕ) × (i < k) × T (eqb (threadOf i) t)). inl (q.0, q.1, eqb→eq (threadOf q.0) t q.2))
-      (λ (q : (i : ℕ) → i < k → T (eqb (threadOf i) t) → ⊥). inr (λ i c e. q i c (subst (λ x. T (eqb x t)) (sym e) (eqb_refl t))))
-      (search_below k (λ i. eqb (threadOf i) t))
+      ⊎_elim (λ (q : (i : ℕ) × (i < k) × T (eqb (thread_of i) t)). inl (q.0, q.1, eqb→eq (thread_of q.0) t q.2))
+      (λ (q : (i : ℕ) → i < k → T (eqb (thread_of i) t) → ⊥). inr (λ i c e. q i c (subst (λ x. T (eqb x t)) (sym e) (eqb_refl t))))
+      (search_below k (λ i. eqb (thread_of i) t))
 
   leads : (t : ℕ) → t < n → PathLeads ps (proc_at t) (path t)
   leads t b =
       ⊎_elim
-      (λ (q : (i : ℕ) × (i < k) × (threadOf i ≡ t)).
+      (λ (q : (i : ℕ) × (i < k) × (thread_of i ≡ t)).
       let f = r.path q.0 q.1 in
       subst (λ u. PathLeads ps (proc_at u) (path u)) q.2
       (record { mask = f.mask; count = f.count; rest = hold f.claim f.inside f.following; stands = f.stands }))
-      (λ (q : (i : ℕ) → i < k → threadOf i ≢ t). leads-nowhere ps (proc_at t) (path t) (path-none choices rows lens t (r.others t (below t b) q).0))
+      (λ (q : (i : ℕ) → i < k → thread_of i ≢ t). leads-nowhere ps (proc_at t) (path t) (path-none choices rows lens t (r.others t (below t b) q).0))
       (member_or t)
 
   table-masks : (t j : ℕ) → t < n → j ≤ length (P t) → get_or (masks_of rows t) j 0 ≡ had_mask (s t j)
@@ -157,11 +157,11 @@ module _ (plan : LockPlan) (vss : List (List ℕ)) (k : ℕ) (threadOf pair : �
   inside t b = omega (arith, at t b, sized t b, length-map (path t) choice_of)
 
   -- at the end of its path a member stands before the hold of its pair
-  member-ends : (i : ℕ) (b : i < k) → s (threadOf i) (get_or first-at (threadOf i) 0)
+  member-ends : (i : ℕ) (b : i < k) → s (thread_of i) (get_or first-at (thread_of i) 0)
       ≡ thread (hold (r.path i b).claim (r.path i b).inside (r.path i b).following) (r.path i b).count
   member-ends i b =
       let c = present i b in
-      ap (s (threadOf i)) (at (threadOf i) c ∙ sym (sized (threadOf i) c)) ∙ stands-last (r.path i b).stands
+      ap (s (thread_of i)) (at (thread_of i) c ∙ sym (sized (thread_of i) c)) ∙ stands-last (r.path i b).stands
 
   member-wants : (i : ℕ) (b : i < k) → (r.path i b).claim ≡ wanted_of (pair i)
   member-wants i b = let f = r.path i b in sym (ap wanted_of f.pair ∙ pair-wants (had f.count) f.claim f.small)
@@ -173,8 +173,8 @@ module _ (plan : LockPlan) (vss : List (List ℕ)) (k : ℕ) (threadOf pair : �
   within : (t : ℕ) → t < n → get_or lens t 0 ≤ thread_size plan t
   unfolding thread_size
   within t b = ⊎_elim
-      (λ (q : (i : ℕ) × (i < k) × (threadOf i ≡ t)). subst (λ u. get_or lens u 0 ≤ size_of ps (proc_at u)) q.2 (r.short q.0 q.1))
-      (λ (q : (i : ℕ) → i < k → threadOf i ≢ t). omega (arith, (r.others t (below t b) q).0))
+      (λ (q : (i : ℕ) × (i < k) × (thread_of i ≡ t)). subst (λ u. get_or lens u 0 ≤ size_of ps (proc_at u)) q.2 (r.short q.0 q.1))
+      (λ (q : (i : ℕ) → i < k → thread_of i ≢ t). omega (arith, (r.others t (below t b) q).0))
       (member_or t)
 
   pub targets_short : steps_left lens targets.threads ≤ thread_sizes plan
@@ -183,7 +183,7 @@ module _ (plan : LockPlan) (vss : List (List ℕ)) (k : ℕ) (threadOf pair : �
 
   -- with what the threads hold at the paths' ends
   module _ (masks : List ℕ) (h : Holding rows lens masks targets.threads) where
-    at-cycle : AtCycle n s (masks_of rows) targets.begins k threadOf pair first-at targets.wanted masks
+    at-cycle : AtCycle n s (masks_of rows) targets.begins k thread_of pair first-at targets.wanted masks
     unfolding Holding
     at-cycle = record {
       size = length-take-le n lens (omega (arith, few, fit.full.positions-full));
@@ -191,7 +191,7 @@ module _ (plan : LockPlan) (vss : List (List ℕ)) (k : ℕ) (threadOf pair : �
       stands = λ i b. let f = r.path i b in
           (f.inside, f.following, ap (λ x. x.rest) (member-ends i b) ∙ ap (λ l. hold l f.inside f.following) (member-wants i b));
       holds = λ i b. let c = present i b in
-          table-masks (threadOf i) (get_or first-at (threadOf i) 0) c (inside (threadOf i) c) ∙ ap had_mask (member-ends i b) ∙ member-holds i b;
+          table-masks (thread_of i) (get_or first-at (thread_of i) 0) c (inside (thread_of i) c) ∙ ap had_mask (member-ends i b) ∙ member-holds i b;
       wants = r.wants;
       others = λ t b f. let q = r.others t (below t b) f in (at t b ∙ q.0, q.1);
       mask = λ t b. h t (below t b) ∙ ap (λ j. get_or (masks_of rows t) j 0) (sym (at t b));
@@ -229,6 +229,6 @@ pub scheduled : (choices rows : List ℕ) (targets : Targets) (masks : List ℕ)
     → Scheduled choices rows targets before o after
 scheduled choices rows targets masks last es before after o fit h went wrote e = record {
   entries = es;
-  schedule = λ plan vss k threadOf pair r. rw e (ended plan vss k threadOf pair choices rows targets r fit masks h last es went.retreats went.ended);
+  schedule = λ plan vss k thread_of pair r. rw e (ended plan vss k thread_of pair choices rows targets r fit masks h last es went.retreats went.ended);
   wrote = wrote;
 }

@@ -17,7 +17,7 @@ use Rattle.semantics.specs.Pairs.{wanted_of, pairs, pair_list}
 use Rattle.semantics.proofs.Conflicts.ConflictTest.{pair_in_lem}
 use Rattle.semantics.specs.Paths.{Finds}
 use Rattle.plan.specs.Settled.{table_plan}
-use Rattle.columns.specs.Columns.{steps as stepsIn, pair_by}
+use Rattle.columns.specs.Columns.{steps as steps_in, pair_by}
 use Rattle.candidates.specs.Candidates.{member_thread, member_pair}
 use Rattle.procs.specs.declared.Layout.{Layout}
 use Rattle.retreat.specs.declared.Targets.{Targets}
@@ -150,7 +150,7 @@ module _ (hs ws : List ℕ) (l : Layout) (chosen : List ℕ) (k : ℕ) (a : Cycl
         omega (arith, o.0))
         (search_below k (λ j. eqb (member_thread chosen j) t))
 
-  module _ (choices rows : List ℕ) (s : Targets) (d : MembersDone hs ws chosen k n (stepsIn choices rows) s) where
+  module _ (choices rows : List ℕ) (s : Targets) (d : MembersDone hs ws chosen k n (steps_in choices rows) s) where
     tables-right : Right (table_plan ws) (pair_lists ws) k (member_thread chosen) (member_pair hs chosen) choices rows s
     unfolding BeginMasks begin_of proc_of path_in path_of
     tables-right =
@@ -168,10 +168,10 @@ module _ (hs ws : List ℕ) (l : Layout) (chosen : List ℕ) (k : ℕ) (a : Cycl
         }
 
   pub prepared : (choices choices₀ rows rows₀ : List ℕ) (s : Targets) (i : ℕ) → i ≤ k → k ≤ i → max_entries ≤ length choices₀ → length choices ≡ length choices₀
-      → max_entries ≤ length rows₀ → length rows ≡ length rows₀ → MembersDone hs ws chosen i n (stepsIn choices rows) s → PathsPrepared hs ws chosen k choices rows s
+      → max_entries ≤ length rows₀ → length rows ≡ length rows₀ → MembersDone hs ws chosen i n (steps_in choices rows) s → PathsPrepared hs ws chosen k choices rows s
   prepared choices choices₀ rows rows₀ s i h b long same wide also d =
       let e : i ≡ k = omega arith in
-      let all : MembersDone hs ws chosen k n (stepsIn choices rows) s = subst (λ j. MembersDone hs ws chosen j n (stepsIn choices rows) s) e d in
+      let all : MembersDone hs ws chosen k n (steps_in choices rows) s = subst (λ j. MembersDone hs ws chosen j n (steps_in choices rows) s) e d in
       record {
         right = tables-right choices rows s all;
         fit = record {
@@ -179,7 +179,7 @@ module _ (hs ws : List ℕ) (l : Layout) (chosen : List ℕ) (k : ℕ) (a : Cycl
           turns = omega arith;
           few = omega (arith, few-all, d.all);
           full = d.full;
-          in_rows = rw d.all (paths-within (stepsIn choices rows) s all);
+          in_rows = rw d.all (paths-within (steps_in choices rows) s all);
         };
       }
 
