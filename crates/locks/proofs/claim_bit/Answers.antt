@@ -4,7 +4,5 @@ use borrow.Author.Rules.{rules}
 use Rattle.locks.proofs.StandAgainst.{claim_power}
 use Rattle.locks.proofs.claim_bit.Goals as goal
 
-
-
 pub returns : goal.returns
 returns c = search (claim_power, rules)
