@@ -6,9 +6,6 @@ use Rattle.streams.proofs.print_parts.Goals as goal
 pub returns-then-n-eq0 : goal.returns-then-n-eq0
 returns-then-n-eq0 c = search (none_left, rules)
 
-pub returns-then-not-part : goal.returns-then-not-part
-returns-then-not-part c = λ e. cc
-
 pub loop-k-preserved : goal.loop-k-preserved
 loop-k-preserved c = search (part-printed, rules)
 
