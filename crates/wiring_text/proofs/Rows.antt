@@ -9,7 +9,7 @@ use mathlib.Core.Path.{◌≡◌, refl, ap, ◌∙◌}
 use lib.Dec.{lit<}
 use lib.ListN.{length, take, length-append}
 use Rattle.io.specs.Digits.{hex_digit_ascii, IsDigitCount}
-use Rattle.io.specs.Digits.{last_digits as digitsInBase}
+use Rattle.io.specs.Digits.{last_digits as digits_in_base}
 use Rattle.limits.specs.Limits.{lock_count, mask_size}
 use Rattle.laws.specs.Bytes.{bytes}
 use Rattle.laws.specs.Wrote.{Wrote}
@@ -21,22 +21,22 @@ use Rattle.wiring_text.specs.Wiring.{hex_digits, wiring_row, wiring_rows, wiring
 
 -- ---- hexadecimal digits
 
-in_base : (b k n : ℕ) → length (digitsInBase b k n) ≡ k
+in_base : (b k n : ℕ) → length (digits_in_base b k n) ≡ k
 in_base b zero n = refl
-in_base b (suc k) n = rw (length-append (digitsInBase b k _) (hex_digit_ascii _ ∷ []), in_base b k) (add-one k)
+in_base b (suc k) n = rw (length-append (digits_in_base b k _) (hex_digit_ascii _ ∷ []), in_base b k) (add-one k)
 
 hex_length : (n : ℕ) → length (hex_digits n) ≡ hex_count
 unfolding hex_digits
 hex_length n = in_base 16 hex_count n
 
 -- a mask has no more than eight, so those that were asked for are all
-module _ (n r : ℕ) (written : List ℕ) (h : n < mask_size) (f : IsDigitCount 16 hex_count n r) (e : take r written ≡ digitsInBase 16 r n) where
+module _ (n r : ℕ) (written : List ℕ) (h : n < mask_size) (f : IsDigitCount 16 hex_count n r) (e : take r written ≡ digits_in_base 16 r n) where
   count : r ≡ hex_count
   count = ⊎_elim (λ (s : r < 9). omega (arith, f.0)) (λ (s : 9 ≤ r). absurd (omega (arith, f.2 (omega arith), pow-le-pow_right {n = 16} (lit< tt) {i = hex_count} {j = r - 1} (omega arith)))) (lt_or_le r 9)
 
   taken : take r written ≡ hex_digits n
   unfolding hex_digits
-  taken = e ∙ ap (λ k. digitsInBase 16 k n) count
+  taken = e ∙ ap (λ k. digits_in_base 16 k n) count
 
   pub hex_room : (l l₁ : List ℕ) (at i : ℕ) (keyword : List ℕ) → at + length keyword + hex_count ≤ length l → Wrote l l₁ at i keyword → i + length (take r written) ≤ length l₁
   hex_room l l₁ at i keyword room w = omega (arith, ap length taken, hex_length n, w.place, wrote-length l l₁ at i keyword w)

@@ -1,6 +1,6 @@
 -- The wiring table, byte for byte: the rows of a Markdown table. 02, change 3: "Field staff compare a lock's bit with the wiring sheet."
 use Rattle.std.specs.Prelude.{ℕ, zero, suc, ◌+◌, ◌*◌, ◌^◌, List, [], ◌++◌}
-use Rattle.io.specs.Digits.{last_digits as digitsInBase}
+use Rattle.io.specs.Digits.{last_digits as digits_in_base}
 use Rattle.limits.specs.Limits.{lock_count}
 use Rattle.laws.specs.Bytes.{bytes}
 use Rattle.report_lines.specs.Lines.{digits}
@@ -11,7 +11,7 @@ hex_count = 8
 
 -- the last eight hexadecimal digits of a number, highest first: all of them where it is a mask of locks
 unfoldable pub hex_digits : ℕ → List ℕ
-hex_digits n = digitsInBase 16 hex_count n
+hex_digits n = digits_in_base 16 hex_count n
 
 -- a lock, its bit, "2 to the power k", and the bit in hexadecimal
 unfoldable pub wiring_row : ℕ → List ℕ
