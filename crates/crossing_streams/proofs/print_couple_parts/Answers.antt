@@ -4,9 +4,6 @@ use Rattle.streams.proofs.Printing.{part-printed}
 use Rattle.crossing_streams.proofs.Printing.{couples-printed}
 use Rattle.crossing_streams.proofs.print_couple_parts.Goals as goal
 
-pub returns-then-not-part : goal.returns-then-not-part
-returns-then-not-part c = λ e. cc
-
 pub loop-k-preserved : goal.loop-k-preserved
 loop-k-preserved c = search (part-printed, rules)
 
