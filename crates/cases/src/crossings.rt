@@ -1,5 +1,5 @@
 // Where the threads of a plan cross: what the program `crossings` prints on request, and the first couples of threads 0 and 1.
-use super::{print_number, print_refused, procs};
+use super::{print_number, print_refused, procedures};
 use crossings_text::Request;
 use lockplan::Counted;
 
@@ -39,7 +39,7 @@ fn show_words(text: &[u8]) {
         Counted::Count(n) => {
             print_number(b"  couples ", n as u64);
             io::write_all(1, b" words");
-            procs::print_list(&words);
+            procedures::print_list(&words);
         }
         Counted::Refused(refusal) => print_refused(b"  couples refused ", refusal),
     }

@@ -3,10 +3,10 @@
 // the report. A schedule is replayed by a second gateway, crate `replay`, which reads the plan's text by itself: the entries of each verdict, and the steps in the lines of each report.
 #![tactic(auto)]
 
-mod copies;
 mod crossings;
 mod failing;
-mod procs;
+mod plan_copies;
+mod procedures;
 mod reports;
 mod schedules;
 mod spaces;
@@ -15,7 +15,7 @@ ghost use Rattle.std.specs.Prelude.{◌≤◌, length};
 
 use limits::{MAX_ENTRIES, MAX_PAIR_WORDS};
 use lockplan::Verdict;
-use procs::Shown;
+use procedures::Shown;
 use std::rt::Files;
 use std::{fs, str};
 use streams::TEXT_ROOM;
@@ -53,12 +53,12 @@ pub fn show_verdict(text: &[u8], out: &mut [u16]) {
 fn show_plan(text: &[u8], list: &mut [u64], out: &mut [u16]) {
     print_number(b"  bytes ", text.len() as u64);
     io::write_all(1, b"\n");
-    procs::show_procs(text, Shown::Pairs, list);
+    procedures::show_procs(text, Shown::Pairs, list);
     spaces::show_space(text, out);
     crossings::show_crossings(text);
-    procs::show_procs(text, Shown::Text, list);
-    copies::show_tidy(text);
-    copies::show_straight(text, list, out);
+    procedures::show_procs(text, Shown::Text, list);
+    plan_copies::show_tidy(text);
+    plan_copies::show_straight(text, list, out);
     reports::show_report(text);
 }
 

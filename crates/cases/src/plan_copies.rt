@@ -1,6 +1,6 @@
 // The tidy copy of a plan and the straightened one.
-use super::procs::Shown;
-use super::{REPORTED, print_number, print_refused, procs, show_verdict};
+use super::procedures::Shown;
+use super::{REPORTED, print_number, print_refused, procedures, show_verdict};
 use limits::MAX_BYTES;
 use lockplan::Counted;
 use text::Refusal;
@@ -45,7 +45,7 @@ pub fn show_tidy(text: &[u8]) {
 fn print_straight(text: &[u8], copy: &[u8], list: &mut [u64], schedule: &mut [u16]) {
     print_copy(b"  straight: ", text, copy);
     if !check::same(text, copy) {
-        procs::show_procs(copy, Shown::Pairs, list);
+        procedures::show_procs(copy, Shown::Pairs, list);
         show_verdict(copy, schedule);
     }
 }
