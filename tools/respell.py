@@ -9,7 +9,7 @@ A row of respell.tsv is an old name, a tab, the new one, and for the field of a 
   .rt    comments, `ghost use` items and clauses: only names that hold a capital behind a small letter turn there, which no name of the source does
   .edit  as .rt, or as .antt where the edit is of a definition
   .md    code spans and fenced blocks, below docs/ and in the README
-A second run changes nothing. A word that a file would then use for two things is printed.
+Run it once: nine of the new names are also old ones, and a second run would turn them again. A word that a file would then use for two things is printed.
 """
 
 import os
