@@ -83,7 +83,7 @@ def rendered(path, text, rows, fields, own):
 
 def files(root):
     for folder, dirs, names in os.walk(root):
-        dirs[:] = sorted(d for d in dirs if d not in ("out", ".git", "target", "wip"))
+        dirs[:] = sorted(d for d in dirs if d not in ("out", ".git", "target"))
         for n in sorted(names):
             path = os.path.join(folder, n)
             below = os.path.relpath(path, root)
