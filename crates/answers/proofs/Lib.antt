@@ -1,5 +1,5 @@
--- The numbers of a refusal are small, an answer by its cases, and that an answer can be read back from its number.
+-- The numbers of a refusal are small, an answer by its cases, the schedule of a verdict, and that an answer can be read back from its number.
 pub mod LineBounds
-pub mod Sums
 pub mod Counts
+pub mod Schedules
 pub mod ReadBack

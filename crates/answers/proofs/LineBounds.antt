@@ -8,11 +8,10 @@ use mathlib.Core.List.{List, [], ◌∷◌}
 use mathlib.Core.Option.{Option, none, some, none-ne-some, some-injective, or_else}
 use lib.ListN.{length}
 use lib.Dec.{ltb, eqb, leb}
+use Rattle.std.proofs.Common as std
 use Rattle.limits.specs.Limits.{max_bytes, max_pair_words}
 use Rattle.laws.specs.Choice.{pick}
 use Rattle.text.specs.declared.Form.{Form}
-use Rattle.text.specs.declared.Kind.{Kind}
-use Rattle.text.specs.declared.Kind.TheVariants.{Known, Unknown}
 use Rattle.text.specs.declared.Refusal.{Refusal}
 use Rattle.text.specs.Kinds.{kind_of}
 use Rattle.text.specs.Lines.{refusal, push_byte, split, unindented, passed_over, forms_of, unknown_or, unreadable, unreadable_line, line_of}
@@ -58,10 +57,10 @@ unreadable-most (l ∷ ls) tail line n h = go (passed_over l) (kind_of (unindent
     o : Option ℕ
     o = unreadable (suc line) ls tail
 
-    go : (b : Bool) (k : Kind) → AtMost n o → AtMost n (pick b o (unknown_or line k o))
+    go : (b : Bool) (k : std.Option Form) → AtMost n o → AtMost n (pick b o (unknown_or line k o))
     go true k later = later
-    go false (Known f) later = later
-    go false Unknown later = named line n (omega arith)
+    go false (std.Some f) later = later
+    go false std.None later = named line n (omega arith)
 
 -- ---- the rules together
 

@@ -7,6 +7,7 @@ use mathlib.Core.List.{List}
 use mathlib.Core.Option.{Option, none, some}
 use lib.Dec.{T}
 use lib.ListN.{length}
+use Rattle.std.proofs.Common.{Result, Ok, Err}
 use Rattle.limits.specs.Limits.{max_threads}
 use Rattle.laws.specs.Mask.{in_mask}
 use Rattle.laws.proofs.Masks.{mask_below}
@@ -21,8 +22,6 @@ use Rattle.plan.specs.Rules.{plan_refusal, plan_of, too_few_entries, verdict_ref
 use Rattle.plan.proofs.AcceptedTable.{accepted-settled}
 use Rattle.answers.specs.declared.Verdict.{Verdict}
 use Rattle.answers.specs.declared.Verdict.TheVariants.{Free, Deadlock}
-use Rattle.answers.specs.declared.Verdict.TheVariants as verdict
-use Rattle.answers.specs.declared.Counted.TheVariants.{Count, Refused}
 use Rattle.answers.specs.Answers.{answer_number, counted_of, counted_number, read_counted, verdict_number, read_verdict}
 use Rattle.answers.specs.Judgement.{Judgement}
 use Rattle.answers.proofs.LineBounds.{Numbers, verdict_bounded}
@@ -53,27 +52,27 @@ module _ (kind a b : ℕ) (h : kind < 256) (k : a < 256) where
   high_read = omega arith
 
 -- the verdict, by what holds of it
-pub verdict-read : (text : List ℕ) (lent : ℕ) (v : Verdict) (es : List ℕ) → Judgement (verdict_refusal text lent) (plan_of text) v es → read_verdict (verdict_number v) ≡ v
+pub verdict-read : (text : List ℕ) (lent : ℕ) (v : Result Verdict Refusal) (es : List ℕ) → Judgement (verdict_refusal text lent) (plan_of text) v es → read_verdict (verdict_number v) ≡ v
 unfolding Judgement verdict_number read_verdict
-verdict-read text lent Free es j = refl
-verdict-read text lent (Deadlock n S) es j =
+verdict-read text lent (Ok Free) es j = refl
+verdict-read text lent (Ok (Deadlock n S)) es j =
     let small = schedule-below (plan_of text) es S (few-threads text lent j.0) j.2 in
     rw (kind-read 1 S n (omega arith) small, low_read 1 S n (omega arith) small, high_read 1 S n (omega arith) small)
-verdict-read text lent (verdict.Refused x) es j =
+verdict-read text lent (Err x) es j =
     let small = (verdict_bounded text lent x j.0).rule in
     rw (kind-read 2 x.rule x.line (omega arith) small, low_read 2 x.rule x.line (omega arith) small, high_read 2 x.rule x.line (omega arith) small)
 
 -- equal numbers, equal verdicts, whatever the texts and the buffers
-pub verdicts-equal : (text text' : List ℕ) (lent lent' : ℕ) (v w : Verdict) (es es' : List ℕ) → Judgement (verdict_refusal text lent) (plan_of text) v es
+pub verdicts-equal : (text text' : List ℕ) (lent lent' : ℕ) (v w : Result Verdict Refusal) (es es' : List ℕ) → Judgement (verdict_refusal text lent) (plan_of text) v es
     → Judgement (verdict_refusal text' lent') (plan_of text') w es' → verdict_number v ≡ verdict_number w → v ≡ w
 verdicts-equal text text' lent lent' v w es es' j k h = sym (verdict-read text lent v es j) ∙ ap read_verdict h ∙ verdict-read text' lent' w es' k
 
 -- how much
-count-read : (n : ℕ) → read_counted (counted_number (Count n)) ≡ Count n
+count-read : (n : ℕ) → read_counted (counted_number (Ok n)) ≡ Ok n
 unfolding counted_number read_counted
 count-read n = rw (kind-read 0 0 n (omega arith) (omega arith), high_read 0 0 n (omega arith) (omega arith))
 
-refused-read : (x : Refusal) → x.rule < 256 → read_counted (counted_number (Refused x)) ≡ Refused x
+refused-read : (x : Refusal) → x.rule < 256 → read_counted (counted_number (Err x)) ≡ Err x
 unfolding counted_number read_counted
 refused-read x h =
     rw (kind-read 2 x.rule x.line (omega arith) h, low_read 2 x.rule x.line (omega arith) h, high_read 2 x.rule x.line (omega arith) h)

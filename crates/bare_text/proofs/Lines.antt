@@ -1,16 +1,13 @@
--- A form's line is its keyword, its number's digits and the rest of the line: a number below 1,000 has the same digits here as in the report. The laws are in the shape of
--- the needs of the functions that write a line.
-use Prim.Native.Nat.{ℕ, ◌+◌, ◌/◌, ◌<◌, ◌≤◌}
+-- A form's line is its keyword, its number's digits and the rest of the line: a number below 1,000 has the same digits here as in the report. The check finds the laws of the
+-- set `lines` by itself where a line is written.
+use Prim.Native.Nat.{ℕ, ◌/◌, ◌<◌, ◌≤◌}
 use native.Mathlib.Omega.{arith}
 use mathlib.Core.Path.{◌≡◌, sym, ap, ◌∙◌}
 use mathlib.Core.Logic.{⊎_elim}
-use mathlib.Core.List.{List, [], ◌∷◌, ◌++◌, append_assoc}
-use lib.ListN.{length, length-append}
+use mathlib.Core.List.{[], ◌∷◌, ◌++◌, append_assoc}
 use borrow.Author.Tests.{lt-ltb, le-ltb}
 use Rattle.laws.specs.Bytes.{bytes}
-use Rattle.laws.specs.Wrote.{Wrote}
 use Rattle.laws.proofs.Tests.{lt_or_le}
-use Rattle.laws.proofs.Wrote.{wrote-length}
 use Rattle.text.specs.declared.Form.{Form}
 use Rattle.text.specs.declared.Form.TheVariants.{Plan, Proc, Thread, Close, Skip, Call, Hold, Loop, Either, One, Two, Share}
 use Rattle.text.specs.Forms.{decimal, write, number_in}
@@ -90,38 +87,3 @@ module _ (f : Form) where
     line-share e = ap form_line e ∙ ap (λ d. bytes "(share " ++ d ++ bytes "\n") (sym (digits_decimal n (rw e at small)))
 
 pub ruleset lines = (line-plan, line-proc, line-close, line-skip, line-loop, line-either, line-one, line-two, line-thread, line-call, line-hold, line-share)
-
--- ---- a line of bytes t
-
-module _ (f : Form) (t l : List ℕ) (e : form_line f ≡ t) where
-  pub line-room : length (form_line f) ≤ length l → 0 + length t ≤ length l
-  line-room h = omega (arith, ap length e)
-
-  pub line_wrote : (l' : List ℕ) (r : ℕ) → Wrote l l' 0 r t → Wrote l l' 0 r (form_line f)
-  line_wrote l' r w = rw e w
-
--- ---- a line with a number: its length as the sum of its parts' lengths
-
-numbered-room : (f : Form) (keyword d rest l : List ℕ) → form_line f ≡ keyword ++ d ++ rest → length (form_line f) ≤ length l
-    → length keyword + length d + length rest ≤ length l
-numbered-room f keyword d rest l e room = omega (arith, ap length e, length-append (keyword ++ d) rest, length-append keyword d)
-
-module _ (f : Form) (small : number_in f < 1000) (n : ℕ) (l : List ℕ) (room : length (form_line f) ≤ length l) where
-  pub thread-room : f ≡ Thread n → 8 + length (digits n) + 2 ≤ length l
-  thread-room e = numbered-room f (bytes "(thread ") (digits n) (bytes ")\n") l (line-thread f small n e) room
-
-  pub call-room : f ≡ Call n → 6 + length (digits n) + 2 ≤ length l
-  call-room e = numbered-room f (bytes "(call ") (digits n) (bytes ")\n") l (line-call f small n e) room
-
-  pub hold-room : f ≡ Hold n → 6 + length (digits n) + 1 ≤ length l
-  hold-room e = numbered-room f (bytes "(hold ") (digits n) (bytes "\n") l (line-hold f small n e) room
-
-  pub share-room : f ≡ Share n → 7 + length (digits n) + 1 ≤ length l
-  share-room e = numbered-room f (bytes "(share ") (digits n) (bytes "\n") l (line-share f small n e) room
-
-module _ (l l₁ keyword : List ℕ) (i n : ℕ) (rest : List ℕ) (room : length keyword + length (digits n) + length rest ≤ length l) where
-  pub number-room : 0 + length (keyword ++ digits n) ≤ length l
-  number-room = omega (arith, length-append keyword (digits n))
-
-  pub rest-room : Wrote l l₁ 0 i (keyword ++ digits n) → i + length rest ≤ length l₁
-  rest-room w = omega (arith, length-append keyword (digits n), w.place, wrote-length l l₁ 0 i (keyword ++ digits n) w)

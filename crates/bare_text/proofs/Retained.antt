@@ -1,20 +1,15 @@
--- Which forms a copy retains, by the arms of a match on forms: the closing one, those of loops and eithers, the rest. In the shape of the needs of `is_retained` and
--- `put_retained`.
-use Prim.Native.Nat.{ℕ}
-use native.Mathlib.Omega.{arith}
-use mathlib.Core.Bool.{Bool, true, false, not}
+-- Which forms a copy retains, by the arms of a match on forms: the closing one, those of loops and eithers, the rest. In the shape of the needs of `is_retained`.
+use mathlib.Core.Bool.{Bool, true, not}
 use mathlib.Core.List.{List, [], ◌∷◌}
 use mathlib.Core.Path.{◌≡◌, refl, sym, ap, ◌∙◌}
 use denote.Enum.Declared.{tag_of}
 use types.Run.{OneOf}
-use Rattle.laws.specs.Wrote.{Wrote}
-use Rattle.laws.proofs.Wrote.{wrote_none}
 use Rattle.text.specs.declared.Form.{Form}
 use Rattle.text.specs.declared.Form.TheVariants.{Close, Loop, Either, One, Two}
 use Rattle.text.specs.Forms.{kind_in}
 use Rattle.text.specs.contracts.Form.{the_type}
 use Rattle.text.proofs.Matches.{match_arm, positions, others}
-use Rattle.bare_text.specs.Writing.{form_line, is_retained, line_if}
+use Rattle.bare_text.specs.Writing.{is_retained}
 
 -- a form of each kind that straightening leaves out
 abbrev branches : List Form
@@ -32,10 +27,3 @@ module _ (straighten enclosed : Bool) (f : Form) (r : Bool) where
   pub retained_other : OneOf (others (Close ∷ branches)) (tag_of the_type f) → r ≡ true → r ≡ is_retained straighten enclosed f
   unfolding is_retained kind_in
   retained_other h k = k ∙ sym (match_arm (is_retained straighten enclosed) true (others (Close ∷ branches)) f h refl)
-
-module _ (f : Form) (s : Bool) (l : List ℕ) where
-  pub line_retained : s ≡ true → (l' : List ℕ) (r : ℕ) → Wrote l l' 0 r (form_line f) → Wrote l l' 0 r (line_if s f)
-  line_retained e l' r w = rw e w
-
-  pub line-left_out : s ≡ false → Wrote l l 0 0 (line_if s f)
-  line-left_out e = rw e (wrote_none l 0 (omega arith))

@@ -25,9 +25,6 @@ module _ (l₀ l : List ℕ) (used : ℕ) (a : List ℕ) (w : Wrote l₀ l 0 use
   used-within : used ≤ length l
   used-within = omega (arith, wrote-length l₀ l 0 used a w, w.fits)
 
-  left-length : length (take (length l - used) (drop used l)) ≡ length l₀ - used
-  left-length = omega (arith, length-take-le (length l - used) (drop used l) (rw length-drop (omega arith)), wrote-length l₀ l 0 used a w)
-
   -- a part written there stands behind
   wrote-behind : (part : List ℕ) (n : ℕ) (b : List ℕ) → Wrote (take (length l - used) (drop used l)) part 0 n b
       → Wrote l₀ (take used l ++ (part ++ drop (length l - used) (drop used l))) 0 (used + n) (a ++ b)
@@ -40,13 +37,6 @@ lines_none : (ws : List ℕ) (at : ℕ) (l : List ℕ) → at ≤ length ws → 
 lines_none ws at l h = record { lines = []; wrote = wrote_none l 0 (omega arith); most = omega arith; later = omega arith; within = h }
 
 module _ (ws : List ℕ) (at : ℕ) (l₀ l : List ℕ) (i used : ℕ) (w : WroteLines ws at l₀ l i used) where
-  lines-used : used ≤ length l
-  lines-used = used-within l₀ l used w.lines w.wrote
-
-  -- what is left has room for the lines that are left
-  lines-room : RoomFor ws at l₀ → RoomFor ws i (take (length l - used) (drop used l))
-  lines-room h = omega (arith, left-length l₀ l used w.lines w.wrote, w.most)
-
   lines_more : (part : List ℕ) (next n : ℕ) → WroteLines ws i (take (length l - used) (drop used l)) part next n
       → WroteLines ws at l₀ (take used l ++ (part ++ drop (length l - used) (drop used l))) next (used + n)
   lines_more part next n v = record {
@@ -77,12 +67,6 @@ module _ (straighten enclosed : Bool) (ws : List ℕ) (at : ℕ) (l₀ : List �
   items_none h = record { written = lines_none ws at l₀ h; precede = λ ks e. refl }
 
   module _ (l : List ℕ) (i used : ℕ) (w : WroteItems straighten enclosed ws at l₀ l i used false) where
-    pub items_used : used ≤ length l
-    items_used = lines-used ws at l₀ l i used w.written
-
-    pub items_room : RoomFor ws at l₀ → RoomFor ws i (take (length l - used) (drop used l))
-    items_room h = lines-room ws at l₀ l i used w.written h
-
     -- one more, which ends the block if `closed`
     module _ (part : List ℕ) (next n : ℕ) (closed : Bool) (v : WroteItems straighten enclosed ws i (take (length l - used) (drop used l)) part next n closed) where
       more : WroteItems straighten enclosed ws at l₀ (take used l ++ (part ++ drop (length l - used) (drop used l))) next (used + n) closed
@@ -97,9 +81,6 @@ module _ (straighten enclosed : Bool) (ws : List ℕ) (at : ℕ) (l₀ : List �
 
       pub items-closed : closed ≡ true → WroteItems straighten enclosed ws at l₀ (take used l ++ (part ++ drop (length l - used) (drop used l))) next (used + n) true
       items-closed e = subst (WroteItems straighten enclosed ws at l₀ _ next (used + n)) e more
-
-      pub items-fits : used + n ≤ length l₀
-      items-fits = more.written.wrote.fits
 
     -- the table ends
     pub items_end : length ws ≤ i → WroteItems straighten enclosed ws at l₀ l i used true
@@ -122,12 +103,6 @@ module _ (straighten : Bool) (ws l₀ : List ℕ) where
   all_none = record { written = lines_none ws 0 l₀ (omega arith); precede = refl }
 
   module _ (l : List ℕ) (i used : ℕ) (w : WroteAll straighten ws l₀ l i used) where
-    pub all-used : used ≤ length l
-    all-used = lines-used ws 0 l₀ l i used w.written
-
-    pub all_room : length (text_of (table_forms ws)) ≤ length l₀ → RoomFor ws i (take (length l - used) (drop used l))
-    all_room h = lines-room ws 0 l₀ l i used w.written h
-
     -- a closing form where no bracket is open leaves none open
     module _ (part : List ℕ) (next n : ℕ) (closed : Bool) (v : WroteItems straighten true ws i (take (length l - used) (drop used l)) part next n closed) where
       pub all_more : WroteAll straighten ws l₀ (take used l ++ (part ++ drop (length l - used) (drop used l))) next (used + n)
@@ -140,9 +115,6 @@ module _ (straighten : Bool) (ws l₀ : List ℕ) where
           go : (b : Bool) → Precede straighten ws i [] next (cond b [] []) v.written.lines → Precede straighten ws i [] next [] v.written.lines
           go true x = x
           go false x = x
-
-      pub all-fits : used + n ≤ length l₀
-      all-fits = all_more.written.wrote.fits
 
     pub all-written : length ws ≤ i → Wrote l₀ l 0 used (text_of (retained_forms straighten [] (table_forms ws)))
     all-written h =
@@ -211,9 +183,6 @@ module _ (ws : List ℕ) (at : ℕ) (f : Form) (h : at < length ws) (e : f ≡ f
             subst (λ ks'. Precede straighten ws at ks (at + 1) ks' (line_if s f)) after (line_first ks k);
       }
 
-      pub item-used : n ≤ length l
-      item-used = lines-used ws at l₀ l (at + 1) n line-written
-
       -- from any place up to the line's end on there is room for the lines that are left
       pub item-left : (k : ℕ) → k ≤ n → RoomFor ws at l₀ → RoomFor ws (at + 1) (take (length l - k) (drop k l))
       item-left k b r = omega (
@@ -240,9 +209,6 @@ module _ (ws : List ℕ) (at : ℕ) (f : Form) (h : at < length ws) (e : f ≡ f
               let line = subst (λ ks'. Precede straighten ws at ks (at + 1) ks' (line_if s f)) after (line_first ks k) in
               precede-more straighten ws at (at + 1) next ks (s ∷ ks) ks (line_if s f) v.written.lines line (v.precede (s ∷ ks) refl);
         }
-
-        pub item-fits : n + m ≤ length l₀
-        item-fits = block_written.wrote.fits
 
         pub item-later : at < next
         item-later = omega (arith, v.written.later)

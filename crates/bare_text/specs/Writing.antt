@@ -1,6 +1,7 @@
 -- What the writers of a copy leave in the output that they were lent: at its start the lines of the forms that the copy retains. 02, change 1: "each nested part is written
 -- into what is left of the lent output". A tidy copy retains all forms, a straightened one is without those of loops and eithers (change 8).
 use Rattle.std.specs.Prelude.{ℕ, ◌+◌, ◌<◌, ◌≤◌, Bool, true, not, ◌&&◌, cond, List, [], ◌∷◌, ◌++◌, ◌≡◌, length, drop, get_or}
+use Rattle.std.specs.Coded.{Π_prop, le_prop}
 use Rattle.laws.specs.Wrote.{Wrote}
 use Rattle.text.specs.declared.Form.{Form}
 use Rattle.text.specs.declared.Form.TheVariants.{Plan, Proc, Hold, Loop, Either, One, Two, Share}
@@ -15,6 +16,11 @@ form_line f = write f ++ (10 ∷ [])
 -- the numbers of a table's forms are below 1,000: they have at most three digits
 unfoldable pub SmallTable : List ℕ → Type 0
 SmallTable ws = (k : ℕ) → k < length ws → number_in (form_at (get_or ws k 0)) < 1000
+
+-- so it can be a ghost field
+pub SmallTable-prop : (ws : List ℕ) → IsProp (SmallTable ws)
+unfolding SmallTable
+SmallTable-prop ws = Π_prop λ k. Π_prop λ _. le_prop
 
 -- how many bytes the lines of a table's forms have from a place on
 abbrev pub bytes_from : List ℕ → ℕ → ℕ

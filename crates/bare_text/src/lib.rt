@@ -7,28 +7,29 @@ ghost use Rattle.text.specs.Forms.{number_in};
 ghost use Rattle.text.specs.Lines.{text_of};
 ghost use Rattle.plan.specs.Table.{table_forms};
 ghost use Rattle.report_lines.specs.Lines.{digits};
-ghost use Rattle.bare_text.specs.Writing.{form_line, SmallTable, RoomFor, opens_block, is_retained, line_if, retained_forms, WroteItems};
+ghost use Rattle.bare_text.specs.Writing.{form_line, SmallTable, SmallTable-prop, RoomFor, opens_block, is_retained, line_if, retained_forms, WroteItems};
 
 use text::Form;
 
 // How far a writer has come: the place of the next form in the table, how many bytes it wrote, and whether the block around them is left behind them.
 #[derive(Clone, Copy)]
-pub struct Progress {
-    pub next: usize,
-    pub used: usize,
-    pub closed: bool,
+struct Progress {
+    next: usize,
+    used: usize,
+    closed: bool,
 }
 
 // A keyword, a number and the rest of the line.
 fn put_number_line(out: &mut [u8], keyword: &[u8], n: u16, rest: &[u8]) -> usize
-    requires { length keyword.now + length (digits n) + length rest.now ≤ length out.old }
+    requires { length (keyword.now ++ digits n ++ rest.now) ≤ length out.old }
     ensures { Wrote out.old out.new 0 result (keyword.now ++ digits n ++ rest.now) }
 {
-    let i = report_lines::put_numbered(out, 0, keyword, n as u64);
+    let i = report_lines::put_numbered(out, 0, keyword, u64::from(n));
     report_lines::put_text(out, i, rest)
 }
 
 // A form's line.
+#[tactic(auto, using(crate::proofs::Lines::lines))]
 fn put_form(out: &mut [u8], form: Form) -> usize
     requires { (number_in form < 1000) × (length (form_line form) ≤ length out.old) }
     ensures { Wrote out.old out.new 0 result (form_line form) }
@@ -53,10 +54,10 @@ fn put_form(out: &mut [u8], form: Form) -> usize
 fn opens_block(form: Form) -> bool
     ensures { result ≡ opens_block form }
 {
-    match form {
-        Form::Thread(_) | Form::Close | Form::Skip | Form::Call(_) => false,
-        _ => true,
-    }
+    !matches!(
+        form,
+        Form::Thread(_) | Form::Close | Form::Skip | Form::Call(_)
+    )
 }
 
 // Whether a copy, straightened or not, retains a form: a closing one if it retains the bracket around it, `enclosed`.
@@ -75,74 +76,64 @@ fn put_retained(out: &mut [u8], form: Form, retained: bool) -> usize
     requires { (number_in form < 1000) × (length (form_line form) ≤ length out.old) }
     ensures { Wrote out.old out.new 0 result (line_if retained form) }
 {
-    if retained {
-        return put_form(out, form);
-    }
-    0
+    if retained { put_form(out, form) } else { 0 }
 }
 
-// The line at a place of the table, where its form is retained, and the block within, where the form opens a bracket: the rest of the output is lent on to that block's writer.
-#[cycle(write_block_write_item)]
-fn write_item(
-    table: &[u64],
-    at: usize,
+// The writer of a copy: the table of a plan's forms, and whether the copy is straightened.
+#[derive(Clone, Copy)]
+struct Writer<'a> {
+    table: &'a [u64],
     straighten: bool,
-    enclosed: bool,
-    out: &mut [u8],
-) -> Progress
-    requires { SmallTable table.now × (at < length table.now) × RoomFor table.now at out.old }
-    ensures { WroteItems straighten enclosed table.now at out.old out.new result.next result.used result.closed × (at < result.next) }
-{
-    let form = plan::form_at(table[at]);
-    let retained = is_retained(form, straighten, enclosed);
-    let n = put_retained(out, form, retained);
-    if opens_block(form) {
-        let inner = write_block(table, at + 1, straighten, retained, &mut out[n..]);
-        let used = n + inner.used;
-        return Progress {
-            next: inner.next,
-            used,
-            closed: false,
-        };
-    }
-    let next = at + 1;
-    Progress {
-        next,
-        used: n,
-        closed: text::is_close(form),
-    }
+    ghost small: { SmallTable table.now } by { SmallTable-prop table.now },
 }
 
-// The lines of the forms that are retained, from a place of the table up to the form that closes the block around it; each item is lent what is left of the output.
-#[cycle(write_block_write_item)]
-fn write_block(
-    table: &[u64],
-    at: usize,
-    straighten: bool,
-    enclosed: bool,
-    out: &mut [u8],
-) -> Progress
-    requires { SmallTable table.now × (at ≤ length table.now) × RoomFor table.now at out.old }
-    ensures { WroteItems straighten enclosed table.now at out.old out.new result.next result.used true }
-{
-    let mut i = at;
-    let mut used: usize = 0;
-    while i < table.len() {
-        let item = write_item(table, i, straighten, enclosed, &mut out[used..]);
-        i = item.next;
-        used += item.used;
-        if item.closed {
+impl Writer<'_> {
+    // The line at a place of the table, where its form is retained, and the block within, where the form opens a bracket: the rest of the output is lent on to that block's writer.
+    #[cycle(write_block_write_item)]
+    fn write_item(&self, at: usize, enclosed: bool, out: &mut [u8]) -> Progress
+        requires { (at < length self.now.table.now) × RoomFor self.now.table.now at out.old }
+        ensures { WroteItems self.now.straighten enclosed self.now.table.now at out.old out.new result.next result.used result.closed × (at < result.next) }
+    {
+        let form = plan::form_at(self.table[at]);
+        let retained = is_retained(form, self.straighten, enclosed);
+        let n = put_retained(out, form, retained);
+        if opens_block(form) {
+            let inner = self.write_block(at + 1, retained, &mut out[n..]);
             return Progress {
-                next: i,
-                used,
-                closed: true,
+                next: inner.next,
+                used: n + inner.used,
+                closed: false,
             };
         }
+        Progress {
+            next: at + 1,
+            used: n,
+            closed: text::is_close(form),
+        }
     }
-    Progress {
-        next: i,
-        used,
-        closed: true,
+
+    // The lines of the forms that are retained, from a place of the table up to the form that closes the block around it; each item is lent what is left of the output.
+    #[cycle(write_block_write_item)]
+    fn write_block(&self, at: usize, enclosed: bool, out: &mut [u8]) -> Progress
+        requires { (at ≤ length self.now.table.now) × RoomFor self.now.table.now at out.old }
+        ensures { WroteItems self.now.straighten enclosed self.now.table.now at out.old out.new result.next result.used true }
+    {
+        let mut i = at;
+        let mut used: usize = 0;
+        // Kept: an item moves the place behind all of its forms, so no iterator goes over the places.
+        while i < self.table.len() {
+            let item = self.write_item(i, enclosed, &mut out[used..]);
+            i = item.next;
+            used += item.used;
+            if item.closed {
+                break;
+            }
+        }
+        Progress {
+            next: i,
+            used,
+            closed: true,
+        }
     }
 }
 
@@ -151,10 +142,12 @@ pub fn write_forms(table: &[u64], straighten: bool, out: &mut [u8]) -> usize
     requires { SmallTable table.now × (length (text_of (table_forms table.now)) ≤ length out.old) }
     ensures { Wrote out.old out.new 0 result (text_of (retained_forms straighten [] (table_forms table.now))) }
 {
+    let writer = Writer { table, straighten };
     let mut i: usize = 0;
     let mut used: usize = 0;
+    // Kept: as in `write_block`.
     while i < table.len() {
-        let item = write_item(table, i, straighten, true, &mut out[used..]);
+        let item = writer.write_item(i, true, &mut out[used..]);
         i = item.next;
         used += item.used;
     }

@@ -27,6 +27,6 @@ pub fn show_failing() {
     let mut text = [0u8; 8];
     let printed = streams::print_to(NONE, b"nothing");
     let input = streams::read_from(&mut Unreadable, &mut text);
-    print_line(!printed.whole && printed.bytes == 0, b"a write that fails");
-    print_line(!input.whole && input.bytes == 0, b"a read that fails");
+    print_line(printed.is_err_and(|e| e.bytes == 0), b"a write that fails");
+    print_line(input.is_err_and(|e| e.bytes == 0), b"a read that fails");
 }

@@ -40,13 +40,13 @@ pub fn print_refused(label: &[u8], refusal: Refusal) {
 
 pub fn show_verdict(text: &[u8], out: &mut [u16]) {
     match lockplan::judge(text, out) {
-        Verdict::Free => {
+        Ok(Verdict::Free) => {
             io::write_all(1, b"  free\n");
         }
-        Verdict::Deadlock { entries, stuck } => {
+        Ok(Verdict::Deadlock { entries, stuck }) => {
             schedules::show_schedule(text, entries, stuck as u64, out);
         }
-        Verdict::Refused(refusal) => print_refused(b"  refused ", refusal),
+        Err(refusal) => print_refused(b"  refused ", refusal),
     }
 }
 
@@ -76,7 +76,10 @@ fn read_file(rt: &impl Files, path: &[u8], buffer: &mut [u8]) -> usize
         io::write_all(1, b"  no such file\n");
         return 0;
     };
-    streams::read_from(&mut file, buffer).bytes
+    match streams::read_from(&mut file, buffer) {
+        Ok(n) => n,
+        Err(unread) => unread.bytes,
+    }
 }
 
 // A line of the index: the file's name, a blank, and what the plan is.
@@ -85,17 +88,17 @@ fn show_case(rt: &impl Files, line: &[u8], buffer: &mut [u8], list: &mut [u64], 
         return;
     }
     io::write_all(1, line);
-    let end = replay::lines::after(line, 0, b' ') - 1;
-    let n = read_file(rt, &line[0..end], buffer);
-    show_plan(&buffer[0..n], list, out);
+    let name = line
+        .split(|b| *b == b' ' || *b == b'\n')
+        .next()
+        .unwrap_or(line);
+    let n = read_file(rt, name, buffer);
+    show_plan(&buffer[..n], list, out);
 }
 
 fn show_all(rt: &impl Files, index: &[u8], buffer: &mut [u8], list: &mut [u64], out: &mut [u16]) {
-    let mut at: usize = 0;
-    while at < index.len() {
-        let next = replay::lines::next_line(index, at);
-        show_case(rt, &index[at..next], buffer, list, out);
-        at = next;
+    for line in index.split_inclusive(|b| *b == b'\n') {
+        show_case(rt, line, buffer, list, out);
     }
 }
 

@@ -2,7 +2,6 @@
 use super::procedures::Shown;
 use super::{REPORTED, print_number, print_refused, procedures, show_verdict};
 use limits::MAX_BYTES;
-use lockplan::Counted;
 use text::Refusal;
 
 // The first n bytes of a buffer, none where it has fewer.
@@ -29,15 +28,15 @@ fn print_copy(label: &[u8], text: &[u8], copy: &[u8]) {
 // A refusal, and what the program prints of it; what it prints of accepted texts, its own run shows.
 fn print_no_copy(label: &[u8], text: &[u8], refusal: Refusal, straighten: bool) {
     print_refused(label, refusal);
-    streams::print_copy(text, straighten);
+    let _ = streams::print_copy(text, straighten);
 }
 
 // The tidy copy, or the refusal.
 pub fn show_tidy(text: &[u8]) {
     let mut out = [0u8; MAX_BYTES];
     match lockplan::tidy(text, &mut out) {
-        Counted::Count(n) => print_copy(b"  tidy: ", text, first(&out, n)),
-        Counted::Refused(refusal) => print_no_copy(b"  tidy refused ", text, refusal, false),
+        Ok(n) => print_copy(b"  tidy: ", text, first(&out, n)),
+        Err(refusal) => print_no_copy(b"  tidy refused ", text, refusal, false),
     }
 }
 
@@ -54,7 +53,7 @@ fn print_straight(text: &[u8], copy: &[u8], list: &mut [u64], schedule: &mut [u1
 pub fn show_straight(text: &[u8], list: &mut [u64], schedule: &mut [u16]) {
     let mut out = [0u8; MAX_BYTES];
     match lockplan::straight(text, &mut out) {
-        Counted::Count(n) => print_straight(text, first(&out, n), list, schedule),
-        Counted::Refused(refusal) => print_no_copy(b"  straight refused ", text, refusal, true),
+        Ok(n) => print_straight(text, first(&out, n), list, schedule),
+        Err(refusal) => print_no_copy(b"  straight refused ", text, refusal, true),
     }
 }

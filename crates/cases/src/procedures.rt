@@ -1,7 +1,6 @@
 // The procedures of a plan: their critical pairs, and their texts.
 use super::{print_number, print_refused};
 use limits::MAX_PROCS;
-use lockplan::Counted;
 
 // A pair is a record of three words.
 const RECORD: usize = 3;
@@ -29,12 +28,8 @@ fn print_word(i: usize, word: u64) {
 
 // The first records of a list.
 pub fn print_list(words: &[u64]) {
-    let mut i: usize = 0;
-    while i < words.len() {
-        if i < PRINTED {
-            print_word(i, words[i]);
-        }
-        i += 1;
+    for (i, word) in words.iter().take(PRINTED).enumerate() {
+        print_word(i, *word);
     }
     io::write_all(1, b"\n");
 }
@@ -52,11 +47,11 @@ fn print_pairs(p: usize, n: usize, list: &[u64]) {
 // The pairs of procedure p: whether there is one.
 fn show_pairs(text: &[u8], p: usize, list: &mut [u64]) -> bool {
     match lockplan::pair_list(text, p, list) {
-        Counted::Count(n) => {
+        Ok(n) => {
             print_pairs(p, n, list);
             true
         }
-        Counted::Refused(refusal) => {
+        Err(refusal) => {
             if refusal.rule == 11 {
                 return false;
             }
@@ -90,11 +85,9 @@ fn show_proc(text: &[u8], p: usize, shown: Shown, list: &mut [u64]) -> bool {
 
 // The procedures from the first on, up to one that is not there: of 64 procedures the one behind them is asked for too.
 pub fn show_procs(text: &[u8], shown: Shown, list: &mut [u64]) {
-    let mut p: usize = 0;
-    while p <= MAX_PROCS {
+    for p in 0..MAX_PROCS + 1 {
         if !show_proc(text, p, shown, list) {
             return;
         }
-        p += 1;
     }
 }

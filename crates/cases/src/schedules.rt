@@ -1,25 +1,13 @@
 // The schedule of a deadlock: its entries, and what a second gateway comes to by it.
-ghost use Rattle.std.specs.Prelude.{◌≤◌, length};
-ghost use Rattle.replay.specs.Tables.{state_room};
-
 use super::print_number;
-use replay::gateway::STATE_ROOM;
-use replay::sizes::SIZES_ROOM;
+use replay::gateway::Gateway;
 
 // So many entries of a schedule are printed.
 const ENTRIES: usize = 16;
 
-fn widen(x: u16) -> u64 {
-    x as u64
-}
-
 fn print_entries(entries: &[u16]) {
-    let mut i: usize = 0;
-    while i < entries.len() {
-        if i < ENTRIES {
-            print_number(b" ", widen(entries[i]));
-        }
-        i += 1;
+    for entry in entries.iter().take(ENTRIES) {
+        print_number(b" ", u64::from(*entry));
     }
     io::write_all(1, b"\n");
 }
@@ -42,25 +30,16 @@ pub fn print_stuck(found: u64, named: u64) {
 }
 
 // A schedule in the second gateway, from its start: the first entry that is no permitted step, or what is seen at the end.
-fn print_replay(text: &[u8], schedule: &[u16], named: u64, state: &mut [usize], bound: usize)
-    requires { state_room ≤ length state.old }
-{
-    replay::gateway::start(text, state);
-    let n = replay::gateway::run(text, schedule, state);
+fn replay(text: &[u8], schedule: &[u16], named: u64) {
+    let mut gateway = Gateway::start(text);
+    let n = gateway.run(schedule);
     if n < schedule.len() {
         print_number(b"  not replayed: no step at entry ", n as u64);
         io::write_all(1, b"\n");
         return;
     }
-    print_length(n, bound);
-    print_stuck(replay::stuck::largest(text, state), named);
-}
-
-fn replay(text: &[u8], schedule: &[u16], named: u64) {
-    let mut state = [0usize; STATE_ROOM];
-    let mut sizes = [0usize; SIZES_ROOM];
-    let bound = replay::sizes::sum(text, &mut sizes);
-    print_replay(text, schedule, named, &mut state, bound);
+    print_length(n, replay::sizes::sum(text));
+    print_stuck(replay::stuck::largest(&gateway), named);
 }
 
 // A schedule of n entries, and the set of threads that the verdict names stuck at its end.

@@ -1,6 +1,5 @@
 // The space that a schedule of a plan needs: the slip, and the verdict with exactly so many entries lent and with one less.
 use super::show_verdict;
-use lockplan::Counted;
 
 // The verdict where n entries are lent.
 fn show_lent(text: &[u8], n: usize, out: &mut [u16]) {
@@ -22,9 +21,9 @@ fn show_lent_and_less(text: &[u8], n: usize, out: &mut [u16]) {
 
 // The slip that the program `slip` prints, and the verdict: of a text without a sum with no entries.
 pub fn show_space(text: &[u8], out: &mut [u16]) {
-    streams::print_slip(text);
+    let _ = streams::print_slip(text);
     match lockplan::space(text) {
-        Counted::Count(n) => show_lent_and_less(text, n, out),
-        Counted::Refused(_) => show_lent(text, 0, out),
+        Ok(n) => show_lent_and_less(text, n, out),
+        Err(_) => show_lent(text, 0, out),
     }
 }

@@ -9,21 +9,17 @@ use mathlib.Core.Option.{none, some, or_else}
 use lib.Dec.{ltb}
 use lib.ListN.{length, take}
 use borrow.Author.Tests.{lt-ltb, le-ltb}
+use Rattle.std.proofs.Common.{Result, Ok, Err}
 use Rattle.limits.specs.Limits.{max_bytes}
 use Rattle.laws.specs.Wrote.{Wrote, filled}
 use Rattle.laws.proofs.Tests.{first-none}
 use Rattle.laws.proofs.Wrote.{wrote-filled}
 use Rattle.text.specs.declared.Refusal.{Refusal}
 use Rattle.text.specs.Lines.{refusal, forms_of, text_of}
-use Rattle.plan.specs.declared.Reading.{Reading}
-use Rattle.plan.specs.declared.Reading.TheVariants.{Accepted}
-use Rattle.plan.specs.declared.Reading.TheVariants as plan
 use Rattle.plan.specs.Table.{table_forms}
-use Rattle.plan.specs.Rules.{refused_if, plan_refusal, copy_refusal, Tabled}
-use Rattle.plan.proofs.Filling.{refused-is}
-use Rattle.plan.proofs.AcceptedTable.{plan-kept, plan-forms, plan-table}
-use Rattle.answers.specs.declared.Counted.{Counted}
-use Rattle.answers.specs.declared.Counted.TheVariants.{Count, Refused}
+use Rattle.plan.specs.Rules.{refused_if, plan_refusal, copy_refusal}
+use Rattle.checked.specs.declared.CheckedText.{CheckedText}
+use Rattle.checked.specs.Checks.{AcceptedText}
 use Rattle.answers.specs.Answers.{counted_of, counted_number, counted_high}
 use Rattle.answers.proofs.LineBounds.{copy_bounded}
 use Rattle.answers.proofs.Counts.{counted-refused, counted-kept, counted_carried}
@@ -49,11 +45,11 @@ module _ (text : List ℕ) (h : plan_refusal text ≡ none) where
 -- ---- into the output
 
 module _ (straighten : Bool) (text before : List ℕ) where
-  refused-copy : (x : Refusal) → copy_refusal text (length before) ≡ some x → Copied (copy_of straighten text) text before (Refused x) before
+  refused-copy : (x : Refusal) → copy_refusal text (length before) ≡ some x → Copied (copy_of straighten text) text before (Err x) before
   unfolding counted_of
   refused-copy x e = record { answer = rw e; output = rw e }
 
-  pub copy-short : length before < max_bytes → Copied (copy_of straighten text) text before (Refused (refusal 1 0)) before
+  pub copy-short : length before < max_bytes → Copied (copy_of straighten text) text before (Err (refusal 1 0)) before
   unfolding copy_refusal or_else
   copy-short h = refused-copy (refusal 1 0) (rw (lt-ltb (length before) max_bytes h))
 
@@ -62,38 +58,35 @@ module _ (straighten : Bool) (text before : List ℕ) where
   unfolding copy_refusal or_else
   plan-rules h = rw (le-ltb (length before) max_bytes h)
 
-  module _ (table : List ℕ) (q : Reading) (h : max_bytes ≤ length before) (t : Tabled (plan_refusal text) text q table) where
-    pub copy-refused : (x : Refusal) → q ≡ plan.Refused x → Copied (copy_of straighten text) text before (Refused x) before
-    copy-refused x g = refused-copy x (plan-rules h ∙ refused-is (plan_refusal text) (length (forms_of text)) x (sym t.answer ∙ g))
+  module _ (h : max_bytes ≤ length before) where
+    pub copy-refused : (x : Refusal) → plan_refusal text ≡ some x → Copied (copy_of straighten text) text before (Err x) before
+    copy-refused x e = refused-copy x (plan-rules h ∙ e)
 
-    module _ (n : ℕ) (g : q ≡ Accepted n) where
-      accepted : plan_refusal text ≡ none
-      accepted = plan-kept text table q n t g
+    module _ (table : List ℕ) (plan : CheckedText) (a : AcceptedText text plan table) where
+      table-text : text_of (retained_forms straighten [] (table_forms (take plan.forms table))) ≡ copy_of straighten text
+      table-text = ap (λ fs. text_of (retained_forms straighten [] fs)) a.tabled ∙ sym (copy-forms text a.kept straighten)
 
-      table-text : text_of (retained_forms straighten [] (table_forms (take (n - 0) table))) ≡ copy_of straighten text
-      table-text = ap (λ fs. text_of (retained_forms straighten [] fs)) (plan-forms text table q n t g) ∙ sym (copy-forms text accepted straighten)
+      pub copy-small : SmallTable (take plan.forms table)
+      copy-small = table-small (take plan.forms table) a.rules.plan
 
-      pub copy-small : SmallTable (take (n - 0) table)
-      copy-small = table-small (take (n - 0) table) (plan-table text table q n t g)
+      pub copy-room : length (text_of (table_forms (take plan.forms table))) ≤ length before
+      copy-room = omega (arith, ap (λ fs. length (text_of fs)) a.tabled, ap length (tidy-forms text a.kept), tidy-fits text a.kept)
 
-      pub copy-room : length (text_of (table_forms (take (n - 0) table))) ≤ length before
-      copy-room = omega (arith, ap (λ fs. length (text_of fs)) (plan-forms text table q n t g), ap length (tidy-forms text accepted), tidy-fits text accepted)
-
-      pub copy_written : (after : List ℕ) (k : ℕ) → Wrote before after 0 k (text_of (retained_forms straighten [] (table_forms (take (n - 0) table))))
-          → Copied (copy_of straighten text) text before (Count k) after
+      pub copy_written : (after : List ℕ) (k : ℕ) → Wrote before after 0 k (text_of (retained_forms straighten [] (table_forms (take plan.forms table))))
+          → Copied (copy_of straighten text) text before (Ok k) after
       unfolding counted_of
       copy_written after k w =
-          let z : copy_refusal text (length before) ≡ none = plan-rules h ∙ accepted in
+          let z : copy_refusal text (length before) ≡ none = plan-rules h ∙ a.kept in
           let c : k ≡ length (copy_of straighten text) = omega (arith, w.place, ap length table-text) in
           record { answer = rw (z, c); output = rw z (wrote-filled before after 0 k _ w refl ∙ ap (λ x. filled x before) table-text) }
 
 -- ---- what the program prints
 
-module _ (straighten : Bool) (text before : List ℕ) (r : Counted) (after : List ℕ) (t : Copied (copy_of straighten text) text before r after) (h : max_bytes ≤ length before) where
+module _ (straighten : Bool) (text before : List ℕ) (r : Result ℕ Refusal) (after : List ℕ) (t : Copied (copy_of straighten text) text before r after) (h : max_bytes ≤ length before) where
   by_plan : r ≡ counted_of (plan_refusal text) (length (copy_of straighten text))
   by_plan = rw (plan-rules straighten text before h) at t.answer
 
-  pub printed_copy_lem : (n : ℕ) → r ≡ Count n → Wrote before after 0 n (printed_copy straighten text)
+  pub printed_copy_lem : (n : ℕ) → r ≡ Ok n → Wrote before after 0 n (printed_copy straighten text)
   unfolding printed_copy
   printed_copy_lem n g =
       let k = counted-kept (plan_refusal text) r (length (copy_of straighten text)) n by_plan g in
@@ -101,7 +94,7 @@ module _ (straighten : Bool) (text before : List ℕ) (r : Counted) (after : Lis
       let count : n ≡ length (copy_of straighten text) = k.1 in
       rw k.0 (record { place = omega arith; fits = omega (arith, copy-fits text k.0 straighten); written = rw count given })
 
-  pub printed-refusal : (x : Refusal) (after₁ : List ℕ) (n : ℕ) → r ≡ Refused x → Wrote after after₁ 0 n (refused_line x.rule x.line)
+  pub printed-refusal : (x : Refusal) (after₁ : List ℕ) (n : ℕ) → r ≡ Err x → Wrote after after₁ 0 n (refused_line x.rule x.line)
       → Wrote before after₁ 0 n (printed_copy straighten text)
   unfolding printed_copy
   printed-refusal x after₁ n g w =
@@ -112,7 +105,7 @@ module _ (straighten : Bool) (text before : List ℕ) (r : Counted) (after : Lis
 -- ---- the answer as a number
 
 -- a copy has at most 32,768 bytes, and a refusal's line is a line of the text or 0
-pub copy_carried : (straighten : Bool) (text before : List ℕ) (r : Counted) (after : List ℕ) → Copied (copy_of straighten text) text before r after → counted_high r < 2 ^ 40
+pub copy_carried : (straighten : Bool) (text before : List ℕ) (r : Result ℕ Refusal) (after : List ℕ) → Copied (copy_of straighten text) text before r after → counted_high r < 2 ^ 40
 unfolding copy_refusal
 copy_carried straighten text before r after t =
     counted_carried (copy_refusal text (length before)) r (length (copy_of straighten text)) t.answer (λ e. omega (arith, fits e)) (copy_bounded text (length before))
@@ -120,5 +113,5 @@ copy_carried straighten text before r after t =
     fits : copy_refusal text (length before) ≡ none → length (copy_of straighten text) ≤ max_bytes
     fits e = copy-fits text (first-none (refused_if 1 (ltb (length before) max_bytes)) (plan_refusal text) e).1 straighten
 
-pub copy-number : (copy text before : List ℕ) (r : Counted) (after : List ℕ) (v : ℕ) → Copied copy text before r after → v ≡ counted_number r → CopiedNumber copy text before v after
+pub copy-number : (copy text before : List ℕ) (r : Result ℕ Refusal) (after : List ℕ) (v : ℕ) → Copied copy text before r after → v ≡ counted_number r → CopiedNumber copy text before v after
 copy-number copy text before r after v t e = record { counted = r; number = e; copied = t }

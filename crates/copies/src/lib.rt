@@ -3,48 +3,30 @@
 #![tactic(auto)]
 
 ghost use Rattle.std.specs.Prelude.{◌≤◌, length};
-ghost use Rattle.limits.specs.Limits.{max_bytes, max_forms};
+ghost use Rattle.limits.specs.Limits.{max_bytes};
 ghost use Rattle.laws.specs.Wrote.{Wrote};
 ghost use Rattle.copies.specs.Copies.{copy_of, Copied, CopiedNumber, printed_copy};
 
-use answers::Counted;
 use limits::{MAX_BYTES, MAX_FORMS};
-use plan::Reading;
 use text::Refusal;
 
-// The tidy copy of a text, or the straightened one, by way of a table of forms.
-fn copy_forms(text: &[u8], straighten: bool, out: &mut [u8], table: &mut [u64]) -> Counted
-    requires { max_forms ≤ length table.old }
+// The tidy copy of a text, or the straightened one.
+pub fn write_copy(text: &[u8], straighten: bool, out: &mut [u8]) -> Result<usize, Refusal>
     ensures { Copied (copy_of straighten text.now) text.now out.old result out.new }
 {
     if out.len() < MAX_BYTES {
-        return Counted::Refused(Refusal { rule: 1, line: 0 });
+        return Err(Refusal { rule: 1, line: 0 });
     }
-    let checked = checked::read_text(text, table);
-    let reading = checked.reading;
-    match reading {
-        Reading::Accepted(n) => {
-            let used = bare_text::write_forms(&table[0..n], straighten, out);
-            Counted::Count(used)
-        }
-        Reading::Refused(refusal) => Counted::Refused(refusal),
-    }
-}
-
-// The same with a table of its own.
-pub fn write_copy(text: &[u8], straighten: bool, out: &mut [u8]) -> Counted
-    ensures { Copied (copy_of straighten text.now) text.now out.old result out.new }
-{
     let mut table = [0u64; MAX_FORMS];
-    copy_forms(text, straighten, out, &mut table)
+    let plan = checked::read_text(text, &mut table)?;
+    Ok(bare_text::write_forms(&table[..plan.forms], straighten, out))
 }
 
 // The same with the answer as a number.
 pub fn copy_number(text: &[u8], straighten: bool, out: &mut [u8]) -> u64
     ensures { CopiedNumber (copy_of straighten text.now) text.now out.old result out.new }
 {
-    let copied = write_copy(text, straighten, out);
-    answers::counted_number(copied)
+    answers::counted_number(write_copy(text, straighten, out))
 }
 
 // What a program prints of a text: its tidy copy or the straightened one, or the line of its refusal.
@@ -52,9 +34,8 @@ pub fn put_printed(text: &[u8], straighten: bool, out: &mut [u8]) -> usize
     requires { max_bytes ≤ length out.old }
     ensures { Wrote out.old out.new 0 result (printed_copy straighten text.now) }
 {
-    let copied = write_copy(text, straighten, out);
-    match copied {
-        Counted::Count(n) => n,
-        Counted::Refused(refusal) => report_lines::put_refused(out, 0, refusal.rule, refusal.line),
+    match write_copy(text, straighten, out) {
+        Ok(n) => n,
+        Err(refusal) => report_lines::put_refused(out, 0, refusal.rule, refusal.line),
     }
 }

@@ -8,8 +8,7 @@ use lib.ListN.{length}
 use Rattle.laws.specs.Bytes.{bytes}
 use Rattle.laws.specs.Wrote.{Wrote}
 use Rattle.laws.proofs.Wrote.{wrote_none, wrote-three}
-use Rattle.report_lines.specs.Lines.{pair_form, pair_form_room}
-use Rattle.report_lines.proofs.WholeLines.{form-within}
+use Rattle.report_lines.specs.Lines.{pair_form}
 use Rattle.couples.specs.Couples.{couple, crosses}
 use Rattle.couple_lines.specs.CoupleLines.{couple_line, crossing_line, couple_line_room}
 
@@ -26,7 +25,3 @@ module _ (v w at : ℕ) (out : List ℕ) (q : Bool) (e : q ≡ crosses v w) wher
   pub crossing-none : q ≡ false → at + couple_line_room ≤ length out → Wrote out out at at (crossing_line v w)
   unfolding crossing_line
   crossing-none z h = let t : crosses v w ≡ false = sym e ∙ z in rw t (wrote_none out at (omega arith))
-
--- a pair behind other bytes
-pub behind-short : (o o₁ o₂ before : List ℕ) (at i r w : ℕ) → Wrote o o₁ at i before → Wrote o₁ o₂ i r (pair_form w) → r ≤ at + length before + pair_form_room
-behind-short o o₁ o₂ before at i r w a b = omega (arith, a.place, b.place, form-within w)

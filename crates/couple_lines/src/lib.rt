@@ -1,6 +1,6 @@
 // What the program `crossings` prints of two threads: their couples, line by line and part by part into a lent buffer. Each function writes at a place and answers the place behind
 // what it wrote; the rest of the buffer is kept.
-#![tactic(auto)]
+#![tactic(auto, using(report_lines::proofs::Widths::widths))]
 
 ghost use Rattle.std.specs.Prelude.{◌≡◌, [], ◌++◌, ◌+◌, ◌≤◌, length, get_or};
 ghost use Rattle.limits.specs.Limits.{max_pair_words};
@@ -95,11 +95,9 @@ fn put_couples(v: Pair, others: &[u64], out: &mut [u8]) -> usize
     ensures { Wrote out.old out.new 0 result (couples_part (pairs_from others.now) (pair_in v)) }
 {
     let mut i: usize = 0;
-    let mut k: usize = 0;
-    while k < others.len() / 3 {
+    for k in 0..others.len() / 3 {
         let w = couples::pair_at(others, k);
         i = put_crossing(out, i, v, w);
-        k += 1;
     }
     i
 }
@@ -109,12 +107,11 @@ fn count_couples(one: &[u64], two: &[u64]) -> usize
     requires { (length one.now ≤ max_pair_words) × (length two.now ≤ max_pair_words) }
     ensures { result ≡ length (couples_of (pairs_from one.now) (pairs_from two.now)) }
 {
-    let mut words = [0u64; 0];
-    let mut bytes = [0u8; 0];
-    couples::find_couples(one, two, &mut words, &mut bytes)
+    couples::find_couples(one, two, &mut [], &mut [])
 }
 
 // Part k of what is printed of two threads with these pairs: how many bytes of it stand at the start of `out`, 0 past the last part.
+// Kept: 0 is no mark of the end. It is the length of an empty part, as of a pair that crosses none, and `put_part` promises the part of `couples_parts` there.
 pub fn put_part(
     first: u64,
     second: u64,

@@ -1,11 +1,13 @@
 -- Pairs read back from a list of words: there is one for every three words, and pair i is that of the words from 3 i on. The words of pairs give these pairs back (`from_words`): a
 -- pair has no more than 64 claims. So do those of a thread of an accepted plan (`thread-records`).
-use Prim.Native.Nat.{ℕ, zero, suc, ◌+◌, ◌*◌, ◌/◌, ◌%◌, ◌^◌, ◌<◌}
+use Prim.Native.Nat.{ℕ, suc, ◌*◌, ◌/◌, ◌%◌, ◌^◌, ◌<◌}
 use native.Mathlib.Omega.{arith}
-use mathlib.Core.List.{List, [], ◌∷◌, flat_map, Memᴰ}
-use mathlib.Core.Path.{◌≡◌, refl, ap, ap₂, ◌∙◌}
+use mathlib.Core.List.{List, [], ◌∷◌, map, flat_map, Memᴰ}
+use mathlib.Core.Path.{◌≡◌, refl, sym, ap, ap₂, ◌∙◌}
 use lib.Bits.{bit_or, or_shifted}
 use lib.ListN.{length, get_or}
+use Rattle.std.specs.Simd.{first_chunks}
+use Rattle.std.proofs.lemmas.List.{get_or-map, length-map}
 use Rattle.limits.specs.Limits.{claim_count, mask_size}
 use Rattle.semantics.specs.Plan.{Block, LockPlan, Sound, thread_proc}
 use Rattle.semantics.specs.Run.{start}
@@ -18,7 +20,7 @@ use Rattle.semantics.proofs.Conflicts.Conflict.{pair_held}
 use Rattle.semantics.proofs.Conflicts.Characterisation.{Ranked}
 use Rattle.columns.specs.Columns.{pair_number}
 use Rattle.couples.specs.Couples.{thread_pairs}
-use Rattle.couples.specs.Records.{claims_from, pairs_from}
+use Rattle.couples.specs.Records.{claims_from, pair_of_words, pairs_from}
 
 pub from-length : (ws : List ℕ) → length (pairs_from ws) ≡ length ws / 3
 unfolding pairs_from
@@ -27,23 +29,22 @@ from-length (h ∷ []) = omega arith
 from-length (h ∷ s ∷ []) = omega arith
 from-length (h ∷ s ∷ x ∷ ws) = omega (arith, from-length ws)
 
-pub from_at : (ws : List ℕ) (i : ℕ) → i < length ws / 3
-    → pair_number (claims_from (get_or ws (3 * i) 0) (get_or ws (3 * i + 1) 0)) (get_or ws (3 * i + 2) 0) ≡ get_or (pairs_from ws) i 0
+-- they are read from the list three words at a time
+chunks-pairs : (ws : List ℕ) → map pair_of_words (first_chunks 3 (length ws / 3) ws) ≡ pairs_from ws
 unfolding pairs_from
-from_at [] i b = absurd (omega arith)
-from_at (h ∷ []) i b = absurd (omega arith)
-from_at (h ∷ s ∷ []) i b = absurd (omega arith)
-from_at (h ∷ s ∷ x ∷ ws) zero b = refl
-from_at (h ∷ s ∷ x ∷ ws) (suc i) b =
-    let e : 3 * suc i ≡ suc (suc (suc (3 * i))) = omega arith in
-    let f : 3 * suc i + 1 ≡ suc (suc (suc (3 * i + 1))) = omega arith in
-    let g : 3 * suc i + 2 ≡ suc (suc (suc (3 * i + 2))) = omega arith in
-    rw (f, g, e) (from_at ws i (omega arith))
+chunks-pairs [] = refl
+chunks-pairs (h ∷ []) = refl
+chunks-pairs (h ∷ s ∷ []) = refl
+chunks-pairs (h ∷ s ∷ x ∷ ws) =
+    let more : suc (suc (suc (length ws))) / 3 ≡ suc (length ws / 3) = omega arith in
+    rw more (ap (λ (l : List ℕ). pair_number (claims_from h s) x ∷ l) (chunks-pairs ws))
 
--- the lowest digits of a code count
-word_same : (m k l : ℕ) → k % claim_count ≡ l % claim_count → pair_number m k ≡ pair_number m l
-unfolding pair_number
-word_same m k l e = omega arith
+module _ (ws : List ℕ) (chunks : List (List ℕ)) (front : chunks ≡ first_chunks 3 (length ws / 3) ws) where
+  pub chunks-length : length chunks ≡ length (pairs_from ws)
+  chunks-length = rw (front, ← chunks-pairs ws) (sym (length-map (first_chunks 3 (length ws / 3) ws) pair_of_words))
+
+  pub chunk_pair : (i : ℕ) (d : List ℕ) → i < length chunks → pair_of_words (get_or chunks i d) ≡ get_or (pairs_from ws) i 0
+  chunk_pair i d h = sym (get_or-map pair_of_words chunks i d 0 h) ∙ ap (λ l. get_or (map pair_of_words l) i 0) front ∙ ap (λ l. get_or l i 0) (chunks-pairs ws)
 
 -- ---- as the machine reads them
 
@@ -53,10 +54,6 @@ unfolding claims_from
 machine_claims h s t e =
     let half : h * 2 ^ 32 % 2 ^ 64 ≡ h % 2 ^ 32 * 2 ^ 32 = omega arith in
     rw half (or_shifted (h % 2 ^ 32) 32 t (omega arith) ∙ omega arith)
-
-pub record_read : (ws : List ℕ) (i m k : ℕ) → i < length ws / 3 → m ≡ claims_from (get_or ws (3 * i) 0) (get_or ws (3 * i + 1) 0) → k ≡ get_or ws (3 * i + 2) 0 % claim_count
-    → pair_number m k ≡ get_or (pairs_from ws) i 0
-record_read ws i m k b e f = ap (λ n. pair_number n k) e ∙ word_same _ k (get_or ws (3 * i + 2) 0) (omega arith) ∙ from_at ws i b
 
 -- ---- the words of pairs
 

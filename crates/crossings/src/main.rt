@@ -2,12 +2,9 @@
 // prints, and what its arguments ask for, is decided by the library `crossings_text`; arguments that ask for neither, and a stream that fails, are told on standard error.
 #![tactic(auto)]
 
-ghost use Rattle.std.specs.Prelude.{◌-◌, ◌≡◌};
-
 use crossings_text::Request;
 use std::env::FillError;
 use std::rt::Env;
-use streams::TEXT_ROOM;
 
 // So many bytes of an argument are taken: a longer one is no number.
 const ARGUMENT_ROOM: usize = 64;
@@ -23,49 +20,29 @@ fn argument_count(rt: &impl Env) -> usize {
     usize::MAX
 }
 
-// How many arguments there are, of which `all` counts the program's own name too.
-fn behind_name(all: usize) -> usize
-    ensures { result ≡ all - 1 }
-{
-    if all == 0 {
-        return 0;
-    }
-    all - 1
-}
-
-// What the arguments ask for.
-fn asked(rt: &impl Env) -> Request {
+// What the arguments ask for: those behind the program's own name.
+fn asked(rt: &impl Env) -> Option<Request> {
     let mut first = [0u8; ARGUMENT_ROOM];
     let mut second = [0u8; ARGUMENT_ROOM];
     let m = rt.arg(1, &mut first).unwrap_or(0);
     let n = rt.arg(2, &mut second).unwrap_or(0);
-    let arguments = behind_name(argument_count(rt));
+    let arguments = argument_count(rt).saturating_sub(1);
     crossings_text::request_of(arguments, &first[..m], &second[..n])
-}
-
-// What is asked for of a text that was read, unless reading failed.
-fn cross_input(text: &[u8], whole: bool, request: Request) {
-    if !whole {
-        io::write_all(2, b"crossings: standard input cannot be read\n");
-        return;
-    }
-    let printed = crossing_streams::print_request(text, request);
-    if !printed.whole {
-        io::write_all(2, b"crossings: the crossings cannot be written\n");
-    }
 }
 
 fn main(rt: HostRuntime) {
     let request = asked(&rt);
-    if let Request::Unknown = request {
+    if request.is_none() {
         io::write_all(
             2,
             b"crossings: wanted are no arguments, or the numbers of two threads\n",
         );
         return;
     }
-    let mut text = [0u8; TEXT_ROOM];
-    let input = streams::read_input(&rt, &mut text);
-    let n = input.bytes;
-    cross_input(&text[..n], input.whole, request);
+    streams::print_input(
+        &rt,
+        |text| crossing_streams::print_request(text, request),
+        b"crossings: standard input cannot be read\n",
+        b"crossings: the crossings cannot be written\n",
+    );
 }

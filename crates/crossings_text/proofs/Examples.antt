@@ -7,8 +7,7 @@ use Rattle.laws.specs.Bytes.{equal}
 use Rattle.laws.specs.Choice.{pick}
 use Rattle.laws.specs.Mask.{bit}
 use Rattle.text.specs.Forms.{number_in, kind_in}
-use Rattle.text.specs.Kinds.{kind_of, plan_kind, two_kind, skip_kind, thread_kind, call_kind, hold_kind, share_kind, numbered, keyword_kind}
-use Rattle.text.specs.Kinds.{between_keyword, after_keyword, number_of, append_digit, leading_of, digit_of}
+use Rattle.text.specs.Kinds.{kind_of, keyword_kind, between_keyword, after_keyword, number_of}
 use Rattle.text.specs.Lines.{split, unindented, passed_over, forms_in, forms_of, unreadable, unreadable_line, line_for, line_of}
 use Rattle.semantics.specs.Claims.{by_share, by_hold, lock_of, is_hold, fresh_to}
 use Rattle.semantics.specs.Plan.{body_in}
@@ -18,7 +17,7 @@ use Rattle.semantics.specs.Run.{up}
 use Rattle.semantics.specs.Pairs.{had_from, pairs_with, pairs_at, pair_list}
 use Rattle.semantics.specs.Conflict.{bars}
 use Rattle.plan.specs.Grammar.{in_front, behind, plan_in}
-use Rattle.plan.specs.Structure.{among, only, close_block, on_close, advance_of, misplaced, misplaced_form}
+use Rattle.plan.specs.Structure.{close_block, advance_of, misplaced, misplaced_form}
 use Rattle.plan.specs.Limits.{counted, over_limit, past_limit_from, past_limit_form, tested_by, least_bad, breaks, breaking, count_if, breaking_form}
 use Rattle.plan.specs.Rules.{too_long, lines_refusal, references_refusal, grammar_refusal, forms_refusal, plan_of, proc_form_from, lowest_from, proc_refusal}
 use Rattle.plan.specs.Rules.{recursive, idle, too_large, plan_refusal, are_no_two, crossings_refusal}
@@ -32,9 +31,9 @@ use Rattle.crossings_text.specs.Examples.{CrossingsRight}
 pub crossings-right : CrossingsRight
 unfolding printed_couples cross_head cross_open couple_line crosses couples_with couples flat_map number_bytes list_bytes cross_line cross_entry cross_row cross_rows crossings_open
     cross_number crossings_of printed_crossings are_no_two crossings_refusal digits digits_in members lines_of closing refused_line wanted_text held_text shared_text had_text pair_form by_share
-    by_hold lock_of is_hold fresh_to bars had_from pairs_with pairs_at pair_list up insert_once ascending kind_of plan_kind two_kind skip_kind thread_kind call_kind hold_kind share_kind numbered keyword_kind
-    between_keyword after_keyword number_of append_digit leading_of digit_of split unindented passed_over forms_in forms_of unreadable unreadable_line line_for line_of pick or_else bind
-    equal in_front behind plan_in among only close_block on_close advance_of misplaced misplaced_form counted over_limit past_limit_from past_limit_form tested_by least_bad number_in kind_in
+    by_hold lock_of is_hold fresh_to bars had_from pairs_with pairs_at pair_list up insert_once ascending kind_of keyword_kind
+    between_keyword after_keyword number_of split unindented passed_over forms_in forms_of unreadable unreadable_line line_for line_of pick or_else bind
+    equal in_front behind plan_in close_block advance_of misplaced misplaced_form counted over_limit past_limit_from past_limit_form tested_by least_bad number_in kind_in
     breaks breaking count_if breaking_form too_long lines_refusal references_refusal grammar_refusal forms_refusal plan_of proc_form_from lowest_from proc_refusal recursive call_mask
     join_through warshall_round reach_masks reach_mask idle join_reached too_large plan_refusal body_in size_with size_at size_of bit
 crossings-right = record {

@@ -4,16 +4,16 @@ use Prim.Native.Nat.{ℕ, ◌+◌, ◌-◌, ◌*◌, ◌<◌, ◌≤◌, min}
 use native.Mathlib.Numerals.{add-one}
 use native.Mathlib.Nat.{not-suc-le-zero}
 use native.Mathlib.Omega.{arith}
-use mathlib.Core.Bool.{true, false, not, ◌&&◌}
+use mathlib.Core.Bool.{true, false, ◌&&◌}
 use mathlib.Core.List.{List, [], ◌∷◌, foldl, Memᴰ}
 use mathlib.Core.Path.{◌≡◌, refl, sym, ap, ◌∙◌}
-use borrow.Author.Tests.{le-leb, lt-leb, eq-eqb, ne_eqb}
-use lib.Dec.{eqb}
+use borrow.Author.Tests.{le-leb}
+use Rattle.std.proofs.Common.{Some, None}
 use lib.ListN.{length, drop, get_or, drop_of_length-le}
 use lib.Seq.{drop-cons}
 use Rattle.report_lines.specs.Lines.{digits}
 use Rattle.report_lines.proofs.Digits.{value_of, digits_value, digits-some, digits-bytes}
-use Rattle.crossings_text.specs.Request.{most_asked, is_digit, all_digits, is_decimal, next_digit, asked_number, NumberRead}
+use Rattle.crossings_text.specs.Request.{most_asked, is_digit, all_digits, is_decimal, next_digit, asked_number, thread_number}
 
 number-some : (argument : List ℕ) → 0 < length argument → is_decimal argument ≡ all_digits argument
 unfolding is_decimal
@@ -28,29 +28,24 @@ module _ (argument : List ℕ) (i : ℕ) (left : all_digits (drop i argument) �
     unfolding all_digits
     turn = sym left ∙ rw (add-one, drop-cons argument i 0 h)
 
-    pub digit-passed : 48 ≤ get_or argument i 0 → get_or argument i 0 ≤ 57 → all_digits (drop (i + 1) argument) ≡ all_digits argument
-    digit-passed a b = sym (rw (le-leb 48 (get_or argument i 0) a, le-leb (get_or argument i 0) 57 b) at turn)
+    pub digit-passed : is_digit (get_or argument i 0) ≡ true → all_digits (drop (i + 1) argument) ≡ all_digits argument
+    digit-passed e = sym (rw e at turn)
 
-    none : all_digits argument ≡ false → NumberRead argument (record { known = false; number = 0 })
-    none e = record { known = sym (number-some argument (omega arith) ∙ e); number = λ f. cc }
+    pub no-digit : is_digit (get_or argument i 0) ≡ false → None ≡ thread_number argument
+    unfolding thread_number
+    no-digit e = let f : all_digits argument ≡ false = rw e at turn in rw (number-some argument (omega arith), f)
 
-    pub below-digits : get_or argument i 0 < 48 → NumberRead argument (record { known = false; number = 0 })
-    below-digits a = none (rw (lt-leb 48 (get_or argument i 0) a) at turn)
-
-    pub above-digits : 48 ≤ get_or argument i 0 → 57 < get_or argument i 0 → NumberRead argument (record { known = false; number = 0 })
-    above-digits a b = none (rw (le-leb 48 (get_or argument i 0) a, lt-leb (get_or argument i 0) 57 b) at turn)
-
-  pub number-done : (n : ℕ) → length argument ≤ i → i ≤ length argument → foldl next_digit n (drop i argument) ≡ asked_number argument
-      → NumberRead argument (record { known = not (eqb i 0); number = n })
-  unfolding all_digits is_decimal
+  pub number-done : (n : ℕ) → length argument ≤ i → 0 < length argument → foldl next_digit n (drop i argument) ≡ asked_number argument → Some n ≡ thread_number argument
+  unfolding all_digits thread_number
   number-done n h k e =
       let all : true ≡ all_digits argument = rw (drop_of_length-le argument h) at left in
       let number : n ≡ asked_number argument = rw (drop_of_length-le argument h) at e in
-      record { known = go argument all h k; number = λ f. number }
-    where
-      go : (argument : List ℕ) → true ≡ all_digits argument → length argument ≤ i → i ≤ length argument → not (eqb i 0) ≡ is_decimal argument
-      go [] a h k = rw (eq-eqb i 0 (omega arith))
-      go (b ∷ bs) a h k = rw (ne_eqb i 0 (λ z. omega arith)) a
+      rw (number-some argument k, ← all, number)
+
+pub no_number : (argument : List ℕ) → length argument ≡ 0 → None ≡ thread_number argument
+unfolding thread_number is_decimal
+no_number [] h = refl
+no_number (b ∷ bs) h = absurd (omega arith)
 
 -- ---- the number of the digits of n
 

@@ -12,7 +12,8 @@ use Rattle.text.specs.declared.Form.TheVariants.{Plan, Proc, Thread, Close, Skip
 use Rattle.text.specs.Forms.{kind_in, is_proc, is_bracket, is_close}
 use Rattle.plan.specs.declared.Counts.{Counts}
 use Rattle.plan.specs.Limits.{counted, count_if}
-use Rattle.plan.proofs.States.{Bracket, statement, one, two}
+use Rattle.plan.specs.declared.Bracket.{Bracket}
+use Rattle.plan.specs.declared.Bracket.TheVariants.{OfStatement as statement, OfOne as one, OfTwo as two}
 use Rattle.plan.proofs.States.{State, initial, first-proc, next-proc, next-thread, finished, in_block, awaits_one, awaits_two, ends-either}
 use Rattle.plan.proofs.States.{Step, begins-plan, first, next, first-thread, more-threads, ends-plan, skips, calls, holds, shares, loops, chooses}
 use Rattle.plan.proofs.States.{begins-one, begins-two, ends-proc, ends-statement, ends-one, ends-two, ends-choice}

@@ -15,8 +15,7 @@ use Rattle.laws.specs.Mask.{bit}
 use Rattle.laws.specs.Sums.{total}
 use Rattle.laws.proofs.Tests.{T_and}
 use Rattle.text.specs.Forms.{decimal, number_in, kind_in}
-use Rattle.text.specs.Kinds.{kind_of, plan_kind, two_kind, skip_kind, thread_kind, call_kind, hold_kind, share_kind, numbered, keyword_kind}
-use Rattle.text.specs.Kinds.{between_keyword, after_keyword, number_of, append_digit, leading_of, digit_of}
+use Rattle.text.specs.Kinds.{kind_of, keyword_kind, between_keyword, after_keyword, number_of}
 use Rattle.text.specs.Lines.{split, unindented, passed_over, forms_in, forms_of, unreadable, unreadable_line, line_for, line_of}
 use Rattle.semantics.specs.Claims.{by_share, by_hold, lock_of, is_hold, none_below, together, fresh_to}
 use Rattle.semantics.specs.Plan.{body_in, ◌⨾◌}
@@ -29,7 +28,7 @@ use Rattle.semantics.specs.Conflict.{bars, any, unmet, search_from}
 use Rattle.semantics.proofs.Stuck.LargestStuck.{at_hold, round, rounds}
 use Rattle.semantics.proofs.Analysis.CaseTest.{written, all_written, all, pairs_from, same_below, stuck_are, answers, passes, passes-facts}
 use Rattle.plan.specs.Grammar.{in_front, behind, plan_in}
-use Rattle.plan.specs.Structure.{among, only, close_block, on_close, advance_of, misplaced, misplaced_form}
+use Rattle.plan.specs.Structure.{close_block, advance_of, misplaced, misplaced_form}
 use Rattle.plan.specs.Limits.{counted, over_limit, past_limit_from, past_limit_form, tested_by, least_bad, breaks, breaking, count_if, breaking_form}
 use Rattle.text.specs.declared.Refusal.{Refusal}
 use Rattle.text.specs.Lines.{refusal}
@@ -57,9 +56,9 @@ right [] = true
 right (e ∷ es) = comes_out e.text e.outcome && right es
 
 examples-right : T (right (reference ++ limits))
-unfolding right comes_out reference limits rule3 rule4 rule5 rule678 later_calls idle_procs rule9 remarks shares copies loops eithers calls_below sharings decimal kind_of plan_kind two_kind skip_kind thread_kind call_kind
-    hold_kind share_kind numbered keyword_kind between_keyword after_keyword number_of append_digit leading_of digit_of split unindented passed_over forms_in forms_of unreadable unreadable_line
-    line_for line_of pick or_else bind equal in_front behind plan_in among only close_block on_close advance_of misplaced misplaced_form counted over_limit past_limit_from past_limit_form tested_by least_bad
+unfolding right comes_out reference limits rule3 rule4 rule5 rule678 later_calls idle_procs rule9 remarks shares copies loops eithers calls_below sharings decimal kind_of
+    keyword_kind between_keyword after_keyword number_of split unindented passed_over forms_in forms_of unreadable unreadable_line
+    line_for line_of pick or_else bind equal in_front behind plan_in close_block advance_of misplaced misplaced_form counted over_limit past_limit_from past_limit_form tested_by least_bad
     number_in kind_in breaks breaking count_if breaking_form too_long lines_refusal references_refusal grammar_refusal forms_refusal plan_of proc_form_from lowest_from proc_refusal recursive
     call_mask join_through warshall_round reach_masks reach_mask idle join_reached too_large plan_refusal body_in ◌⨾◌ size_with size_at size_of thread_size thread_sizes total had_from pairs_with pairs_at pair_list up down insert_once
     ascending by_share by_hold lock_of is_hold none_below together fresh_to bars move compatible with_all apart thread_at step_in step run start bit any unmet search_from at_hold round rounds written
@@ -103,6 +102,6 @@ reference-facts e m = examples-facts e (Memᴰ.append_left limits m)
 
 -- "procedure 8 has size 766", procedure 9 "size 1,534"
 pub doubling_sizes : (size_of (plan_of to8).procs 8 ≡ 766) × (size_of (plan_of to9).procs 9 ≡ 1534)
-unfolding kind_of plan_kind two_kind skip_kind thread_kind call_kind hold_kind share_kind numbered keyword_kind between_keyword after_keyword number_of append_digit leading_of digit_of
+unfolding kind_of keyword_kind between_keyword after_keyword number_of
     split unindented forms_in forms_of pick equal in_front behind plan_in plan_of body_in size_with size_at size_of
 doubling_sizes = (refl, refl)

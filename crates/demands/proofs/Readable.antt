@@ -11,8 +11,7 @@ use lib.Dec.{T}
 use lib.ListN.{length, get_or}
 use Rattle.laws.specs.Choice.{pick}
 use Rattle.text.specs.declared.Form.{Form}
-use Rattle.text.specs.declared.Kind.{Kind}
-use Rattle.text.specs.declared.Kind.TheVariants.{Known, Unknown}
+use Rattle.std.specs.Prelude.{Option as Maybe, Some, None}
 use Rattle.text.specs.Forms.{IsForm}
 use Rattle.text.specs.Kinds.{kind_of}
 use Rattle.text.specs.Lines.{split, unindented, passed_over, unknown_or, unreadable, unreadable_line}
@@ -75,11 +74,11 @@ answered (l ∷ ls) tail line = go (passed_over l) refl (kind_of (unindented l))
     o : Option ℕ
     o = unreadable (suc line) ls tail
 
-    go : (b : Bool) → passed_over l ≡ b → (k : Kind) → kind_of (unindented l) ≡ k → Answered ls tail (suc line) o
+    go : (b : Bool) → passed_over l ≡ b → (k : Maybe Form) → kind_of (unindented l) ≡ k → Answered ls tail (suc line) o
         → Answered (l ∷ ls) tail line (pick b o (unknown_or line k o))
     go true p k q x = later l ls tail (λ b. subst T (sym p ∙ b.0) tt) line o x
-    go false p (Known f) q x = later l ls tail (λ b. b.1 f ((kind-written (unindented l) f).0 q)) line o x
-    go false p Unknown q x = here (l ∷ ls) tail line (inl (omega arith, (p, (unknown-written (unindented l)).0 q)))
+    go false p (Some f) q x = later l ls tail (λ b. b.1 f ((kind-written (unindented l) f).0 q)) line o x
+    go false p None q x = here (l ∷ ls) tail line (inl (omega arith, (p, (unknown-written (unindented l)).0 q)))
 
 -- lines from 1
 module _ (text : List ℕ) where

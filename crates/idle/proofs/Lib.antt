@@ -1,3 +1,2 @@
--- The laws that the proofs of the functions cite: a procedure joined to a mask, and one turn of the search for the lowest idle one.
-pub mod JoinedMasks
+-- What the proof of rule 13 cites: the test of a procedure.
 pub mod IdleProcs

@@ -3,10 +3,11 @@ use Prim.Native.Nat.{ℕ, ◌-◌, ◌*◌, ◌/◌, ◌^◌, ◌<◌, ◌≤◌
 use native.Mathlib.Omega.{arith}
 use mathlib.Core.Path.{◌≡◌, refl, sym, ap, ◌∙◌}
 use mathlib.Core.List.{List}
-use mathlib.Core.Option.{Option, none, or_else}
+use mathlib.Core.Option.{Option, none, some, or_else}
 use lib.ListN.{length, take, drop}
 use lib.Seq.{take_at}
 use lib.Dec.{ltb, leb}
+use Rattle.std.proofs.Common.{Result, Ok, Err, IsErrAnd}
 use Rattle.laws.proofs.Tests.{first-none}
 use Rattle.laws.specs.Wrote.{Wrote, filled}
 use Rattle.laws.proofs.Wrote.{wrote-filled}
@@ -15,40 +16,36 @@ use Rattle.limits.specs.Limits.{max_pairs, max_pair_words}
 use Rattle.semantics.specs.Pairs.{words_of}
 use Rattle.semantics.proofs.Ground.Claims.{words_length as words_three}
 use Rattle.semantics.proofs.Critical.PairList.{pair_list-critical, pair_list-ascends}
-use Rattle.plan.specs.declared.Reading.{Reading}
-use Rattle.plan.specs.declared.Reading.TheVariants.{Accepted}
-use Rattle.plan.specs.declared.Reading.TheVariants as plan
 use Rattle.plan.specs.Settled.{table_plan}
 use Rattle.text.specs.declared.Refusal.{Refusal}
-use Rattle.text.specs.Lines.{refusal, forms_of}
-use Rattle.plan.specs.Rules.{refused_if, plan_of, plan_refusal, pairs_refusal, Tabled}
+use Rattle.text.specs.Lines.{refusal}
+use Rattle.plan.specs.Rules.{refused_if, plan_of, plan_refusal, pairs_refusal}
 use Rattle.buffers.specs.LittleEndian.{list_bytes}
-use Rattle.answers.specs.declared.Counted.{Counted}
-use Rattle.answers.specs.declared.Counted.TheVariants.{Count, Refused}
 use Rattle.answers.specs.Answers.{counted_of, counted_number, counted_high}
+use Rattle.checked.specs.declared.CheckedText.{CheckedText}
+use Rattle.checked.specs.Checks.{AcceptedText}
 use Rattle.pairs.specs.Words.{WordsOfPairs}
 use Rattle.listing.specs.Listed.{TablePairs, PairsFound, pairs_of, Exact, Listed, ListedBytes}
 use Rattle.answers.proofs.LineBounds.{pairs_bounded}
-use Rattle.answers.proofs.Counts.{counted-refused, counted-kept, counted_carried}
-use Rattle.plan.proofs.AcceptedTable.{accepted-ranks, accepted-few, plan-kept, plan-forms}
-use Rattle.plan.proofs.Filling.{refused-is}
+use Rattle.answers.proofs.Counts.{handed-on, counted-refused, counted-kept, counted_carried}
+use Rattle.plan.proofs.AcceptedTable.{accepted-ranks, accepted-few}
 use Rattle.plan.proofs.Kept.{unflagged}
 
 -- ---- in a table
 
 module _ (ws : List ℕ) (p procs : ℕ) (before : List ℕ) (c : procs ≡ length (table_plan ws).procs) where
-  pub table-absent : procs ≤ p → TablePairs ws p before (Refused (refusal 11 0)) before
+  pub table-absent : procs ≤ p → TablePairs ws p before (Err (refusal 11 0)) before
   unfolding counted_of
   table-absent h = rw (le-leb (length (table_plan ws).procs) p (omega arith)) (record { answer = refl; list = refl })
 
-  pub table-listed : (n : ℕ) (after : List ℕ) → p < procs → WordsOfPairs ws p before n after → TablePairs ws p before (Count n) after
+  pub table-listed : (n : ℕ) (after : List ℕ) → p < procs → WordsOfPairs ws p before n after → TablePairs ws p before (Ok n) after
   unfolding counted_of
   table-listed n after h w =
-      rw (lt-leb (length (table_plan ws).procs) p (omega arith)) (record { answer = ap Count w.count; list = wrote-filled before after 0 (3 * n) _ w.list refl })
+      rw (lt-leb (length (table_plan ws).procs) p (omega arith)) (record { answer = ap Ok w.count; list = wrote-filled before after 0 (3 * n) _ w.list refl })
 
 -- ---- in a text
 
-pub text-short : (text : List ℕ) (p lent : ℕ) (before : List ℕ) → lent < max_pair_words → PairsFound text p lent before (Refused (refusal 1 0)) before
+pub text-short : (text : List ℕ) (p lent : ℕ) (before : List ℕ) → lent < max_pair_words → PairsFound text p lent before (Err (refusal 1 0)) before
 unfolding counted_of pairs_refusal or_else
 text-short text p lent before h = rw (lt-ltb lent max_pair_words h) (record { answer = refl; list = refl })
 
@@ -57,17 +54,15 @@ pairs-refusal : (text : List ℕ) (p lent : ℕ) → max_pair_words ≤ lent →
 unfolding pairs_refusal or_else
 pairs-refusal text p lent h = rw (le-ltb lent max_pair_words h)
 
-pub text-refused : (text : List ℕ) (p lent : ℕ) (table before : List ℕ) (q : Reading) (x : Refusal) → max_pair_words ≤ lent → Tabled (plan_refusal text) text q table
-    → q ≡ plan.Refused x → PairsFound text p lent before (Refused x) before
+pub text-refused : (text : List ℕ) (p lent : ℕ) (before : List ℕ) (r : Result ℕ Refusal) (x : Refusal) → max_pair_words ≤ lent → plan_refusal text ≡ some x
+    → IsErrAnd r (λ y. y ≡ x) → PairsFound text p lent before r before
 unfolding counted_of or_else
-text-refused text p lent table before q x h t g =
-    rw (pairs-refusal text p lent h, refused-is (plan_refusal text) (length (forms_of text)) x (sym t.answer ∙ g)) (record { answer = refl; list = refl })
+text-refused text p lent before r x h k e = rw (handed-on r x e, pairs-refusal text p lent h, k) (record { answer = refl; list = refl })
 
-pub text-listed : (text : List ℕ) (p lent n : ℕ) (table before after : List ℕ) (q : Reading) (r : Counted) → max_pair_words ≤ lent → Tabled (plan_refusal text) text q table
-    → q ≡ Accepted n → TablePairs (take (n - 0) table) p before r after → PairsFound text p lent before r after
-unfolding plan_of or_else
-text-listed text p lent n table before after q r h t g w =
-    rw (pairs-refusal text p lent h, plan-kept text table q n t g) (rw (plan-forms text table q n t g) at w)
+pub text-listed : (text : List ℕ) (p lent : ℕ) (table before after : List ℕ) (plan : CheckedText) (r : Result ℕ Refusal) → max_pair_words ≤ lent → AcceptedText text plan table
+    → TablePairs (take plan.forms table) p before r after → PairsFound text p lent before r after
+unfolding or_else
+text-listed text p lent table before after plan r h a w = rw (pairs-refusal text p lent h, a.kept) (rw a.plan at w)
 
 -- ---- demand 2
 
@@ -100,13 +95,13 @@ module _ (text : List ℕ) (p lent : ℕ) (e : pairs_refusal text p lent ≡ non
 -- ---- into the caller's buffer
 
 -- as words
-pub words_listed : (text : List ℕ) (p : ℕ) (before : List ℕ) (r : Counted) (after : List ℕ) → PairsFound text p (length before) before r after → Listed text p before r after
+pub words_listed : (text : List ℕ) (p : ℕ) (before : List ℕ) (r : Result ℕ Refusal) (after : List ℕ) → PairsFound text p (length before) before r after → Listed text p before r after
 words_listed text p before r after f = record { answer = f.answer; buffer = f.list; exact = exact_pairs text p (length before) }
 
 -- as bytes: list₀ is the list before, and list with the pairs that were found
-module _ (text : List ℕ) (p : ℕ) (before list₀ : List ℕ) (r : Counted) (list : List ℕ) (f : PairsFound text p (length before / 8) list₀ r list) where
+module _ (text : List ℕ) (p : ℕ) (before list₀ : List ℕ) (r : Result ℕ Refusal) (list : List ℕ) (f : PairsFound text p (length before / 8) list₀ r list) where
   -- a refusal writes nothing
-  pub bytes-refused : (x : Refusal) (v : ℕ) → r ≡ Refused x → v ≡ counted_number r → ListedBytes text p before v before
+  pub bytes-refused : (x : Refusal) (v : ℕ) → r ≡ Err x → v ≡ counted_number r → ListedBytes text p before v before
   bytes-refused x v g k = record {
     answer = k ∙ ap counted_number f.answer;
     buffer = rw (counted-refused (pairs_refusal text p (length before / 8)) r (length (pairs_of text p)) x f.answer g);
@@ -114,17 +109,17 @@ module _ (text : List ℕ) (p : ℕ) (before list₀ : List ℕ) (r : Counted) (
   }
 
   -- by the answer
-  module _ (n : ℕ) (g : r ≡ Count n) where
+  module _ (n : ℕ) (g : r ≡ Ok n) where
     unrefused : pairs_refusal text p (length before / 8) ≡ none
     unrefused = (counted-kept (pairs_refusal text p (length before / 8)) r (length (pairs_of text p)) n f.answer g).0
 
-    count : 3 * n - 0 ≡ length (words_of (pairs_of text p))
+    count : 3 * n ≡ length (words_of (pairs_of text p))
     count = omega (arith, (counted-kept (pairs_refusal text p (length before / 8)) r (length (pairs_of text p)) n f.answer g).1, words_three (pairs_of text p))
 
-    pairs : take (3 * n - 0) list ≡ words_of (pairs_of text p)
+    pairs : take (3 * n) list ≡ words_of (pairs_of text p)
     pairs =
         let e : list ≡ filled (words_of (pairs_of text p)) list₀ = rw unrefused at f.list in
-        rw e (take_at (words_of (pairs_of text p)) (drop (length (words_of (pairs_of text p))) list₀) (3 * n - 0) (sym count))
+        rw e (take_at (words_of (pairs_of text p)) (drop (length (words_of (pairs_of text p))) list₀) (3 * n) (sym count))
 
     few : length (pairs_of text p) ≤ max_pairs
     few = few-listed text p (length before / 8) unrefused
@@ -135,13 +130,13 @@ module _ (text : List ℕ) (p : ℕ) (before list₀ : List ℕ) (r : Counted) (
     pub found_within : max_pair_words ≤ length list₀ → length list ≡ length list₀ → 3 * n ≤ length list
     found_within h k = omega (arith, count, few, words_three (pairs_of text p))
 
-    pub bytes-room : length (take (3 * n - 0) list) * 8 ≤ length before
+    pub bytes-room : length (take (3 * n) list) * 8 ≤ length before
     bytes-room = rw pairs (omega (arith, few, words_three (pairs_of text p), lent-enough text p (length before / 8) unrefused))
 
-    pub bytes-listed : (v : ℕ) (after : List ℕ) → Wrote before after 0 (length (take (3 * n - 0) list) * 8) (list_bytes 8 (take (3 * n - 0) list)) → v ≡ counted_number (Count n)
+    pub bytes-listed : (v : ℕ) (after : List ℕ) → Wrote before after 0 (length (take (3 * n) list) * 8) (list_bytes 8 (take (3 * n) list)) → v ≡ counted_number r
         → ListedBytes text p before v after
     bytes-listed v after k m = record {
-      answer = m ∙ ap counted_number (sym g ∙ f.answer);
+      answer = m ∙ ap counted_number f.answer;
       buffer = rw unrefused (wrote-filled before after 0 _ _ k refl ∙ ap (λ ws. filled (list_bytes 8 ws) before) pairs);
       exact = exact_pairs text p (length before / 8);
     }
@@ -149,10 +144,6 @@ module _ (text : List ℕ) (p : ℕ) (before list₀ : List ℕ) (r : Counted) (
 -- ---- the answer as a number
 
 -- the pairs are few, and a refusal's line is a line of the text or 0
-pub found_carried : (text : List ℕ) (p lent : ℕ) (before : List ℕ) (r : Counted) (list : List ℕ) → PairsFound text p lent before r list → counted_high r < 2 ^ 40
+pub found_carried : (text : List ℕ) (p lent : ℕ) (before : List ℕ) (r : Result ℕ Refusal) (list : List ℕ) → PairsFound text p lent before r list → counted_high r < 2 ^ 40
 found_carried text p lent before r list f =
     counted_carried (pairs_refusal text p lent) r (length (pairs_of text p)) f.answer (λ e. omega (arith, few-listed text p lent e)) (pairs_bounded text p lent)
-
-pub pairs_carried : (text : List ℕ) (p lent n : ℕ) (before : List ℕ) (r : Counted) (list : List ℕ) → PairsFound text p lent before r list → r ≡ Count n
-    → counted_high (Count n) < 2 ^ 40
-pairs_carried text p lent n before r list f g = rw (← g) (found_carried text p lent before r list f)

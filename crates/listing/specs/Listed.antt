@@ -1,5 +1,5 @@
 -- Demand 2: what the pair list promises, of its answer and of the buffer that it was lent, and what its steps leave for the next one. 01, "Pairs, verdict, schedule".
-use Rattle.std.specs.Prelude.{ℕ, ◌/◌, ◌↔◌, ◌≡◌, leb, length}
+use Rattle.std.specs.Prelude.{ℕ, ◌/◌, ◌↔◌, ◌≡◌, leb, length, Result}
 use mathlib.Core.List.{List, Memᴰ}
 use Rattle.std.proofs.Math.Option.{Option, none}
 use Rattle.laws.specs.Ascending.{Ascends}
@@ -8,7 +8,6 @@ use Rattle.text.specs.declared.Refusal.{Refusal}
 use Rattle.plan.specs.Settled.{table_plan}
 use Rattle.plan.specs.Rules.{refused_if, plan_of, pairs_refusal}
 use Rattle.buffers.specs.LittleEndian.{list_bytes}
-use Rattle.answers.specs.declared.Counted.{Counted}
 use Rattle.answers.specs.Answers.{counted_of, counted_number, written}
 
 -- the critical pairs of procedure p of a text's plan
@@ -22,7 +21,7 @@ pub record Exact (text : List ℕ) (p : ℕ) : Type 0 where
   pub ascending : Ascends (pairs_of text p)
 
 -- The pair list of procedure p: the answer, which counts pairs, and the buffer, with three words for each, and where it is given, that it is exact.
-pub record Listed (text : List ℕ) (p : ℕ) (before : List ℕ) (r : Counted) (after : List ℕ) : Type 0 where
+pub record Listed (text : List ℕ) (p : ℕ) (before : List ℕ) (r : Result ℕ Refusal) (after : List ℕ) : Type 0 where
   pub answer : r ≡ counted_of (pairs_refusal text p (length before)) (length (pairs_of text p))
   pub buffer : after ≡ written (pairs_refusal text p (length before)) (words_of (pairs_of text p)) before
   pub exact : pairs_refusal text p (length before) ≡ none → Exact text p
@@ -36,14 +35,14 @@ pub record ListedBytes (text : List ℕ) (p : ℕ) (before : List ℕ) (r : ℕ)
 -- ---- the steps
 
 -- the answer, and the list: the words of the pairs at its start and the rest kept, or as it was where something is refused
-pub record ListFound (refused : Option Refusal) (pairs before : List ℕ) (r : Counted) (after : List ℕ) : Type 0 where
+pub record ListFound (refused : Option Refusal) (pairs before : List ℕ) (r : Result ℕ Refusal) (after : List ℕ) : Type 0 where
   pub answer : r ≡ counted_of refused (length pairs)
   pub list : after ≡ written refused (words_of pairs) before
 
 -- of a procedure of a table: rule 11 where it is not there
-abbrev pub TablePairs : List ℕ → ℕ → List ℕ → Counted → List ℕ → Type 0
+abbrev pub TablePairs : List ℕ → ℕ → List ℕ → Result ℕ Refusal → List ℕ → Type 0
 TablePairs ws p before r after = ListFound (refused_if 11 (leb (length (table_plan ws).procs) p)) (pair_list (table_plan ws).procs p) before r after
 
 -- of a procedure of a text, where `lent` words are lent for them
-abbrev pub PairsFound : List ℕ → ℕ → ℕ → List ℕ → Counted → List ℕ → Type 0
+abbrev pub PairsFound : List ℕ → ℕ → ℕ → List ℕ → Result ℕ Refusal → List ℕ → Type 0
 PairsFound text p lent before r after = ListFound (pairs_refusal text p lent) (pairs_of text p) before r after

@@ -63,7 +63,7 @@ module _ (table : List ℕ) (l : Layout) (lists₀ counts₀ lists counts : List
   present : (u : ℕ) → u < l.threads → get_or l.runs u 0 < length (table_plan table).procs
   present u h = runs-present table l laid u h within.plan
 
-  module _ (n : ℕ) (c : n ≡ l.threads) (h : t < n) where
+  module _ (h : t < l.threads) where
     pub proc-there : get_or l.runs t 0 < l.procs
     proc-there = omega (arith, laid.procs-all, present t (omega arith))
 
@@ -111,8 +111,8 @@ module _ (table : List ℕ) (l : Layout) (lists₀ counts₀ lists counts : List
       }
 
   -- the end
-  pub filling_done : (n : ℕ) → n ≡ l.threads → n ≤ t → ThreadLists table l.threads lists counts
-  filling_done n c h =
+  pub filling_done : l.threads ≤ t → ThreadLists table l.threads lists counts
+  filling_done h =
       let all : (u : ℕ) → u < l.threads → ListedAt (table_plan table).procs (get_or l.runs u 0) lists counts u = λ u b. s.each u (omega arith) in
       record {
         listed = rows-listed (table_plan table).procs l.runs lists counts l.threads laid.threads-there all
@@ -127,15 +127,15 @@ module _ (table : List ℕ) (l : Layout) (lists₀ counts₀ lists counts : List
 
 -- ---- the lists in two columns, in the shape of the function's needs
 
-module _ (table : List ℕ) (l : Layout) (lists₀ counts₀ ms ks counts : List ℕ) (t : ℕ) (s : Filling table l lists₀ counts₀ (pair_numbers ms ks) counts t) (n : ℕ) (c : n ≡ l.threads) (h : t < n) where
+module _ (table : List ℕ) (l : Layout) (lists₀ counts₀ ms ks counts : List ℕ) (t : ℕ) (s : Filling table l lists₀ counts₀ (pair_numbers ms ks) counts t) (h : t < l.threads) where
   pub masks-room : max_pairs * t + max_pairs ≤ length ms
-  masks-room = omega (arith, list-room table l lists₀ counts₀ (pair_numbers ms ks) counts t s n c h, numbers-length ms ks)
+  masks-room = omega (arith, list-room table l lists₀ counts₀ (pair_numbers ms ks) counts t s h, numbers-length ms ks)
 
   pub codes_room : max_pairs * t + max_pairs ≤ length ks
-  codes_room = omega (arith, list-room table l lists₀ counts₀ (pair_numbers ms ks) counts t s n c h, numbers-length ms ks)
+  codes_room = omega (arith, list-room table l lists₀ counts₀ (pair_numbers ms ks) counts t s h, numbers-length ms ks)
 
   pub columns_more : (r : ℕ) (ms' ks' : List ℕ)
       → Wrote (pair_numbers ms ks) (pair_numbers ms' ks') (max_pairs * t) (max_pairs * t + r) (pair_list (table_plan table).procs (get_or l.runs t 0)) → length ms' ≡ length ms → length ks' ≡ length ks
       → Filling table l lists₀ counts₀ (pair_numbers ms' ks') (set counts t r) (t + 1)
   columns_more r ms' ks' p e f =
-      filling_more table l lists₀ counts₀ (pair_numbers ms ks) counts t s n c h r (pair_numbers ms' ks') p (numbers-length ms' ks' ∙ omega arith ∙ sym (numbers-length ms ks))
+      filling_more table l lists₀ counts₀ (pair_numbers ms ks) counts t s h r (pair_numbers ms' ks') p (numbers-length ms' ks' ∙ omega arith ∙ sym (numbers-length ms ks))

@@ -40,12 +40,8 @@ pub fn thread_lists(
     requires { ListsAsked table.now layout (pair_numbers masks.old codes.old) counts.old }
     ensures { ThreadLists table.now layout.threads (pair_numbers masks.new codes.new) counts.new }
 {
-    let n = layout.threads;
-    let runs = layout.runs;
-    let mut t: usize = 0;
-    while t < n {
-        let p = runs[t] as usize;
+    for t in 0..layout.threads {
+        let p = layout.runs[t] as usize;
         counts[t] = list_from(table, layout, p, masks, codes, MAX_PAIRS * t) as u64;
-        t += 1;
     }
 }

@@ -8,6 +8,7 @@ use mathlib.Core.List.{List, [], ◌∷◌}
 use mathlib.Core.Logic.{◌↔◌, ⊎_elim}
 use mathlib.Core.Option.{Option, none, some, none-ne-some, some-injective}
 use lib.ListN.{length}
+use Rattle.std.proofs.Common.{Result, Ok, Err}
 use Rattle.limits.specs.Limits.{max_pair_words}
 use Rattle.laws.specs.Ascending.{Ascends}
 use Rattle.laws.specs.Mask.{in_mask}
@@ -27,9 +28,7 @@ use Rattle.demands.proofs.Refusals.{refused-exactly, verdict-refused-exactly, pa
 use Rattle.demands.proofs.Accepted.{accepted-plan, plan-ranked, accepted-exactly, verdict-accepted-exactly, pairs-accepted-exactly, copy-accepted-exactly}
 use Rattle.demands.proofs.Accepted.{crossings-accepted-exactly, published-exactly}
 use Rattle.answers.specs.declared.Verdict.{Verdict}
-use Rattle.answers.specs.declared.Verdict.TheVariants.{Free, Deadlock, Refused}
-use Rattle.answers.specs.declared.Counted.{Counted}
-use Rattle.answers.specs.declared.Counted.TheVariants as counted
+use Rattle.answers.specs.declared.Verdict.TheVariants.{Free, Deadlock}
 use Rattle.answers.specs.Answers.{counted_of, counted_number, read_counted, verdict_number, read_verdict, written}
 use Rattle.listing.specs.Listed.{pairs_of, ListedBytes}
 use Rattle.copies.specs.Copies.{tidy_of, straight_of, Copied, CopiedNumber}
@@ -59,38 +58,38 @@ by_refusal rules Kept Refuses a first kept is = record {
     unrefused (some x) h = absurd (h x refl)
 
 -- the verdict's case of a refusal
-pub refused-is : (a : Option Refusal) (plan : LockPlan) (v : Verdict) (es : List ℕ) → Judgement a plan v es → (x : Refusal) → (v ≡ Refused x) ↔ (a ≡ some x)
+pub refused-is : (a : Option Refusal) (plan : LockPlan) (v : Result Verdict Refusal) (es : List ℕ) → Judgement a plan v es → (x : Refusal) → (v ≡ Err x) ↔ (a ≡ some x)
 unfolding Judgement
-refused-is a plan Free es j x = (λ e. let z : ◌≡◌ {A = ℕ} 0 1 = cc in absurd (omega arith), λ e. absurd (none-ne-some x (sym j.0 ∙ e)))
-refused-is a plan (Deadlock n S) es j x = (λ e. let z : ◌≡◌ {A = ℕ} 0 1 = cc in absurd (omega arith), λ e. absurd (none-ne-some x (sym j.0 ∙ e)))
-refused-is a plan (Refused y) es j x = (λ e. let i : y ≡ x = cc in j.0 ∙ ap {B = Option Refusal} some i, λ e. ap Refused (some-injective y x (sym j.0 ∙ e)))
+refused-is a plan (Ok Free) es j x = (λ e. cc, λ e. absurd (none-ne-some x (sym j.0 ∙ e)))
+refused-is a plan (Ok (Deadlock n S)) es j x = (λ e. cc, λ e. absurd (none-ne-some x (sym j.0 ∙ e)))
+refused-is a plan (Err y) es j x = (λ e. let i : y ≡ x = cc in j.0 ∙ ap {B = Option Refusal} some i, λ e. ap Err (some-injective y x (sym j.0 ∙ e)))
 
-pub no_schedule : (a : Option Refusal) (plan : LockPlan) (v : Verdict) (es : List ℕ) → Judgement a plan v es → (x : Refusal) → v ≡ Refused x → es ≡ []
+pub no_schedule : (a : Option Refusal) (plan : LockPlan) (v : Result Verdict Refusal) (es : List ℕ) → Judgement a plan v es → (x : Refusal) → v ≡ Err x → es ≡ []
 unfolding Judgement
-no_schedule a plan Free es j x e = j.1
-no_schedule a plan (Deadlock n S) es j x e = let z : ◌≡◌ {A = ℕ} 0 1 = cc in absurd (omega arith)
-no_schedule a plan (Refused y) es j x e = j.1
+no_schedule a plan (Ok Free) es j x e = j.1
+no_schedule a plan (Ok (Deadlock n S)) es j x e = cc
+no_schedule a plan (Err y) es j x e = j.1
 
-verdict-refuses : (text : List ℕ) (lent : ℕ) (v : Verdict) (es before after : List ℕ) → Judgement (verdict_refusal text lent) (plan_of text) v es → (es ≡ [] → after ≡ before)
+verdict-refuses : (text : List ℕ) (lent : ℕ) (v : Result Verdict Refusal) (es before after : List ℕ) → Judgement (verdict_refusal text lent) (plan_of text) v es → (es ≡ [] → after ≡ before)
     → VerdictRefuses text lent v before after
 verdict-refuses text lent v es before after j h =
     let a = verdict_refusal text lent in
     record {
-      exactly = by_refusal _ _ (λ x. v ≡ Refused x) a (λ r l. verdict-refused-exactly text r l lent) (verdict-accepted-exactly text lent) (refused-is a (plan_of text) v es j);
+      exactly = by_refusal _ _ (λ x. v ≡ Err x) a (λ r l. verdict-refused-exactly text r l lent) (verdict-accepted-exactly text lent) (refused-is a (plan_of text) v es j);
       nothing_written = λ x e. h (no_schedule a (plan_of text) v es j x e);
     }
 
 -- an answer that says how much, or the refusal
-counted-refuses : (rules : List Rule) (Kept : Type 0) (a : Option Refusal) (n : ℕ) (r : Counted) → ((q l : ℕ) → (a ≡ some (refusal q l)) ↔ FirstBroken rules q l)
-    → ((a ≡ none) ↔ Kept) → r ≡ counted_of a n → RefusesExactly rules Kept (λ x. r ≡ counted.Refused x)
-counted-refuses rules Kept a n r first kept e = rw e (by_refusal rules Kept (λ x. counted_of a n ≡ counted.Refused x) a first kept (counted_is a n))
+counted-refuses : (rules : List Rule) (Kept : Type 0) (a : Option Refusal) (n : ℕ) (r : Result ℕ Refusal) → ((q l : ℕ) → (a ≡ some (refusal q l)) ↔ FirstBroken rules q l)
+    → ((a ≡ none) ↔ Kept) → r ≡ counted_of a n → RefusesExactly rules Kept (λ x. r ≡ Err x)
+counted-refuses rules Kept a n r first kept e = rw e (by_refusal rules Kept (λ x. counted_of a n ≡ Err x) a first kept (counted_is a n))
 
 -- and what it leaves in the buffer
-unwritten : (a : Option Refusal) (n : ℕ) (r : Counted) (given before after : List ℕ) → r ≡ counted_of a n → after ≡ written a given before
-    → (x : Refusal) → r ≡ counted.Refused x → after ≡ before
+unwritten : (a : Option Refusal) (n : ℕ) (r : Result ℕ Refusal) (given before after : List ℕ) → r ≡ counted_of a n → after ≡ written a given before
+    → (x : Refusal) → r ≡ Err x → after ≡ before
 unwritten a n r given before after e b x h = rw ((counted_is a n x).0 (sym e ∙ h)) at b
 
-pairs_refuse : (text : List ℕ) (p lent n : ℕ) (r : Counted) (given before after : List ℕ) → r ≡ counted_of (pairs_refusal text p lent) n
+pairs_refuse : (text : List ℕ) (p lent n : ℕ) (r : Result ℕ Refusal) (given before after : List ℕ) → r ≡ counted_of (pairs_refusal text p lent) n
     → after ≡ written (pairs_refusal text p lent) given before → PairsRefuse text p lent r before after
 pairs_refuse text p lent n r given before after e b =
     let a = pairs_refusal text p lent in
@@ -99,7 +98,7 @@ pairs_refuse text p lent n r given before after e b =
       nothing_written = unwritten a n r given before after e b;
     }
 
-copy-refuses : (copy text before after : List ℕ) (r : Counted) → Copied copy text before r after → CopyRefuses text (length before) r before after
+copy-refuses : (copy text before after : List ℕ) (r : Result ℕ Refusal) → Copied copy text before r after → CopyRefuses text (length before) r before after
 copy-refuses copy text before after r d =
     let a = copy_refusal text (length before) in
     let n = length copy in
@@ -108,11 +107,11 @@ copy-refuses copy text before after r d =
       nothing_written = unwritten a n r copy before after d.answer d.output;
     }
 
-space-refuses : (text : List ℕ) (r : Counted) → Needs text r → SpaceRefuses text r
+space-refuses : (text : List ℕ) (r : Result ℕ Refusal) → Needs text r → SpaceRefuses text r
 unfolding needed_entries
 space-refuses text r e = counted-refuses _ _ (plan_refusal text) (thread_sizes (plan_of text)) r (λ r l. refused-exactly text r l) (accepted-exactly text) e
 
-crossings_refuse : (text : List ℕ) (t u n : ℕ) (r : Counted) (given before after : List ℕ) → r ≡ counted_of (crossings_refusal text t u) n
+crossings_refuse : (text : List ℕ) (t u n : ℕ) (r : Result ℕ Refusal) (given before after : List ℕ) → r ≡ counted_of (crossings_refusal text t u) n
     → after ≡ written (crossings_refusal text t u) given before → CrossingsRefuse text t u r before after
 crossings_refuse text t u n r given before after e b =
     let a = crossings_refusal text t u in
@@ -177,7 +176,7 @@ module _ (text : List ℕ) (p lent : ℕ) (x : AcceptedText text) (there : p < l
   unrefused : pairs_refusal text p lent ≡ none
   unrefused = (pairs-accepted-exactly text p lent).1 (enough, x, there)
 
-  lists_exactly : (r : Counted) → r ≡ counted_of (pairs_refusal text p lent) (length (pairs_of text p)) → ListsExactly x.plan.procs p r (pairs_of text p)
+  lists_exactly : (r : Result ℕ Refusal) → r ≡ counted_of (pairs_refusal text p lent) (length (pairs_of text p)) → ListsExactly x.plan.procs p r (pairs_of text p)
   unfolding counted_of
   lists_exactly r e = record {
     number = e ∙ rw unrefused;
@@ -201,51 +200,51 @@ demand_2 text before after = record {
 
 -- ---- demand 3
 
-pub judges_exactly : (plan : LockPlan) (v : Verdict) (es : List ℕ) → Judgement none plan v es → JudgesExactly plan v es
+pub judges_exactly : (plan : LockPlan) (v : Result Verdict Refusal) (es : List ℕ) → Judgement none plan v es → JudgesExactly plan v es
 unfolding Judgement
-judges_exactly plan Free es j = record {
+judges_exactly plan (Ok Free) es j = record {
   free = (λ _. j.2, λ _. refl);
-  deadlock = (λ d. let e = d.2 in let z : ◌≡◌ {A = ℕ} 0 1 = cc in absurd (omega arith), λ s. absurd (j.2 s.entries s.there s.set s.reached s.stuck));
-  scheduled = λ n S e. let z : ◌≡◌ {A = ℕ} 0 1 = cc in absurd (omega arith);
+  deadlock = (λ d. let e = d.2 in cc, λ s. absurd (j.2 s.entries s.there s.set s.reached s.stuck));
+  scheduled = λ n S e. cc;
 }
-judges_exactly plan (Deadlock m T) es j =
+judges_exactly plan (Ok (Deadlock m T)) es j =
     let s = j.2 in
     record {
-      free = (λ e. let z : ◌≡◌ {A = ℕ} 0 1 = cc in absurd (omega arith), λ f. absurd (f es s.there (in_mask T) s.reached s.largest.stuck));
+      free = (λ e. cc, λ f. absurd (f es s.there (in_mask T) s.reached s.largest.stuck));
       deadlock = (λ _. record { entries = es; there = s.there; set = in_mask T; reached = s.reached; stuck = s.largest.stuck }, λ _. (m, T, refl));
       scheduled = λ n S e.
           let a : m ≡ n = cc in
           let b : T ≡ S = cc in
           (j.1 ∙ a, rw b at s);
     }
-judges_exactly plan (Refused x) es j = absurd (none-ne-some x j.0)
+judges_exactly plan (Err x) es j = absurd (none-ne-some x j.0)
 
 module _ (text : List ℕ) (lent : ℕ) (x : AcceptedText text) (enough : thread_sizes x.plan ≤ lent) where
-  judged-exactly : (v : Verdict) (es : List ℕ) → Judgement (verdict_refusal text lent) (plan_of text) v es → JudgesExactly x.plan v es
+  judged-exactly : (v : Result Verdict Refusal) (es : List ℕ) → Judgement (verdict_refusal text lent) (plan_of text) v es → JudgesExactly x.plan v es
   judged-exactly v es j = judges_exactly x.plan v es (rw ((verdict-accepted-exactly text lent).1 (x, enough), accepted-plan text x) at j)
 
 -- the kind, where the rules leave a plan with ranks or refuse it: a test over lists holds or fails, and it fails exactly where no run reaches a stuck set
-kind_computed : (a : Option Refusal) (plan : LockPlan) → (a ≡ none → Ranked plan) → (v : Verdict) (es : List ℕ) → Judgement a plan v es
+kind_computed : (a : Option Refusal) (plan : LockPlan) → (a ≡ none → Ranked plan) → (v : Result Verdict Refusal) (es : List ℕ) → Judgement a plan v es
     → verdict_kind v ≡ computed_kind a (conflict_in plan)
 unfolding Judgement verdict_kind computed_kind conflict_in
-kind_computed a plan ranked Free es j = rw (j.0, T_false (conflict_in plan) ((plan-characterisation plan (ranked j.0)).free.1 j.2))
-kind_computed a plan ranked (Deadlock n S) es j =
+kind_computed a plan ranked (Ok Free) es j = rw (j.0, T_false (conflict_in plan) ((plan-characterisation plan (ranked j.0)).free.1 j.2))
+kind_computed a plan ranked (Ok (Deadlock n S)) es j =
     let s = j.2 in
     let free = (plan-characterisation plan (ranked j.0)).free in
     ⊎_elim (λ t. rw (j.0, T_true (conflict_in plan) t)) (λ f. absurd (free.0 f es s.there (in_mask S) s.reached s.largest.stuck)) (T-dec (conflict_in plan))
-kind_computed a plan ranked (Refused x) es j = rw j.0
+kind_computed a plan ranked (Err x) es j = rw j.0
 
-judged-kind : (text : List ℕ) (lent : ℕ) (v : Verdict) (es : List ℕ) → Judgement (verdict_refusal text lent) (plan_of text) v es
+judged-kind : (text : List ℕ) (lent : ℕ) (v : Result Verdict Refusal) (es : List ℕ) → Judgement (verdict_refusal text lent) (plan_of text) v es
     → verdict_kind v ≡ computed_kind (verdict_refusal text lent) (conflict_in (plan_of text))
 judged-kind text lent =
     kind_computed (verdict_refusal text lent) (plan_of text) (λ e. let x = ((verdict-accepted-exactly text lent).0 e).0 in rw (accepted-plan text x) (plan-ranked text x))
 
 -- the lowest byte of a verdict's number is its kind
-number-kind : (v : Verdict) → verdict_number v % 256 ≡ verdict_kind v
+number-kind : (v : Result Verdict Refusal) → verdict_number v % 256 ≡ verdict_kind v
 unfolding verdict_number verdict_kind
-number-kind Free = refl
-number-kind (Deadlock n S) = omega arith
-number-kind (Refused x) = omega arith
+number-kind (Ok Free) = refl
+number-kind (Ok (Deadlock n S)) = omega arith
+number-kind (Err x) = omega arith
 
 pub demand_3 : (text before after : List ℕ) → Demand3 text before after
 demand_3 text before after = record {

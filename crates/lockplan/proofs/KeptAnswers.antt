@@ -13,10 +13,12 @@ use lib.Bits.{bit_and, or_zero_r}
 use lib.Dec.{T, eqb, eqb→eq}
 use lib.ListN.{length-map}
 use borrow.Author.Tests.{ne_eqb}
+use Rattle.std.proofs.Common.{Result, Ok, Err}
 use Rattle.limits.specs.Limits.{lock_count}
 use Rattle.laws.specs.Mask.{bit, in_mask}
 use Rattle.laws.proofs.Bits.{bit-above, bit_below, bit-none, bit_quotient}
 use Rattle.laws.proofs.Tests.{T_and, and_T, eq→eqb, same_test, only}
+use Rattle.text.specs.declared.Refusal.{Refusal}
 use Rattle.semantics.specs.Plan.{Block, LockPlan, thread_proc}
 use Rattle.semantics.specs.Pairs.{had_of, wanted_word, pair_list}
 use Rattle.semantics.specs.HoldsOnly.{pair_list01, locked_plan, as_record, Crosses01}
@@ -25,7 +27,7 @@ use Rattle.plan.specs.Rules.{plan_of, plan_refusal}
 use Rattle.plan.specs.Shareless.{NoShareLine}
 use Rattle.plan.proofs.WithoutShares.{accepted-without, accepted-locked, text-answers-kept}
 use Rattle.answers.specs.declared.Verdict.{Verdict}
-use Rattle.answers.specs.declared.Verdict.TheVariants.{Free, Deadlock, Refused}
+use Rattle.answers.specs.declared.Verdict.TheVariants.{Free, Deadlock}
 use Rattle.couples.specs.Couples.{Couple, couple, crosses, couples_with, couples_of, couples}
 use Rattle.couples.proofs.Members.{crosses-is}
 use Rattle.report_lines.specs.Lines.{digits, members, lines_of, behind_blank, wanted_text, held_text, shared_text, lock_text, had_text, pair_form, pair_line, proc_lines, report_open}
@@ -114,7 +116,7 @@ module _ (h : ℕ) (small : h < 2 ^ lock_count) where
       let held : bit (h * 2 ^ lock_count) (k + lock_count) ≡ 1 =
       ap₂ bit (sym set) (omega arith) ∙ bit-above lock_count h 0 k (omega arith) ∙ e in
       let shared : bit (h * 2 ^ lock_count) k ≡ 0 = ap (λ x. bit x k) (sym set) ∙ bit_below lock_count h 0 k b ∙ bit-none k in
-      rw (held, shared) (append-nil (behind_blank k))
+      rw (held, shared) (append-nil (behind_blank k ++ []) ∙ append-nil (behind_blank k))
 
   none-high : (k : ℕ) → bit h (lock_count + k) ≡ 0
   none-high k =
@@ -152,11 +154,11 @@ module _ (ps qs : List Block) (same : (p : ℕ) → pair_list ps p ≡ map as_re
   parts_kept (suc n) p rest = ap₂ ◌∷◌ (rw (same p, lines-kept (pair_list01 qs p) (small p))) (parts_kept n (suc p) rest)
 
 -- as many procedures are reported
-procedures-kept : (v : Verdict) (plan : LockPlan) → procedures v plan ≡ procedures v (locked_plan plan)
+procedures-kept : (v : Result Verdict Refusal) (plan : LockPlan) → procedures v plan ≡ procedures v (locked_plan plan)
 unfolding procedures
-procedures-kept Free plan = sym (length-map plan.procs _)
-procedures-kept (Deadlock n S) plan = sym (length-map plan.procs _)
-procedures-kept (Refused x) plan = refl
+procedures-kept (Ok Free) plan = sym (length-map plan.procs _)
+procedures-kept (Ok (Deadlock n S)) plan = sym (length-map plan.procs _)
+procedures-kept (Err x) plan = refl
 
 pub kept-answers : (text : List ℕ) → plan_refusal text ≡ none → NoShareLine text → KeptAnswers text
 unfolding couples parts_of parts_of01

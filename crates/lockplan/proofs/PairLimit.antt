@@ -10,6 +10,7 @@ use mathlib.Core.Path.{◌≡◌, refl, sym, ap, subst, ◌∙◌}
 use lib.Dec.{eqb}
 use lib.ListN.{length}
 use borrow.Author.Tests.{lt-ltb, eq-eqb}
+use Rattle.std.proofs.Common.{Result, Err}
 use Rattle.limits.specs.Limits.{max_pair_words}
 use Rattle.laws.proofs.Ascending.{ascends-length}
 use Rattle.text.specs.declared.Refusal.{Refusal}
@@ -24,9 +25,6 @@ use Rattle.plan.proofs.AcceptedTable.{accepted-ranks}
 use Rattle.demands.specs.Broken.{Rule, rule, OfPlan, AbsentRequest, form_rules, rules_in_file, plan_rules, verdict_rules, pairs_rules, copy_rules, crossings_rules, FirstBroken, AcceptedText}
 use Rattle.demands.proofs.Refusals.{refused-exactly, pairs-refused-exactly, crossings-refused-exactly}
 use Rattle.demands.proofs.Accepted.{accepted-plan, accepted-exactly, published-exactly}
-use Rattle.answers.specs.declared.Verdict.TheVariants as verdict
-use Rattle.answers.specs.declared.Counted.{Counted}
-use Rattle.answers.specs.declared.Counted.TheVariants.{Refused}
 use Rattle.answers.specs.Answers.{counted_of, read_counted, read_verdict}
 use Rattle.answers.proofs.Counts.{counted_is, counted-kept}
 use Rattle.listing.specs.Listed.{pairs_of}
@@ -108,29 +106,29 @@ module _ (text : List ℕ) where
   rule_ten_unused = record {
     plan = λ x e. no_number (plan_rules text) 10 plan-numbers x ((refused-exactly text x.rule x.line).0 e);
     crossing = λ t u x e. no_number (crossings_rules text t u) 10 (crossings-numbers t u) x ((crossings-refused-exactly text x.rule x.line t u).0 e);
-    judge = λ before v after d. never_ten _ _ (λ x. v ≡ verdict.Refused x) (verdict-numbers (length before)) ((demand_1 text before after).judge v d).exactly;
+    judge = λ before v after d. never_ten _ _ (λ x. v ≡ Err x) (verdict-numbers (length before)) ((demand_1 text before after).judge v d).exactly;
     lockplan_verdict = λ before n after d.
-        never_ten _ _ (λ x. read_verdict n ≡ verdict.Refused x) (verdict-numbers (length before / 2)) ((demand_1 text before after).lockplan_verdict n d).exactly;
-    pair-list = λ p before r after d. never_ten _ _ (λ x. r ≡ Refused x) (pairs-numbers p (length before)) ((demand_1 text before after).pair-list p r d).exactly;
+        never_ten _ _ (λ x. read_verdict n ≡ Err x) (verdict-numbers (length before / 2)) ((demand_1 text before after).lockplan_verdict n d).exactly;
+    pair-list = λ p before r after d. never_ten _ _ (λ x. r ≡ Err x) (pairs-numbers p (length before)) ((demand_1 text before after).pair-list p r d).exactly;
     lockplan_pairs = λ p before n after d.
-        never_ten _ _ (λ x. read_counted n ≡ Refused x) (pairs-numbers p (length before / 8)) ((demand_1 text before after).lockplan_pairs p n d).exactly;
-    tidy = λ before r after d. never_ten _ _ (λ x. r ≡ Refused x) (copy-numbers (length before)) ((demand_1 text before after).tidy r d).exactly;
+        never_ten _ _ (λ x. read_counted n ≡ Err x) (pairs-numbers p (length before / 8)) ((demand_1 text before after).lockplan_pairs p n d).exactly;
+    tidy = λ before r after d. never_ten _ _ (λ x. r ≡ Err x) (copy-numbers (length before)) ((demand_1 text before after).tidy r d).exactly;
     lockplan_tidy = λ before n after d.
-        never_ten _ _ (λ x. read_counted n ≡ Refused x) (copy-numbers (length before)) ((demand_1 text before after).lockplan_tidy n d).exactly;
-    straight = λ before r after d. never_ten _ _ (λ x. r ≡ Refused x) (copy-numbers (length before)) ((demand_1 text before after).straight r d).exactly;
+        never_ten _ _ (λ x. read_counted n ≡ Err x) (copy-numbers (length before)) ((demand_1 text before after).lockplan_tidy n d).exactly;
+    straight = λ before r after d. never_ten _ _ (λ x. r ≡ Err x) (copy-numbers (length before)) ((demand_1 text before after).straight r d).exactly;
     lockplan_straight = λ before n after d.
-        never_ten _ _ (λ x. read_counted n ≡ Refused x) (copy-numbers (length before)) ((demand_1 text before after).lockplan_straight n d).exactly;
-    space = λ r d. never_ten _ _ (λ x. r ≡ Refused x) plan-numbers ((demand_1 text [] []).space r d);
-    lockplan_space = λ n d. never_ten _ _ (λ x. read_counted n ≡ Refused x) plan-numbers ((demand_1 text [] []).lockplan_space n d);
-    crossings = λ t u before r after d. never_ten _ _ (λ x. r ≡ Refused x) (crossings-numbers t u) ((demand_1 text before after).crossings t u r d).exactly;
+        never_ten _ _ (λ x. read_counted n ≡ Err x) (copy-numbers (length before)) ((demand_1 text before after).lockplan_straight n d).exactly;
+    space = λ r d. never_ten _ _ (λ x. r ≡ Err x) plan-numbers ((demand_1 text [] []).space r d);
+    lockplan_space = λ n d. never_ten _ _ (λ x. read_counted n ≡ Err x) plan-numbers ((demand_1 text [] []).lockplan_space n d);
+    crossings = λ t u before r after d. never_ten _ _ (λ x. r ≡ Err x) (crossings-numbers t u) ((demand_1 text before after).crossings t u r d).exactly;
     lockplan_crossings = λ t u before n after d.
-        never_ten _ _ (λ x. read_counted n ≡ Refused x) (crossings-numbers t u) ((demand_1 text before after).lockplan_crossings t u n d).exactly;
+        never_ten _ _ (λ x. read_counted n ≡ Err x) (crossings-numbers t u) ((demand_1 text before after).lockplan_crossings t u n d).exactly;
   }
 
 -- ---- the pair list
 
-module _ (text : List ℕ) (p lent : ℕ) (r : Counted) (e : r ≡ counted_of (pairs_refusal text p lent) (length (pairs_of text p))) where
-  shorter : lent < max_pair_words → r ≡ Refused (refusal 1 0)
+module _ (text : List ℕ) (p lent : ℕ) (r : Result ℕ Refusal) (e : r ≡ counted_of (pairs_refusal text p lent) (length (pairs_of text p))) where
+  shorter : lent < max_pair_words → r ≡ Err (refusal 1 0)
   unfolding pairs_refusal counted_of or_else
   shorter h = e ∙ rw (lt-ltb lent max_pair_words h)
 

@@ -5,12 +5,13 @@ use mathlib.Core.List.{List, ◌∷◌}
 use mathlib.Core.Logic.{◌↔◌}
 use mathlib.Core.Path.{◌≡◌, refl, sym, ap, ap₂}
 use lib.ListN.{length}
+use Rattle.std.proofs.Common.{Result, Ok, Err}
+use Rattle.text.specs.declared.Refusal.{Refusal}
 use Rattle.semantics.specs.Plan.{Block, LockPlan}
 use Rattle.semantics.specs.Pairs.{pair_list}
 use Rattle.plan.specs.Rules.{plan_refusal, plan_of, pairs_refusal, crossings_refusal}
 use Rattle.answers.specs.declared.Verdict.{Verdict}
-use Rattle.answers.specs.declared.Verdict.TheVariants.{Free, Deadlock, Refused}
-use Rattle.answers.specs.declared.Counted.{Counted}
+use Rattle.answers.specs.declared.Verdict.TheVariants.{Free, Deadlock}
 use Rattle.listing.specs.Listed.{pairs_of, Listed, ListedBytes}
 use Rattle.listing.proofs.ListedPairs.{exact_pairs}
 use Rattle.couples.specs.Couples.{couples_of, couples}
@@ -36,7 +37,7 @@ module _ (s t : List ℕ) (a : AgreeInPairs s t) where
   unfolding pairs_refusal
   same-refused p lent = rw (a.refused, a.procs)
 
-  listed_too : (p : ℕ) (before : List ℕ) (r : Counted) (after : List ℕ) → Listed s p before r after → Listed t p before r after
+  listed_too : (p : ℕ) (before : List ℕ) (r : Result ℕ Refusal) (after : List ℕ) → Listed s p before r after → Listed t p before r after
   listed_too p before r after d = record {
     answer = rw (same-refused p (length before), a.pairs p) at d.answer;
     buffer = rw (same-refused p (length before), a.pairs p) at d.buffer;
@@ -58,7 +59,7 @@ module _ (s t : List ℕ) (a : AgreeInPairs s t) where
   unfolding couples
   same-couples i j = rw a.threads (ap₂ couples_of (a.pairs _) (a.pairs _))
 
-  crossed_too : (i j : ℕ) (before : List ℕ) (r : Counted) (after : List ℕ) → Crossed s i j before r after → Crossed t i j before r after
+  crossed_too : (i j : ℕ) (before : List ℕ) (r : Result ℕ Refusal) (after : List ℕ) → Crossed s i j before r after → Crossed t i j before r after
   crossed_too i j before r after d = record {
     answer = rw (same-two i j, same-couples i j) at d.answer;
     buffer = rw (same-two i j, same-couples i j) at d.buffer;
@@ -75,13 +76,13 @@ module _ (s t : List ℕ) (a : AgreeInPairs s t) where
 -- ---- both ways
 
 module _ (s t : List ℕ) (a : AgreeInPairs s t) where
-  pub same-pairs : (p : ℕ) (before : List ℕ) (r : Counted) (after : List ℕ) → Listed s p before r after ↔ Listed t p before r after
+  pub same-pairs : (p : ℕ) (before : List ℕ) (r : Result ℕ Refusal) (after : List ℕ) → Listed s p before r after ↔ Listed t p before r after
   same-pairs p before r after = (listed_too s t a p before r after, listed_too t s (agree-sym s t a) p before r after)
 
   pub same-pairs-bytes : (p : ℕ) (before : List ℕ) (n : ℕ) (after : List ℕ) → ListedBytes s p before n after ↔ ListedBytes t p before n after
   same-pairs-bytes p before n after = (listed_bytes_too s t a p before n after, listed_bytes_too t s (agree-sym s t a) p before n after)
 
-  pub same-crossings : (i j : ℕ) (before : List ℕ) (r : Counted) (after : List ℕ) → Crossed s i j before r after ↔ Crossed t i j before r after
+  pub same-crossings : (i j : ℕ) (before : List ℕ) (r : Result ℕ Refusal) (after : List ℕ) → Crossed s i j before r after ↔ Crossed t i j before r after
   same-crossings i j before r after = (crossed_too s t a i j before r after, crossed_too t s (agree-sym s t a) i j before r after)
 
   pub same-crossings-bytes : (i j : ℕ) (before : List ℕ) (n : ℕ) (after : List ℕ) → CrossedBytes s i j before n after ↔ CrossedBytes t i j before n after
@@ -96,12 +97,12 @@ same-proc_parts ps qs same zero p rest = refl
 same-proc_parts ps qs same (suc n) p rest = ap₂ ◌∷◌ (ap (proc_lines p) (same p)) (same-proc_parts ps qs same n (suc p) rest)
 
 -- of as many
-same-procedures : (v : Verdict) (plan plan' : LockPlan) → length plan.procs ≡ length plan'.procs → procedures v plan ≡ procedures v plan'
+same-procedures : (v : Result Verdict Refusal) (plan plan' : LockPlan) → length plan.procs ≡ length plan'.procs → procedures v plan ≡ procedures v plan'
 unfolding procedures
-same-procedures Free plan plan' e = e
-same-procedures (Deadlock n S) plan plan' e = e
-same-procedures (Refused x) plan plan' e = refl
+same-procedures (Ok Free) plan plan' e = e
+same-procedures (Ok (Deadlock n S)) plan plan' e = e
+same-procedures (Err x) plan plan' e = refl
 
-pub same_parts : (s t : List ℕ) → AgreeInPairs s t → (v : Verdict) (schedule : List ℕ) → parts_of s v schedule ≡ parts_of t v schedule
+pub same_parts : (s t : List ℕ) → AgreeInPairs s t → (v : Result Verdict Refusal) (schedule : List ℕ) → parts_of s v schedule ≡ parts_of t v schedule
 unfolding parts_of
 same_parts s t a v schedule = rw (same-procedures v (plan_of s) (plan_of t) a.procs) (ap (◌∷◌ report_open) (same-proc_parts (plan_of s).procs (plan_of t).procs a.pairs _ 0 _))

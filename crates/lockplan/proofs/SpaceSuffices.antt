@@ -7,6 +7,7 @@ use mathlib.Core.Option.{Option, some, or_else, none-ne-some}
 use mathlib.Core.Path.{◌≡◌, refl, sym, ap, subst, ◌∙◌}
 use lib.ListN.{length}
 use borrow.Author.Tests.{lt-ltb}
+use Rattle.std.proofs.Common.{Result, Ok, Err}
 use Rattle.text.specs.declared.Refusal.{Refusal}
 use Rattle.text.specs.Lines.{refusal}
 use Rattle.semantics.specs.Plan.{LockPlan}
@@ -17,9 +18,7 @@ use Rattle.buffers.specs.LittleEndian.{list_bytes}
 use Rattle.demands.specs.Broken.{AcceptedText}
 use Rattle.demands.proofs.Accepted.{accepted-plan, accepted-exactly, verdict-accepted-exactly}
 use Rattle.answers.specs.declared.Verdict.{Verdict}
-use Rattle.answers.specs.declared.Verdict.TheVariants.{Free, Deadlock, Refused}
-use Rattle.answers.specs.declared.Counted.TheVariants.{Count}
-use Rattle.answers.specs.declared.Counted.TheVariants as counted
+use Rattle.answers.specs.declared.Verdict.TheVariants.{Free, Deadlock}
 use Rattle.answers.specs.Judgement.{Judgement}
 use Rattle.answers.proofs.Counts.{counted-kept, counted_is}
 use Rattle.space.specs.Slip.{needed_entries, Needs, size_lines, sum_line, slip_of, printed_slip}
@@ -27,13 +26,13 @@ use Rattle.lockplan.specs.SpaceSuffices.{BufferOf, EntriesNeeded, RefusedAlike, 
 use Rattle.lockplan.proofs.Demands.{refused-is, no_schedule, verdict_carried, space_carried}
 
 -- a deadlock's schedule is no longer than the sum
-deadlock-fits : (a : Option Refusal) (plan : LockPlan) (v : Verdict) (es : List ℕ) → Judgement a plan v es → (n S : ℕ) → v ≡ Deadlock n S → n ≤ thread_sizes plan
+deadlock-fits : (a : Option Refusal) (plan : LockPlan) (v : Result Verdict Refusal) (es : List ℕ) → Judgement a plan v es → (n S : ℕ) → v ≡ Ok (Deadlock n S) → n ≤ thread_sizes plan
 unfolding Judgement
-deadlock-fits a plan Free es j n S e = let z : ◌≡◌ {A = ℕ} 0 1 = cc in absurd (omega arith)
-deadlock-fits a plan (Deadlock m T) es j n S e = let k : m ≡ n = cc in omega (arith, j.1, j.2.short)
-deadlock-fits a plan (Refused x) es j n S e = let z : ◌≡◌ {A = ℕ} 0 1 = cc in absurd (omega arith)
+deadlock-fits a plan (Ok Free) es j n S e = cc
+deadlock-fits a plan (Ok (Deadlock m T)) es j n S e = let k : m ≡ n = cc in omega (arith, j.1, j.2.short)
+deadlock-fits a plan (Err x) es j n S e = cc
 
-module _ (text : List ℕ) (x : AcceptedText text) (lent : ℕ) (v : Verdict) (es before after : List ℕ) (j : Judgement (verdict_refusal text lent) (plan_of text) v es)
+module _ (text : List ℕ) (x : AcceptedText text) (lent : ℕ) (v : Result Verdict Refusal) (es before after : List ℕ) (j : Judgement (verdict_refusal text lent) (plan_of text) v es)
     (kept : es ≡ [] → after ≡ before) where
   few : lent < thread_sizes (plan_of text) → verdict_refusal text lent ≡ some (refusal 1 0)
   unfolding verdict_refusal too_few_entries or_else
@@ -55,10 +54,10 @@ module _ (text : List ℕ) where
   unfolding printed_slip slip_of
   slip-lines x = rw ((accepted-exactly text).1 x, accepted-plan text x)
 
-  entries-needed : (n : ℕ) → Needs text (Count n) → EntriesNeeded text n
+  entries-needed : (n : ℕ) → Needs text (Ok n) → EntriesNeeded text n
   unfolding needed_entries list_bytes
   entries-needed n e =
-      let k = counted-kept (plan_refusal text) (Count n) (thread_sizes (plan_of text)) n e refl in
+      let k = counted-kept (plan_refusal text) (Ok n) (thread_sizes (plan_of text)) n e refl in
       let x = (accepted-exactly text).0 k.0 in
       rw k.1 (record {
         accepted = x;
@@ -70,7 +69,7 @@ module _ (text : List ℕ) where
         slip = slip-lines x;
       })
 
-  refused_alike : (x : Refusal) → Needs text (counted.Refused x) → RefusedAlike text x
+  refused_alike : (x : Refusal) → Needs text (Err x) → RefusedAlike text x
   unfolding needed_entries printed_slip verdict_refusal or_else
   refused_alike x e =
       let r : plan_refusal text ≡ some x = (counted_is (plan_refusal text) (thread_sizes (plan_of text)) x).0 (sym e) in

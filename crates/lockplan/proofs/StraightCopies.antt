@@ -9,6 +9,7 @@ use mathlib.Core.Logic.{◌↔◌, ⊎_elim}
 use mathlib.Core.Option.{none}
 use mathlib.Core.Path.{◌≡◌, refl, sym, ap, subst, ◌∙◌}
 use lib.ListN.{length}
+use Rattle.std.proofs.Common.{Result, Ok, Err}
 use Rattle.laws.proofs.Tests.{T-dec}
 use Rattle.text.specs.declared.Refusal.{Refusal}
 use Rattle.text.specs.Lines.{text_of}
@@ -29,8 +30,7 @@ use Rattle.straightening.proofs.Blocks.{straight-length, straight-body, straight
 use Rattle.straightening.proofs.Measures.{straight-size, straight-sum}
 use Rattle.straightening.proofs.SamePairs.{straight-pair_list, straight-free}
 use Rattle.answers.specs.declared.Verdict.{Verdict}
-use Rattle.answers.specs.declared.Verdict.TheVariants.{Free, Deadlock, Refused}
-use Rattle.answers.specs.declared.Counted.TheVariants.{Count}
+use Rattle.answers.specs.declared.Verdict.TheVariants.{Free, Deadlock}
 use Rattle.answers.specs.Answers.{read_verdict}
 use Rattle.answers.proofs.Counts.{counted-kept}
 use Rattle.listing.specs.Listed.{pairs_of}
@@ -65,9 +65,9 @@ stuck-reached plan r h =
     (T-dec (conflict_in plan))
 
 -- a verdict that is exact is no refusal: it would be neither free nor a deadlock
-not-refused : (plan : LockPlan) (x : Refusal) (es : List ℕ) → JudgesExactly plan (Refused x) es → ⊥
+not-refused : (plan : LockPlan) (x : Refusal) (es : List ℕ) → JudgesExactly plan (Err x) es → ⊥
 not-refused plan x es j =
-    let free : Refused x ≡ Free = j.free.1 (λ entries there set reached stuck.
+    let free : Err x ≡ Ok Free = j.free.1 (λ entries there set reached stuck.
     unstuck (record { entries = entries; there = there; set = set; reached = reached; stuck = stuck })) in
     let z : ◌≡◌ {A = ℕ} 0 2 = cc in
     omega arith
@@ -75,7 +75,7 @@ not-refused plan x es j =
     unstuck : StuckReached plan → ⊥
     unstuck s =
         let d = j.deadlock.1 s in
-        let e : Refused x ≡ Deadlock d.0 d.1 = d.2 in
+        let e : Err x ≡ Ok (Deadlock d.0 d.1) = d.2 in
         let z : ◌≡◌ {A = ℕ} 1 2 = cc in
         omega arith
 
@@ -85,13 +85,13 @@ module _ (plan plan' : LockPlan) (r : Ranked plan') (same : DeadlockFree plan.pr
   stuck_too s = stuck-reached plan' r (λ f. not_free plan s (same.1 f))
 
   -- verdicts, each exact
-  same-verdict : (v v' : Verdict) (es es' : List ℕ) → JudgesExactly plan v es → JudgesExactly plan' v' es' → SameVerdict v v'
+  same-verdict : (v v' : Result Verdict Refusal) (es es' : List ℕ) → JudgesExactly plan v es → JudgesExactly plan' v' es' → SameVerdict v v'
   same-verdict v v' es es' j j' = go v refl
     where
-      go : (u : Verdict) → v ≡ u → SameVerdict v v'
-      go Free e = both-free e (j'.free.1 (same.0 (j.free.0 e)))
-      go (Deadlock n S) e = let d = j'.deadlock.1 (stuck_too (j.deadlock.0 (n, S, e))) in both-deadlock n S d.0 d.1 e d.2
-      go (Refused x) e = absurd (not-refused plan x es (subst (λ u. JudgesExactly plan u es) e j))
+      go : (u : Result Verdict Refusal) → v ≡ u → SameVerdict v v'
+      go (Ok Free) e = both-free e (j'.free.1 (same.0 (j.free.0 e)))
+      go (Ok (Deadlock n S)) e = let d = j'.deadlock.1 (stuck_too (j.deadlock.0 (n, S, e))) in both-deadlock n S d.0 d.1 e d.2
+      go (Err x) e = absurd (not-refused plan x es (subst (λ u. JudgesExactly plan u es) e j))
 
 -- ---- the copy
 
@@ -155,7 +155,7 @@ module _ (text : List ℕ) (x : AcceptedText text) where
     stuck_too x.plan copy-accepted.plan (plan-ranked copy copy-accepted) (Iff.symm same-free),
   )
 
-  verdicts : (v v' : Verdict) (es es' : List ℕ) → JudgesExactly x.plan v es → JudgesExactly copy-accepted.plan v' es' → SameVerdict v v'
+  verdicts : (v v' : Result Verdict Refusal) (es es' : List ℕ) → JudgesExactly x.plan v es → JudgesExactly copy-accepted.plan v' es' → SameVerdict v v'
   verdicts = same-verdict x.plan copy-accepted.plan (plan-ranked copy copy-accepted) (Iff.symm same-free)
 
   -- the verdict of a report
@@ -180,11 +180,11 @@ module _ (text : List ℕ) (x : AcceptedText text) where
   no_more-space : thread_sizes (plan_of copy) ≤ thread_sizes (plan_of text)
   no_more-space = rw (straight-plan text kept) (straight-sum (plan_of text))
 
-  needed : (n n' : ℕ) → Needs text (Count n) → Needs copy (Count n') → n' ≤ n
+  needed : (n n' : ℕ) → Needs text (Ok n) → Needs copy (Ok n') → n' ≤ n
   unfolding needed_entries
   needed n n' a b =
-      let c = counted-kept (plan_refusal text) (Count n) (thread_sizes (plan_of text)) n a refl in
-      let d = counted-kept (plan_refusal copy) (Count n') (thread_sizes (plan_of copy)) n' b refl in
+      let c = counted-kept (plan_refusal text) (Ok n) (thread_sizes (plan_of text)) n a refl in
+      let d = counted-kept (plan_refusal copy) (Ok n') (thread_sizes (plan_of copy)) n' b refl in
       omega (arith, c.1, d.1, no_more-space)
 
   straight-copy : StraightCopy text x copy

@@ -6,6 +6,8 @@ use mathlib.Core.Logic.{◌≢◌, ◌↔◌}
 use mathlib.Core.Option.{none}
 use mathlib.Core.Path.{◌≡◌, refl, sym, ap, ◌∙◌}
 use lib.ListN.{length}
+use Rattle.std.proofs.Common.{Result, Ok}
+use Rattle.text.specs.declared.Refusal.{Refusal}
 use Rattle.semantics.specs.Plan.{LockPlan, thread_proc}
 use Rattle.semantics.specs.Pairs.{Critical}
 use Rattle.semantics.specs.Language.{PublishedCritical}
@@ -14,8 +16,6 @@ use Rattle.semantics.proofs.Conflicts.Characterisation.{Ranked}
 use Rattle.plan.specs.Rules.{plan_of, crossings_refusal}
 use Rattle.demands.specs.Broken.{AcceptedText}
 use Rattle.demands.proofs.Accepted.{accepted-plan, plan-ranked, crossings-accepted-exactly}
-use Rattle.answers.specs.declared.Counted.{Counted}
-use Rattle.answers.specs.declared.Counted.TheVariants.{Count}
 use Rattle.answers.specs.Answers.{counted_of, read_counted}
 use Rattle.couples.specs.Couples.{Couple, couples}
 use Rattle.couples.proofs.Alone.{couples-exact, free-uncrossed}
@@ -38,15 +38,15 @@ module _ (plan : LockPlan) (r : Ranked plan) (t u : ℕ) (b : t < length plan.th
         λ x. every.1 (record { of_first = of_first.1 x.of_first; of_second = of_second.1 x.of_second; crossing = x.crossing }),
       )
 
-  plan-crosses : CrossesExactly plan t u (Count (length (couples plan t u))) (couples plan t u)
+  plan-crosses : CrossesExactly plan t u (Ok (length (couples plan t u))) (couples plan t u)
   plan-crosses =
       let exact = couples-exact plan r t u b d in
       record {
         number = refl;
         every = published;
         ordered = exact.ordered;
-        zero-exactly = (λ e. exact.zero-exactly.0 cc, λ s. ap Count (exact.zero-exactly.1 s));
-        free = λ f. ap (λ cs. Count (length cs)) (free-uncrossed plan r t u b d (λ e. two (sym e)) f);
+        zero-exactly = (λ e. exact.zero-exactly.0 cc, λ s. ap Ok (exact.zero-exactly.1 s));
+        free = λ f. ap (λ cs. Ok (length cs)) (free-uncrossed plan r t u b d (λ e. two (sym e)) f);
       }
 
 -- ---- over a text
@@ -55,11 +55,11 @@ module _ (text : List ℕ) (x : AcceptedText text) (t u : ℕ) (b : t < length x
   unrefused : crossings_refusal text t u ≡ none
   unrefused = (crossings-accepted-exactly text t u).1 (x, b, d, two)
 
-  crosses-exactly : (r : Counted) → r ≡ counted_of (crossings_refusal text t u) (length (couples_in text t u)) → CrossesExactly x.plan t u r (couples_in text t u)
+  crosses-exactly : (r : Result ℕ Refusal) → r ≡ counted_of (crossings_refusal text t u) (length (couples_in text t u)) → CrossesExactly x.plan t u r (couples_in text t u)
   unfolding counted_of
   crosses-exactly r e =
       let same : plan_of text ≡ x.plan = accepted-plan text x in
-      let is : r ≡ Count (length (couples x.plan t u)) = e ∙ rw (unrefused, same) in
+      let is : r ≡ Ok (length (couples x.plan t u)) = e ∙ rw (unrefused, same) in
       rw (is, same) (plan-crosses x.plan (plan-ranked text x) t u b d two)
 
 pub crossings-exact : (text before after : List ℕ) → Crossings text before after

@@ -7,6 +7,8 @@ use mathlib.Core.Logic.{◌↔◌}
 use mathlib.Core.Option.{none}
 use mathlib.Core.Path.{◌≡◌, sym, ap, ◌∙◌}
 use lib.ListN.{length}
+use Rattle.std.proofs.Common.{Result}
+use Rattle.text.specs.declared.Refusal.{Refusal}
 use Rattle.text.specs.Lines.{text_of}
 use Rattle.semantics.specs.Plan.{LockPlan}
 use Rattle.semantics.specs.Pairs.{pair_list}
@@ -15,7 +17,6 @@ use Rattle.plan.specs.Rules.{plan_refusal, plan_of, verdict_refusal, copy_refusa
 use Rattle.demands.specs.Broken.{AcceptedText}
 use Rattle.demands.proofs.Accepted.{accepted-plan, accepted-exactly}
 use Rattle.answers.specs.declared.Verdict.{Verdict}
-use Rattle.answers.specs.declared.Counted.{Counted}
 use Rattle.answers.specs.Answers.{counted_number}
 use Rattle.verdict.specs.Judged.{Judged, JudgedBytes}
 use Rattle.bare_text.specs.Bare.{bare_text}
@@ -42,7 +43,7 @@ module _ (s t : List ℕ) (refused : plan_refusal s ≡ plan_refusal t) (plans :
     pairs = λ p. ap (λ (q : LockPlan). pair_list q.procs p) plans;
   }
 
-  same-verdict : (before : List ℕ) (v : Verdict) (after : List ℕ) → Judged s before v after → Judged t before v after
+  same-verdict : (before : List ℕ) (v : Result Verdict Refusal) (after : List ℕ) → Judged s before v after → Judged t before v after
   unfolding verdict_refusal
   same-verdict before v after d = record { schedule = d.schedule; judged = rw (refused, plans) at d.judged; buffer = d.buffer }
 
@@ -51,7 +52,7 @@ module _ (s t : List ℕ) (refused : plan_refusal s ≡ plan_refusal t) (plans :
   same-verdict-bytes before n after d =
       record { verdict = d.verdict; schedule = d.schedule; number = d.number; judged = rw (refused, plans) at d.judged; buffer = d.buffer }
 
-  same-straight : (before : List ℕ) (r : Counted) (after : List ℕ) → Straightened s before r after → Straightened t before r after
+  same-straight : (before : List ℕ) (r : Result ℕ Refusal) (after : List ℕ) → Straightened s before r after → Straightened t before r after
   unfolding straight_of copy_refusal
   same-straight before r after d = record { answer = rw (refused, plans) at d.answer; output = rw (refused, plans) at d.output }
 

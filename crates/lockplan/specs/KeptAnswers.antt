@@ -1,11 +1,12 @@
 -- What 02, change 9, asks of texts without share: "Plans without share keep their answers, written as records." The answers that they keep are those of 01 and of change 7, given here
 -- word for word as they were before shares (pairs and runs: semantics/specs/HoldsOnly; the grammar: plan/specs/Shareless). A theorem, `kept-answers`, of every accepted text that has
 -- no `(share` line.
-use Rattle.std.specs.Prelude.{ℕ, zero, suc, ◌/◌, ◌%◌, Bool, cond, ◌&&◌, ◌≡◌, eqb}
+use Rattle.std.specs.Prelude.{ℕ, zero, suc, ◌/◌, ◌%◌, Bool, cond, ◌&&◌, ◌≡◌, eqb, Result}
 use mathlib.Core.List.{List, [], ◌∷◌, ◌++◌, map, flat_map}
 use Rattle.std.specs.Int.Bits.{bit_and}
 use Rattle.laws.specs.Bytes.{bytes}
 use Rattle.laws.specs.Mask.{bit}
+use Rattle.text.specs.declared.Refusal.{Refusal}
 use Rattle.text.specs.Lines.{forms_of}
 use Rattle.semantics.specs.Plan.{Block, LockPlan, thread_proc}
 use Rattle.semantics.specs.HoldsOnly.{pair_list01, locked_plan, as_record, AnswersKept}
@@ -55,7 +56,7 @@ proc_parts01 ps p zero rest = rest
 proc_parts01 ps p (suc n) rest = proc_lines01 p (pair_list01 ps p) ∷ proc_parts01 ps (suc p) n rest
 
 -- the parts in order
-unfoldable pub parts_of01 : LockPlan → Verdict → List ℕ → List (List ℕ)
+unfoldable pub parts_of01 : LockPlan → Result Verdict Refusal → List ℕ → List (List ℕ)
 parts_of01 plan v schedule = report_open ∷ proc_parts01 plan.procs 0 (procedures v plan) (verdict_part v schedule ∷ closing ∷ [])
 
 -- ---- what is kept
@@ -68,4 +69,4 @@ pub record KeptAnswers (text : List ℕ) : Type 0 where
   -- where two threads cross
   pub couples : (t u : ℕ) → now.couples (plan_of text) t u ≡ map as_records (couples07 (locked_plan (plan_of text)) t u)
   -- the report, byte for byte
-  pub report : (v : Verdict) (schedule : List ℕ) → parts_of text v schedule ≡ parts_of01 (locked_plan (plan_of text)) v schedule
+  pub report : (v : Result Verdict Refusal) (schedule : List ℕ) → parts_of text v schedule ≡ parts_of01 (locked_plan (plan_of text)) v schedule

@@ -10,25 +10,26 @@ ghost use Rattle.procedure_text.specs.ProcText.{proc_text};
 ghost use Rattle.space.specs.Slip.{Needs, NeedsNumber};
 ghost use Rattle.verdict.specs.Judged.{Judged, JudgedBytes};
 
-pub use answers::{Counted, Verdict};
+pub use answers::Verdict;
 use limits::{MAX_ENTRIES, MAX_PAIR_WORDS};
+pub use text::Refusal;
 
 // The verdict on a plan text: whether its gateway can come to two or more threads stuck on each other, with a schedule at the start of `out` where it can.
-pub fn judge(text: &[u8], out: &mut [u16]) -> Verdict
+pub fn judge(text: &[u8], out: &mut [u16]) -> Result<Verdict, Refusal>
     ensures { Judged text.now out.old result out.new }
 {
     verdict::judge_text(text, out)
 }
 
 // How many entries a schedule of the plan needs: the sum of its threads' sizes.
-pub fn space(text: &[u8]) -> Counted
+pub fn space(text: &[u8]) -> Result<usize, Refusal>
     ensures { Needs text.now result }
 {
     space::needed_entries(text)
 }
 
 // The critical pairs of a procedure, ascending, at the start of `out`: three 64-bit words each, and the count is of pairs.
-pub fn pair_list(text: &[u8], proc: usize, out: &mut [u64]) -> Counted
+pub fn pair_list(text: &[u8], proc: usize, out: &mut [u64]) -> Result<usize, Refusal>
     ensures { Listed text.now proc out.old result out.new }
 {
     listing::list_pairs(text, proc, out)
@@ -36,7 +37,12 @@ pub fn pair_list(text: &[u8], proc: usize, out: &mut [u64]) -> Counted
 
 // The couples of critical pairs, one of each of two threads, whose locks may stand together and that each want what may not stand beside what the other has: counted, and
 // the first ones that fit at the start of `out`, six 64-bit words each.
-pub fn crossings(text: &[u8], first: usize, second: usize, out: &mut [u64]) -> Counted
+pub fn crossings(
+    text: &[u8],
+    first: usize,
+    second: usize,
+    out: &mut [u64],
+) -> Result<usize, Refusal>
     ensures { Crossed text.now first second out.old result out.new }
 {
     crossing::crossings(text, first, second, out)
@@ -50,14 +56,14 @@ pub fn proc_text(text: &[u8], proc: usize) -> &[u8]
 }
 
 // The tidy copy of a plan text, in 01's bare form, at the start of `out`.
-pub fn tidy(text: &[u8], out: &mut [u8]) -> Counted
+pub fn tidy(text: &[u8], out: &mut [u8]) -> Result<usize, Refusal>
     ensures { Tidied text.now out.old result out.new }
 {
     copies::write_copy(text, false, out)
 }
 
 // The straightened copy of a plan text, each either as its two blocks and each loop as its block, in tidy form, at the start of `out`.
-pub fn straight(text: &[u8], out: &mut [u8]) -> Counted
+pub fn straight(text: &[u8], out: &mut [u8]) -> Result<usize, Refusal>
     ensures { Straightened text.now out.old result out.new }
 {
     copies::write_copy(text, true, out)

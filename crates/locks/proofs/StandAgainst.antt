@@ -2,11 +2,12 @@
 use Prim.Native.Nat.{ℕ, ◌+◌, ◌-◌, ◌*◌, ◌/◌, ◌%◌, ◌^◌, ◌<◌, ◌≤◌}
 use mathlib.Core.Bool.{Bool, true, false, not, ◌||◌}
 use mathlib.Core.Logic.{⊎_elim}
-use mathlib.Core.Path.{◌≡◌, refl, sym, ap, ◌∙◌}
+use mathlib.Core.Path.{◌≡◌, sym, ap, ◌∙◌}
 use native.Mathlib.Nat.{mod-eq_of_lt}
 use native.Mathlib.Omega.{arith}
 use lib.Bits.{bit_or, or_comm, or_mod, or_shifted}
 use lib.Pow.{pow-add, pow-lt}
+use Rattle.std.proofs.Math.Bool.{or-false}
 use Rattle.limits.specs.Limits.{claim_count}
 use lib.Dec.{eqb}
 use Rattle.laws.specs.Mask.{bit, in_mask}
@@ -44,10 +45,6 @@ module _ (m l : ℕ) where
   upper : in_mask (m / 2 ^ 32) l ≡ in_mask m (l + 32)
   upper = ap (λ x. eqb x 1) (bit_quotient 32 m l ∙ ap (bit m) (omega arith))
 
-  or_false : (b : Bool) → (b || false) ≡ b
-  or_false true = refl
-  or_false false = refl
-
   hold-fresh : 32 ≤ l → l < claim_count → m < 2 ^ 64 → not (in_mask m l || in_mask m (l + 32)) ≡ fresh_in m l
   unfolding fresh_to
   hold-fresh h k s =
@@ -55,7 +52,7 @@ module _ (m l : ℕ) where
       let way : is_hold l ≡ true = ap is_hold (sym is) ∙ hold-way (l - 32) in
       let lock : lock_of l ≡ l - 32 = ap lock_of (sym is) ∙ hold-lock (l - 32) in
       let none : in_mask m (l + 32) ≡ false = ap (λ x. eqb x 1) (digit-out m 64 (l + 32) s (omega arith)) in
-      rw (way, lock, is, none) (ap not (or_false (in_mask m l)))
+      rw (way, lock, is, none) (ap not (or-false (in_mask m l)))
 
   share-fresh : l < 32 → not (in_mask m l || in_mask m (l + 32)) ≡ fresh_in m l
   unfolding fresh_to

@@ -18,24 +18,18 @@ const LOCK_BITS: [u32; LOCK_COUNT] = [
     0x01000000, 0x02000000, 0x04000000, 0x08000000, 0x10000000, 0x20000000, 0x40000000, 0x80000000,
 ];
 
-// An entry as a mask.
-fn widen(entry: u32) -> u64
-    ensures { result ≡ entry }
-{
-    entry as u64
-}
-
 // The bit of a lock in a mask.
 pub fn lock_bit(lock: u64) -> u64
     requires { lock < lock_count }
     ensures { result ≡ 2 ^ lock }
 {
-    widen(LOCK_BITS[lock as usize])
+    u64::from(LOCK_BITS[lock as usize])
 }
 
 // ---- claims: a lock by share has its own number, and by hold 32 more
 
 // The bit of a claim in a mask: that of its lock, for a hold 32 digits higher. There is no jump.
+#[tactic(auto, using(crate::proofs::StandAgainst::claim_power))]
 pub fn claim_bit(claim: u64) -> u64
     requires { claim < claim_count }
     ensures { result ≡ 2 ^ claim }
@@ -44,6 +38,7 @@ pub fn claim_bit(claim: u64) -> u64
 }
 
 // Whether a claim is in a mask.
+#[tactic(auto, using(laws::proofs::Masks::test_power))]
 pub fn has_claim(mask: u64, claim: u64) -> bool
     requires { claim < claim_count }
     ensures { result ≡ in_mask mask claim }
@@ -52,6 +47,7 @@ pub fn has_claim(mask: u64, claim: u64) -> bool
 }
 
 // Whether a claim is fresh to who has those of a mask (02, change 9): a hold that is had keeps the share of its lock from being fresh too.
+#[tactic(auto, using(crate::proofs::StandAgainst::machine_fresh))]
 pub fn fresh_in(mask: u64, claim: u64) -> bool
     requires { claim < claim_count }
     ensures { result ≡ fresh_in mask claim }
@@ -60,6 +56,7 @@ pub fn fresh_in(mask: u64, claim: u64) -> bool
 }
 
 // The claims that may not stand beside those of a mask: a hold of each of its locks, and a share of each that is held.
+#[tactic(auto, using(crate::proofs::StandAgainst::machine_bars))]
 pub fn barred(mask: u64) -> u64
     ensures { result ≡ bars mask }
 {
@@ -68,13 +65,15 @@ pub fn barred(mask: u64) -> u64
 }
 
 // The claims of a lock's number in a text, which may be too large for a lock.
+#[tactic(auto, unfolding(semantics::specs::Claims::by_share))]
 pub fn by_share(lock: u16) -> u64
     ensures { (result ≡ by_share lock) × (result < 2 ^ 18) }
 {
-    let l = lock as u64;
+    let l = u64::from(lock);
     l / 32 * 64 + l % 32
 }
 
+#[tactic(auto, unfolding(semantics::specs::Claims::by_hold))]
 pub fn by_hold(lock: u16) -> u64
     ensures { result ≡ by_hold lock }
 {

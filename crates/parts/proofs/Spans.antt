@@ -9,8 +9,7 @@ use mathlib.Core.List.{List, [], ◌∷◌, ◌++◌}
 use lib.ListN.{length, take, drop}
 use lib.Seq.{drop_at, take-add, length-take-le}
 use Rattle.text.specs.declared.Form.{Form}
-use Rattle.text.specs.declared.Kind.{Kind}
-use Rattle.text.specs.declared.Kind.TheVariants.{Known, Unknown}
+use Rattle.std.specs.Prelude.{Option, Some, None}
 use Rattle.text.specs.Kinds.{kind_of}
 use Rattle.text.specs.Lines.{Split, split, unindented, passed_over, cons_form, forms_in, forms_of, unreadable_line, line_for, line_of, Spells, nothing, over, form, IsText}
 use Rattle.text.proofs.Written.{kind-written}
@@ -27,15 +26,15 @@ unfolding forms_in
 forms_append [] ys = refl
 forms_append (x ∷ xs) ys = go (kind_of (unindented x)) (forms_append xs ys)
   where
-    go : (k : Kind) → forms_in (xs ++ ys) ≡ forms_in xs ++ forms_in ys → cons_form k (forms_in (xs ++ ys)) ≡ cons_form k (forms_in xs) ++ forms_in ys
-    go (Known f) h = ap (λ l. f ∷ l) h
-    go Unknown h = h
+    go : (k : Option Form) → forms_in (xs ++ ys) ≡ forms_in xs ++ forms_in ys → cons_form k (forms_in (xs ++ ys)) ≡ cons_form k (forms_in xs) ++ forms_in ys
+    go (Some f) h = ap (λ l. f ∷ l) h
+    go None h = h
 
 passed-forms : (l : List ℕ) (ls : List (List ℕ)) → passed_over l ≡ true → forms_in (l ∷ ls) ≡ forms_in ls
 unfolding forms_in
 passed-forms l ls h = rw (passed-unknown l h)
 
-form-forms : (l : List ℕ) (f : Form) (ls : List (List ℕ)) → kind_of (unindented l) ≡ Known f → forms_in (l ∷ ls) ≡ f ∷ forms_in ls
+form-forms : (l : List ℕ) (f : Form) (ls : List (List ℕ)) → kind_of (unindented l) ≡ Some f → forms_in (l ∷ ls) ≡ f ∷ forms_in ls
 unfolding forms_in
 form-forms l f ls h = rw h
 

@@ -2,20 +2,22 @@
 use Prim.Native.Nat.{ℕ, zero, suc, ◌+◌, ◌-◌, ◌<◌, ◌≤◌}
 use native.Mathlib.Numerals.{add-one}
 use native.Mathlib.Omega.{arith}
-use mathlib.Core.Path.{◌≡◌}
+use mathlib.Core.Path.{◌≡◌, refl, ap, ◌∙◌}
 use mathlib.Core.Bool.{Bool, true, false, cond}
-use mathlib.Core.List.{List, [], ◌∷◌, map}
+use mathlib.Core.List.{List, [], ◌∷◌}
 use lib.ListN.{length, take, drop, get_or, drop_of_length-le}
 use lib.Seq.{drop-cons}
 use lib.Dec.{eqb, eqb-suc-zero}
 use borrow.Author.Tests.{eq-eqb, ne_eqb}
 use denote.Ref.{Bor}
-use Rattle.text.specs.declared.Form.{Form}
+use mir.Val.{bool_byte}
+use Rattle.std.specs.List.{before_first}
 use Rattle.text.specs.Forms.{begins_other}
-use Rattle.plan.specs.Table.{form_at}
+use Rattle.plan.specs.Table.{form_at, table_forms}
 use Rattle.text.specs.Lines.{line_of}
 use Rattle.text.proofs.FormLines.{line_of-first, line_of-grows}
-use Rattle.parts.specs.Parts.{left_after, skip_lines, forms_before, span, PartAt, lines_span, forms_span}
+use Rattle.procs.proofs.Fronts.{before_first-cons}
+use Rattle.parts.specs.Parts.{left_after, skip_lines, forms_before, PartAt, lines_span, forms_span}
 
 module _ (text : List ℕ) (left i r : ℕ) where
   turn : i < length text → skip_lines left (drop i text) ≡ cond (eqb left 0) 0 (suc (skip_lines (left_after (get_or text i 0) left) (drop (i + 1) text)))
@@ -25,9 +27,14 @@ module _ (text : List ℕ) (left i r : ℕ) where
   pub skip_stop : i < length text → left ≡ 0 → i + skip_lines left (drop i text) ≡ r → i ≡ r
   skip_stop h e p = let t = rw (eq-eqb left 0 e) at (turn h) in omega arith
 
-  pub skip-again : (next : ℕ) → i < length text → (left ≡ 0 → ⊥) → next ≡ left_after (get_or text i 0) left → i + skip_lines left (drop i text) ≡ r
-      → i + 1 + skip_lines next (drop (i + 1) text) ≡ r
-  skip-again next h e g p = let t = rw (ne_eqb left 0 e, ← g) at (turn h) in omega arith
+  left_less : (b : Bool) → left - bool_byte b ≡ cond b (left - 1) left
+  left_less true = refl
+  left_less false = omega arith
+
+  pub skip-again : (n : ℕ) → i < length text → (left ≡ 0 → ⊥) → n ≡ bool_byte (eqb (get_or text i 0) 10) → i + skip_lines left (drop i text) ≡ r
+      → i + 1 + skip_lines (left - n) (drop (i + 1) text) ≡ r
+  unfolding left_after
+  skip-again n h e g p = let t = rw (ne_eqb left 0 e, ← left_less) at (turn h) in rw g (omega arith)
 
   pub skip-end : length text ≤ i → i + skip_lines left (drop i text) ≡ r → i ≡ r
   unfolding skip_lines
@@ -43,21 +50,16 @@ skip-within (b ∷ bs) lines = go (eqb lines 0) (skip-within bs (left_after b li
     go true h = omega arith
     go false h = omega arith
 
-module _ (table : List ℕ) (i r : ℕ) (f : Form) (q : Bool) (h : i < length table) (e : f ≡ form_at (get_or table i 0)) (g : q ≡ begins_other f)
-    (p : i + forms_before (map form_at (drop i table)) ≡ r) where
-  passed : i + cond q 0 (suc (forms_before (map form_at (drop (i + 1) table)))) ≡ r
-  unfolding forms_before
-  passed = rw (g, e, add-one i) (rw (drop-cons table i 0 h) at p)
-
-  pub end-found : q ≡ true → i ≡ r
-  end-found t = let k = rw t at passed in omega arith
-
-  pub end-again : q ≡ false → i + 1 + forms_before (map form_at (drop (i + 1) table)) ≡ r
-  end-again t = let k = rw t at passed in omega arith
-
-pub end_none : (table : List ℕ) (i r : ℕ) → length table ≤ i → i + forms_before (map form_at (drop i table)) ≡ r → i ≡ r
+-- the forms of a procedure from a place on
+pub rest_counted : (ws : List ℕ) → length (before_first (λ w. begins_other (form_at w)) ws) ≡ forms_before (table_forms ws)
 unfolding forms_before
-end_none table i r h p = let t = rw (drop_of_length-le table h) at p in omega arith
+rest_counted [] = refl
+rest_counted (w ∷ ws) = rw (before_first-cons (λ v. begins_other (form_at v)) w ws) (go (begins_other (form_at w)) (rest_counted ws))
+  where
+    go : (b : Bool) → length (before_first (λ v. begins_other (form_at v)) ws) ≡ forms_before (table_forms ws)
+        → length (cond b [] (w ∷ before_first (λ v. begins_other (form_at v)) ws)) ≡ cond b 0 (suc (forms_before (table_forms ws)))
+    go true e = refl
+    go false e = ap suc e
 
 -- more lines, no fewer bytes
 left-grows : (byte a b : ℕ) → a ≤ b → left_after byte a ≤ left_after byte b
@@ -79,28 +81,27 @@ skip-grows (byte ∷ bytes) a (suc b) h = rw (eqb-suc-zero b) (go (eqb a 0) (ski
     go true k = omega arith
     go false k = omega arith
 
--- the part, by the two places that the code finds
-module _ (text : List ℕ) (k n e first last start end : ℕ) (f : first ≡ line_of text k) (l : last ≡ line_of text e) (p : start ≡ skip_lines (first - 1) text)
-    (q : end ≡ skip_lines last text) (g : e ≡ k + n) where
-  pub part-lines : span start (end - start) ≡ forms_span text k (k + n)
-  unfolding forms_span lines_span
-  part-lines = rw (p, q, f, l, g)
-
 -- the first line is not behind the last, and from any place up to its end on there are bytes up to the last line's end
-pub lines-ordered : (text : List ℕ) (k n e first last : ℕ) → first ≡ line_of text k → last ≡ line_of text e → e ≡ k + n → first ≤ last
-lines-ordered text k n e first last f l g = omega (arith, line_of-grows text k e (omega arith))
+module _ (text : List ℕ) (k first : ℕ) (f : first ≡ line_of text k) where
+  pub part-first : 1 ≤ first
+  part-first = omega (arith, line_of-first text k)
 
-pub part-ordered : (text : List ℕ) (first last d start end : ℕ) → start ≡ skip_lines (first - d) text → end ≡ skip_lines last text → first ≤ last → start ≤ end
-part-ordered text first last d start end p q h = omega (arith, skip-grows text (first - d) last (omega arith))
+  pub part-ordered : (e last d start end : ℕ) → last ≡ line_of text e → k ≤ e → start ≡ skip_lines (first - d) text → end ≡ skip_lines last text → start ≤ end
+  part-ordered e last d start end l h p q = omega (arith, skip-grows text (first - d) last (omega (arith, line_of-grows text k e h)))
 
 pub part-within : (text : List ℕ) (last end : ℕ) → end ≡ skip_lines last text → end ≤ length text
 part-within text last end q = omega (arith, skip-within text last)
 
-pub part-first : (text : List ℕ) (k first : ℕ) → first ≡ line_of text k → 1 ≤ first
-part-first text k first e = omega (arith, line_of-first text k)
+-- the part that is returned, from form k to the end of the procedure's rest there
+pub part_returned : (s r : Bor (List ℕ)) (table rest : List ℕ) (k first last start end : ℕ) → rest ≡ before_first (λ w. begins_other (form_at w)) (drop k table)
+    → first ≡ line_of s.now k → last ≡ line_of s.now (k + length rest) → start ≡ skip_lines (first - 1) s.now → end ≡ skip_lines last s.now
+    → r.ref_ptr ≡ (s.ref_ptr.0, start + s.ref_ptr.1) → r.now ≡ take (end - start) (drop start s.now)
+    → PartAt s (forms_span s.now k (k + forms_before (table_forms (drop k table)))) r
+unfolding forms_span lines_span
+part_returned s r table rest k first last start end e f l p q a b =
+    let n : length rest ≡ forms_before (table_forms (drop k table)) = ap length e ∙ rest_counted (drop k table) in
+    rw (← n, ← f, ← l, ← p, ← q) (record { lies = a; bytes = b })
 
--- the part that is returned
-pub part_returned : (s r : Bor (List ℕ)) (k n e first last start end : ℕ) → first ≡ line_of s.now k → last ≡ line_of s.now e
-    → start ≡ skip_lines (first - 1) s.now → end ≡ skip_lines last s.now → e ≡ k + n
-    → r.ref_ptr ≡ (s.ref_ptr.0, start + s.ref_ptr.1) → r.now ≡ take (end - start) (drop start s.now) → PartAt s (forms_span s.now k (k + n)) r
-part_returned s r k n e first last start end f l p q g a b = rw (← part-lines s.now k n e first last start end f l p q g) (record { lies = a; bytes = b })
+pub ruleset skipping = (skip_stop, skip-again, skip-end)
+
+pub ruleset parting = (part-first, part-ordered, part-within)

@@ -4,6 +4,7 @@ use native.Mathlib.Numerals.{add-one}
 use native.Mathlib.Omega.{arith}
 use native.Mathlib.Nat.{le_refl}
 use mathlib.Core.List.{List}
+use mathlib.Core.Logic.{◌⊎◌, ⊎_elim}
 use mathlib.Core.Path.{◌≡◌, refl, sym, ap, ◌∙◌}
 use lib.ListN.{length, take, set, length-set}
 use lib.Seq.{take-take, take-set-le, take-suc-set}
@@ -46,11 +47,7 @@ module _ (cs ms : List ℕ) (n c m : ℕ) where
       let long : n < length (steps cs ms) = omega (arith, steps-length cs ms) in
       rw (← steps-set cs ms n c m) (rw e (put_stored (steps cs ms) n (step_of c m) long))
 
-  put_full : min (length cs) (length ms) ≤ n → n ≤ length (steps cs ms) → PutAt (steps cs ms) n (step_of c m) n (steps cs ms)
-  put_full h k = record { buffer = kept_same (steps cs ms) n k; one = omega arith; put = λ l. absurd (omega (arith, steps-length cs ms)) }
-
-  pub put_full-choices : length cs ≤ n → n ≤ length (steps cs ms) → PutAt (steps cs ms) n (step_of c m) n (steps cs ms)
-  put_full-choices h = put_full (omega arith)
-
-  pub put_full-masks : length ms ≤ n → n ≤ length (steps cs ms) → PutAt (steps cs ms) n (step_of c m) n (steps cs ms)
-  put_full-masks h = put_full (omega arith)
+  pub put_full : ((n < length cs) × (length ms ≤ n)) ⊎ (length cs ≤ n) → n ≤ length (steps cs ms) → PutAt (steps cs ms) n (step_of c m) n (steps cs ms)
+  put_full h k =
+      let full : min (length cs) (length ms) ≤ n = ⊎_elim (λ (l : (n < length cs) × (length ms ≤ n)). omega arith) (λ (l : length cs ≤ n). omega arith) h in
+      record { buffer = kept_same (steps cs ms) n k; one = omega arith; put = λ l. absurd (omega (arith, steps-length cs ms)) }

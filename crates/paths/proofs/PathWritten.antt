@@ -1,7 +1,7 @@
 -- The walk of a procedure whose pairs have the pair finds it (`path-found`), so what is written is the path.
 use Prim.Native.Nat.{ℕ, ◌-◌, ◌<◌, ◌≤◌}
 use native.Mathlib.Omega.{arith}
-use mathlib.Core.Bool.{Bool, true, false}
+use Rattle.std.specs.declared.ops.ControlFlow.TheVariants.{Continue, Break}
 use mathlib.Core.List.{List, []}
 use mathlib.Core.Path.{◌≡◌, sym, ap, ◌∙◌}
 use lib.ListN.{length, take, get_or}
@@ -9,20 +9,15 @@ use lib.Seq.{length-take-le}
 use Rattle.limits.specs.Limits.{max_size}
 use Rattle.semantics.specs.Plan.{body_in}
 use Rattle.semantics.specs.Sizes.{size_of}
-use Rattle.semantics.specs.Paths.{found}
+use Rattle.semantics.specs.Paths.{found, PathFound}
 use Rattle.semantics.proofs.Analysis.Paths.{path-found}
-use Rattle.columns.specs.Columns.{pair_number}
-use Rattle.paths.specs.declared.Stop.{Stop}
-use Rattle.paths.specs.Walks.{procs_in, outcome_of, Walks, BlockWalked, PathAsked, PathWritten}
+use Rattle.paths.specs.declared.Spot.{Spot}
+use Rattle.paths.specs.Walks.{procs_in, Stopped, outcome_of, Walks, BlockWalked, PathAsked, PathWritten}
 use Rattle.paths.proofs.Walking.{one_deeper, size-deeper}
 
-found-is : (t : Bool) (a b : List ℕ) → found a ≡ outcome_of t b → b ≡ a
-found-is true a b e = cc
-found-is false a b e = let z : ◌≡◌ {A = ℕ} 0 1 = cc in absurd (omega arith)
-
-module _ {ws starts s s₁ : List ℕ} {procs p aim code : ℕ} {r : Stop} (a : PathAsked ws starts procs p (pair_number aim code)) (room : max_size ≤ length s)
-    (i : Walks ws (record { depth = procs - 1; mask = 0; aim = aim; code = code }) (get_or starts p 0) s 0 (take 0 s) 0 r s₁) where
-  proc-walked : (later : _) × BlockWalked ws (record { depth = length (procs_in ws) - 1; mask = 0; aim = aim; code = code }) (take 0 s) 0 (body_in (procs_in ws) p) later r s₁
+module _ {ws starts s s₁ : List ℕ} {procs p pair : ℕ} {r : Stopped} (a : PathAsked ws starts procs p pair) (room : max_size ≤ length s)
+    (i : Walks ws pair (record { depth = procs - 1; mask = 0 }) (get_or starts p 0) s 0 (take 0 s) 0 r s₁) where
+  proc-walked : (later : _) × BlockWalked ws pair (record { depth = length (procs_in ws) - 1; mask = 0 }) (take 0 s) 0 (body_in (procs_in ws) p) later r s₁
   unfolding size_of
   proc-walked =
       let here : p < length (procs_in ws) = rw (← a.count) a.present in
@@ -34,11 +29,24 @@ module _ {ws starts s s₁ : List ℕ} {procs p aim code : ℕ} {r : Stop} (a : 
             (rw a.count (omega arith))),
       )
 
-  pub path-written : PathWritten ws p (pair_number aim code) r.count s₁
-  path-written =
+  path-of : PathFound (length (procs_in ws)) (procs_in ws) p pair
+  path-of =
       let here : p < length (procs_in ws) = rw (← a.count) a.present in
-      let f = path-found (procs_in ws) a.ranks.rank a.ranks.sound (length (procs_in ws)) p (pair_number aim code) (a.ranks.below p here) a.member in
-      let o = proc-walked.1 in
-      let same : take r.count s₁ ≡ f.path = found-is r.reached f.path (take r.count s₁)
-      (sym f.walked ∙ one_deeper (procs_in ws) (length (procs_in ws)) (pair_number aim code) p 0 [] (λ z. omega arith) ∙ o.outcome) in
-      record { found = f; written = same; count = sym (length-take-le r.count s₁ i.buffer.room) ∙ ap length same }
+      path-found (procs_in ws) a.ranks.rank a.ranks.sound (length (procs_in ws)) p pair (a.ranks.below p here) a.member
+
+  same-outcome : found path-of.path ≡ outcome_of r s₁
+  same-outcome =
+      let here : p < length (procs_in ws) = rw (← a.count) a.present in
+      sym path-of.walked ∙ one_deeper (procs_in ws) (length (procs_in ws)) pair p 0 [] (λ z. omega arith) ∙ proc-walked.1.outcome
+
+module _ {ws starts s s₁ : List ℕ} {procs p pair : ℕ} (a : PathAsked ws starts procs p pair) (room : max_size ≤ length s) where
+  pub path-written : {n : ℕ} → Walks ws pair (record { depth = procs - 1; mask = 0 }) (get_or starts p 0) s 0 (take 0 s) 0 (Break n) s₁
+      → PathWritten ws p pair n s₁
+  path-written {n} i =
+      let f = path-of a room i in
+      let same : take n s₁ ≡ f.path = let e = same-outcome a room i in cc in
+      record { found = f; written = same; count = sym (length-take-le n s₁ i.buffer.room) ∙ ap length same }
+
+  -- the walk comes to the hold
+  pub never-passed : {here : Spot} → Walks ws pair (record { depth = procs - 1; mask = 0 }) (get_or starts p 0) s 0 (take 0 s) 0 (Continue here) s₁ → ⊥
+  never-passed i = let e = same-outcome a room i in cc

@@ -1,26 +1,26 @@
 // The path to a critical pair: the walk of a procedure, with its steps written down as it goes.
 #![tactic(auto)]
 
-ghost use Rattle.std.specs.Prelude.{◌≡◌, false, ◌+◌, ◌^◌, ◌<◌, ◌≤◌, length, get_or, take};
+ghost use Rattle.std.specs.Prelude.{◌≡◌, ◌+◌, ◌<◌, ◌≤◌, length, get_or, take};
 ghost use Rattle.limits.specs.Limits.{claim_count, max_size};
 ghost use Rattle.text.specs.declared.Form.TheVariants.{Call, Loop, Either};
 ghost use Rattle.plan.specs.Grammar.{claim_form};
 ghost use Rattle.columns.specs.Columns.{pair_number, steps};
-ghost use Rattle.semantics.specs.Paths.{step_of, gives, holding, put as put_step};
-ghost use Rattle.paths.specs.Walks.{claim_in, stopped, PutAt, WalkReady, Walks, StatementWalks, PathAsked, PathWritten};
+ghost use Rattle.semantics.specs.Paths.{step_of, gives, put as put_step};
+ghost use Rattle.paths.specs.Walks.{ClaimOf, PutAt, WalkReady, Walks, StatementWalks, PathAsked, PathWritten};
 ghost use Rattle.paths.specs.Wanted.{FirstWantedAt};
 
 use limits::CLAIM_COUNT;
+use std::ops::ControlFlow;
 use text::Form;
 
-const CLAIMS: u64 = CLAIM_COUNT as u64;
-
-// Where a walk stopped: at the hold that was looked for or not, the next place of the table, and how many steps are written.
+// What is walked through and looked for: the forms of a plan, in a table, the places where its procedures begin, and the mask and the code of a pair.
 #[derive(Clone, Copy)]
-pub struct Stop {
-    pub reached: bool,
-    pub next: usize,
-    pub count: usize,
+struct Task<'a> {
+    table: &'a [u64],
+    starts: &'a [u64],
+    aim: u64,
+    code: u32,
 }
 
 // Where a walk goes on: the place of the table, and how many steps are written.
@@ -30,13 +30,14 @@ struct Spot {
     count: usize,
 }
 
-// How a walk goes: how deep calls may go, what is had, and the mask and the code of the pair that is looked for.
+// Where a walk stopped: it broke off at the hold that was looked for, with so many steps written, or it goes on.
+type Stop = ControlFlow<usize, Spot>;
+
+// How a walk goes: how deep calls may go, and what is had.
 #[derive(Clone, Copy)]
-pub struct Way {
-    pub depth: usize,
-    pub mask: u64,
-    pub aim: u64,
-    pub code: u32,
+struct Way {
+    depth: usize,
+    mask: u64,
 }
 
 // What a path leads to: the procedure, and the mask and the code of one of its pairs.
@@ -47,306 +48,208 @@ pub struct Goal {
     pub code: u32,
 }
 
-// The mask of one claim: none for a number that no claim has.
-fn mask_of(claim: u64) -> u64
-    ensures { claim < claim_count → result ≡ 2 ^ claim }
+// The claim of a hold or a share, if a claim has its number.
+fn claim_of(form: Form) -> Option<u64>
+    ensures { ClaimOf form result }
 {
-    if claim < CLAIMS {
-        return locks::claim_bit(claim);
-    }
-    0
-}
-
-// The claims of a mask, and one more.
-fn with_claim(mask: u64, claim: u64) -> u64
-    ensures { claim < claim_count → result ≡ holding mask claim }
-{
-    mask | mask_of(claim)
+    let claim = match form {
+        Form::Hold(l) => locks::by_hold(l),
+        Form::Share(l) => locks::by_share(l),
+        _ => return None,
+    };
+    (claim < CLAIM_COUNT as u64).then_some(claim)
 }
 
 // Whether a claim that is made with those of a mask gives the pair that is looked for.
-fn gives_pair(mask: u64, claim: u64, aim: u64, code: u32) -> bool
-    ensures { claim < claim_count → result ≡ gives (pair_number aim code) mask claim }
+fn gives_pair(task: &Task, mask: u64, claim: u64) -> bool
+    requires { claim < claim_count }
+    ensures { result ≡ gives (pair_number task.now.aim task.now.code) mask claim }
 {
-    if CLAIMS <= claim {
-        return false;
-    }
-    let fresh = locks::fresh_in(mask, claim);
-    if fresh {
-        return columns::is_same(mask, columns::code_of(claim), aim, code);
-    }
-    false
+    let code = columns::code_of(claim);
+    locks::fresh_in(mask, claim) && columns::is_same(mask, code, task.aim, task.code)
 }
 
-// One step more, with the mask after it, where both columns have room.
+// One step more, with the mask after it, where both columns have room: how many there are then.
 fn put(choices: &mut [u8], masks: &mut [u64], n: usize, choice: u8, mask: u64) -> usize
     requires { (n ≤ length (steps choices.old masks.old)) × (choice < 4) }
     ensures { PutAt (steps choices.old masks.old) n (step_of choice mask) result (steps choices.new masks.new) }
 {
-    if choices.len() <= n {
-        return n;
+    if n < choices.len() && n < masks.len() {
+        choices[n] = choice;
+        masks[n] = mask;
+        return n + 1;
     }
-    if masks.len() <= n {
-        return n;
-    }
-    choices[n] = choice;
-    masks[n] = mask;
-    n + 1
+    n
 }
 
 // The place behind a place, within the table.
 fn after(table: &[u64], at: usize) -> usize
     ensures { (at ≤ result) × (at < length table.now → result ≡ at + 1) }
 {
-    if at < table.len() {
-        return at + 1;
-    }
-    at
+    if at < table.len() { at + 1 } else { at }
 }
 
-// Where procedure p begins in the table.
+// Where procedure p begins in the table; 0 for a number that no procedure has.
 fn start_of(starts: &[u64], p: u16) -> usize
     ensures { p < length starts.now → result ≡ get_or starts.now p 0 }
 {
-    let i = p as usize;
-    if i < starts.len() {
-        return starts[i] as usize;
-    }
-    0
+    starts
+        .get(usize::from(p))
+        .map_or(0, |&start| start as usize)
 }
 
-// A walk that goes on at a place.
-fn passed(next: usize, count: usize) -> Stop
-    ensures { result ≡ stopped false next count }
-{
-    Stop {
-        reached: false,
-        next,
-        count,
-    }
-}
+// ---- the walk
+// Kept: the two columns are lent side by side. A struct with two `&mut` would ask each contract for what becomes of its loans too.
 
 // The walk of the block at a spot, along its statements, up to the hold or share that gives the pair, or to the block's end.
-#[cycle(enter_walk_walk_call_walk_either_walk_hold_walk_loop_walk_statement)]
-fn walk(
-    table: &[u64],
-    starts: &[u64],
-    way: Way,
-    from: Spot,
-    choices: &mut [u8],
-    masks: &mut [u64],
-) -> Stop
-    requires { WalkReady table.now starts.now way (steps choices.old masks.old) from.count }
-    ensures { Walks table.now way from.next (steps choices.old masks.old) from.count
+#[cycle(walks)]
+fn walk(task: &Task, way: Way, from: Spot, choices: &mut [u8], masks: &mut [u64]) -> Stop
+    requires { WalkReady task.now.table.now task.now.starts.now (steps choices.old masks.old) from.count }
+    ensures { Walks task.now.table.now (pair_number task.now.aim task.now.code) way from.next (steps choices.old masks.old) from.count
         (take from.count (steps choices.old masks.old)) from.count result (steps choices.new masks.new) }
 {
-    let mut i = from.next;
-    let mut count = from.count;
-    while i < table.len() {
-        let form = plan::form_at(table[i]);
-        i += 1;
+    let mut at = from;
+    while let Some(&code) = task.table.get(at.next) {
+        let form = plan::form_at(code);
+        at.next += 1;
         if let Form::Close = form {
-            return passed(i, count);
+            return ControlFlow::Continue(at);
         }
-        let here = Spot { next: i, count };
-        let stop = walk_statement(table, starts, way, here, form, choices, masks);
-        if stop.reached {
-            return stop;
-        }
-        i = stop.next;
-        count = stop.count;
+        at = walk_statement(task, way, at, form, choices, masks)?;
     }
-    passed(i, count)
+    ControlFlow::Continue(at)
 }
 
 // A step with this choice, and the walk of the block at a spot behind it.
-#[cycle(enter_walk_walk_call_walk_either_walk_hold_walk_loop_walk_statement)]
+#[cycle(walks)]
 fn enter(
-    table: &[u64],
-    starts: &[u64],
+    task: &Task,
     way: Way,
     from: Spot,
     choice: u8,
     choices: &mut [u8],
     masks: &mut [u64],
 ) -> Stop
-    requires { WalkReady table.now starts.now way (steps choices.old masks.old) from.count × (choice < 4) }
-    ensures { Walks table.now way from.next (steps choices.old masks.old) from.count
+    requires { WalkReady task.now.table.now task.now.starts.now (steps choices.old masks.old) from.count × (choice < 4) }
+    ensures { Walks task.now.table.now (pair_number task.now.aim task.now.code) way from.next (steps choices.old masks.old) from.count
         (put_step (take from.count (steps choices.old masks.old)) choice way.mask) (from.count + 1) result (steps choices.new masks.new) }
 {
     let count = put(choices, masks, from.count, choice, way.mask);
-    let inside = Spot {
-        next: from.next,
-        count,
-    };
-    walk(table, starts, way, inside, choices, masks)
-}
-
-// The claim of a hold or a share.
-fn claim_of(form: Form) -> u64
-    ensures { result ≡ claim_in form }
-{
-    match form {
-        Form::Hold(l) => locks::by_hold(l),
-        Form::Share(l) => locks::by_share(l),
-        _ => 0,
-    }
+    walk(task, way, Spot { count, ..from }, choices, masks)
 }
 
 // One statement: that of a form, with its other forms from a spot on.
-#[cycle(enter_walk_walk_call_walk_either_walk_hold_walk_loop_walk_statement)]
+#[cycle(walks)]
 fn walk_statement(
-    table: &[u64],
-    starts: &[u64],
+    task: &Task,
     way: Way,
     from: Spot,
     form: Form,
     choices: &mut [u8],
     masks: &mut [u64],
 ) -> Stop
-    requires { WalkReady table.now starts.now way (steps choices.old masks.old) from.count }
-    ensures { StatementWalks table.now way form from.next (steps choices.old masks.old) from.count result
+    requires { WalkReady task.now.table.now task.now.starts.now (steps choices.old masks.old) from.count }
+    ensures { StatementWalks task.now.table.now (pair_number task.now.aim task.now.code) way form from.next (steps choices.old masks.old) from.count result
         (steps choices.new masks.new) }
 {
+    if let Some(claim) = claim_of(form) {
+        return walk_hold(task, way, from, claim, choices, masks);
+    }
     match form {
-        Form::Skip => passed(from.next, put(choices, masks, from.count, 0, way.mask)),
-        Form::Call(p) => walk_call(table, starts, way, from, p, choices, masks),
-        Form::Hold(_) | Form::Share(_) => {
-            walk_hold(table, starts, way, from, claim_of(form), choices, masks)
+        Form::Skip => {
+            let count = put(choices, masks, from.count, 0, way.mask);
+            ControlFlow::Continue(Spot { count, ..from })
         }
-        Form::Loop => walk_loop(table, starts, way, from, choices, masks),
-        Form::Either => walk_either(table, starts, way, from, choices, masks),
-        _ => passed(from.next, from.count),
+        Form::Call(p) => walk_call(task, way, from, p, choices, masks),
+        Form::Loop => walk_loop(task, way, from, choices, masks),
+        Form::Either => walk_either(task, way, from, choices, masks),
+        _ => ControlFlow::Continue(from),
     }
 }
 
 // A call of procedure p.
-#[cycle(enter_walk_walk_call_walk_either_walk_hold_walk_loop_walk_statement)]
+#[cycle(walks)]
 fn walk_call(
-    table: &[u64],
-    starts: &[u64],
+    task: &Task,
     way: Way,
     from: Spot,
     p: u16,
     choices: &mut [u8],
     masks: &mut [u64],
 ) -> Stop
-    requires { WalkReady table.now starts.now way (steps choices.old masks.old) from.count }
-    ensures { StatementWalks table.now way (Call p) from.next (steps choices.old masks.old) from.count result
+    requires { WalkReady task.now.table.now task.now.starts.now (steps choices.old masks.old) from.count }
+    ensures { StatementWalks task.now.table.now (pair_number task.now.aim task.now.code) way (Call p) from.next (steps choices.old masks.old) from.count result
         (steps choices.new masks.new) }
 {
-    if way.depth == 0 {
-        return passed(from.next, put(choices, masks, from.count, 0, way.mask));
-    }
-    let deeper = Way {
-        depth: way.depth - 1,
-        mask: way.mask,
-        aim: way.aim,
-        code: way.code,
+    let Some(depth) = way.depth.checked_sub(1) else {
+        let count = put(choices, masks, from.count, 0, way.mask);
+        return ControlFlow::Continue(Spot { count, ..from });
     };
     let begin = Spot {
-        next: start_of(starts, p),
-        count: from.count,
+        next: start_of(task.starts, p),
+        ..from
     };
-    let inside = enter(table, starts, deeper, begin, 0, choices, masks);
-    Stop {
-        reached: inside.reached,
-        next: from.next,
+    let inside = enter(task, Way { depth, ..way }, begin, 0, choices, masks)?;
+    ControlFlow::Continue(Spot {
         count: inside.count,
-    }
+        ..from
+    })
 }
 
 // A hold or a share, with its claim, unless it gives the pair.
-#[cycle(enter_walk_walk_call_walk_either_walk_hold_walk_loop_walk_statement)]
+#[cycle(walks)]
 fn walk_hold(
-    table: &[u64],
-    starts: &[u64],
+    task: &Task,
     way: Way,
     from: Spot,
     claim: u64,
     choices: &mut [u8],
     masks: &mut [u64],
 ) -> Stop
-    requires { WalkReady table.now starts.now way (steps choices.old masks.old) from.count }
-    ensures { StatementWalks table.now way (claim_form claim) from.next (steps choices.old masks.old) from.count result
+    requires { WalkReady task.now.table.now task.now.starts.now (steps choices.old masks.old) from.count × (claim < claim_count) }
+    ensures { StatementWalks task.now.table.now (pair_number task.now.aim task.now.code) way (claim_form claim) from.next (steps choices.old masks.old) from.count result
         (steps choices.new masks.new) }
 {
-    if gives_pair(way.mask, claim, way.aim, way.code) {
-        return Stop {
-            reached: true,
-            next: from.next,
-            count: from.count,
-        };
+    if gives_pair(task, way.mask, claim) {
+        return ControlFlow::Break(from.count);
     }
     let held = Way {
-        depth: way.depth,
-        mask: with_claim(way.mask, claim),
-        aim: way.aim,
-        code: way.code,
+        mask: way.mask | locks::claim_bit(claim),
+        ..way
     };
-    let inside = enter(table, starts, held, from, 0, choices, masks);
-    if inside.reached {
-        return inside;
-    }
-    let j = put(choices, masks, inside.count, 0, way.mask);
-    passed(inside.next, j)
+    let inside = enter(task, held, from, 0, choices, masks)?;
+    let count = put(choices, masks, inside.count, 0, way.mask);
+    ControlFlow::Continue(Spot { count, ..inside })
 }
 
 // A loop: its block, and then it is left from where it began.
-#[cycle(enter_walk_walk_call_walk_either_walk_hold_walk_loop_walk_statement)]
-fn walk_loop(
-    table: &[u64],
-    starts: &[u64],
-    way: Way,
-    from: Spot,
-    choices: &mut [u8],
-    masks: &mut [u64],
-) -> Stop
-    requires { WalkReady table.now starts.now way (steps choices.old masks.old) from.count }
-    ensures { StatementWalks table.now way Loop from.next (steps choices.old masks.old) from.count result
+#[cycle(walks)]
+fn walk_loop(task: &Task, way: Way, from: Spot, choices: &mut [u8], masks: &mut [u64]) -> Stop
+    requires { WalkReady task.now.table.now task.now.starts.now (steps choices.old masks.old) from.count }
+    ensures { StatementWalks task.now.table.now (pair_number task.now.aim task.now.code) way Loop from.next (steps choices.old masks.old) from.count result
         (steps choices.new masks.new) }
 {
-    let inside = enter(table, starts, way, from, 1, choices, masks);
-    if inside.reached {
-        return inside;
-    }
-    let j = put(choices, masks, from.count, 2, way.mask);
-    passed(inside.next, j)
+    let inside = enter(task, way, from, 1, choices, masks)?;
+    let count = put(choices, masks, from.count, 2, way.mask);
+    ControlFlow::Continue(Spot { count, ..inside })
 }
 
-// An either: the block of one, and then, from where it began, that of two.
-#[cycle(enter_walk_walk_call_walk_either_walk_hold_walk_loop_walk_statement)]
-fn walk_either(
-    table: &[u64],
-    starts: &[u64],
-    way: Way,
-    from: Spot,
-    choices: &mut [u8],
-    masks: &mut [u64],
-) -> Stop
-    requires { WalkReady table.now starts.now way (steps choices.old masks.old) from.count }
-    ensures { StatementWalks table.now way Either from.next (steps choices.old masks.old) from.count result
+// An either: the block of one, and then, from where it began, that of two; each of the two has a form in front, and there is one behind both.
+#[cycle(walks)]
+fn walk_either(task: &Task, way: Way, from: Spot, choices: &mut [u8], masks: &mut [u64]) -> Stop
+    requires { WalkReady task.now.table.now task.now.starts.now (steps choices.old masks.old) from.count }
+    ensures { StatementWalks task.now.table.now (pair_number task.now.aim task.now.code) way Either from.next (steps choices.old masks.old) from.count result
         (steps choices.new masks.new) }
 {
-    let first = Spot {
-        next: after(table, from.next),
-        count: from.count,
-    };
-    let one = enter(table, starts, way, first, 1, choices, masks);
-    if one.reached {
-        return one;
-    }
-    let second = Spot {
-        next: after(table, one.next),
-        count: from.count,
-    };
-    let two = enter(table, starts, way, second, 2, choices, masks);
-    Stop {
-        reached: two.reached,
-        next: after(table, two.next),
-        count: two.count,
-    }
+    let next = after(task.table, from.next);
+    let one = enter(task, way, Spot { next, ..from }, 1, choices, masks)?;
+    let next = after(task.table, one.next);
+    let two = enter(task, way, Spot { next, ..from }, 2, choices, masks)?;
+    let next = after(task.table, two.next);
+    ControlFlow::Continue(Spot { next, ..two })
 }
+
+// ---- what is asked for
 
 // The path to the hold or share of the goal's procedure that gives its pair, into the start of the columns: each step is its choice and the mask after it. What stands behind the
 // path is left open.
@@ -361,33 +264,35 @@ pub fn path_to(
     requires { PathAsked table.now starts.now procs goal.procedure (pair_number goal.aim goal.code) × (max_size ≤ length (steps choices.old masks.old)) }
     ensures { PathWritten table.now goal.procedure (pair_number goal.aim goal.code) result (steps choices.new masks.new) }
 {
-    let p = goal.procedure;
-    let start = starts[p] as usize;
-    let way = Way {
-        depth: procs - 1,
-        mask: 0,
+    let task = Task {
+        table,
+        starts,
         aim: goal.aim,
         code: goal.code,
     };
+    let way = Way {
+        depth: procs - 1,
+        mask: 0,
+    };
     let from = Spot {
-        next: start,
+        next: starts[goal.procedure] as usize,
         count: 0,
     };
-    let stop = walk(table, starts, way, from, choices, masks);
-    stop.count
+    match walk(&task, way, from, choices, masks) {
+        ControlFlow::Break(count) => count,
+        ControlFlow::Continue(_) => unreachable!(),
+    }
 }
 
 // The claim that the block at a place begins with, as a mask: none where it begins with neither a hold nor a share.
 pub fn first_hold(table: &[u64], start: usize) -> u64
     ensures { FirstWantedAt table.now start result }
 {
-    if table.len() <= start {
+    let Some(&code) = table.get(start) else {
         return 0;
-    }
-    let form = plan::form_at(table[start]);
-    match form {
-        Form::Hold(l) => mask_of(locks::by_hold(l)),
-        Form::Share(l) => mask_of(locks::by_share(l)),
-        _ => 0,
+    };
+    match claim_of(plan::form_at(code)) {
+        Some(claim) => locks::claim_bit(claim),
+        None => 0,
     }
 }

@@ -17,8 +17,7 @@ use Rattle.semantics.proofs.Conflicts.Characterisation.{Ranked}
 use Rattle.text.specs.declared.Refusal.{Refusal}
 use Rattle.text.specs.Lines.{forms_of, unreadable_line}
 use Rattle.text.proofs.Splits.{few-forms}
-use Rattle.plan.specs.declared.Reading.{Reading}
-use Rattle.plan.specs.declared.Reading.TheVariants.{Accepted}
+use Rattle.std.specs.Prelude.{Result, Ok}
 use Rattle.plan.specs.Table.{form_at, table_forms, FormRoom}
 use Rattle.plan.specs.Grammar.{forms, plan_in}
 use Rattle.plan.specs.Settled.{Settled, table_plan, PlanTable, RulesKept}
@@ -108,7 +107,7 @@ pub most-room : (text table : List ℕ) → max_forms ≤ length table → FormR
 most-room text table h = record { room = omega arith }
 
 -- the table of a text that a reading accepts, by whatever rules
-module _ (refused : Option Refusal) (text table : List ℕ) (q : Reading) (n : ℕ) (t : Tabled refused text q table) (g : q ≡ Accepted n) where
+module _ (refused : Option Refusal) (text table : List ℕ) (q : Result ℕ Refusal) (n : ℕ) (t : Tabled refused text q table) (g : q ≡ Ok n) where
   pub tabled-kept : refused ≡ none
   tabled-kept = accepted-none refused (length (forms_of text)) n (sym t.answer ∙ g)
 
@@ -126,7 +125,7 @@ module _ (refused : Option Refusal) (text table : List ℕ) (q : Reading) (n : �
   tabled-same = ap plan_in tabled-forms
 
 -- by the plan's
-module _ (text table : List ℕ) (q : Reading) (n : ℕ) (t : Tabled (plan_refusal text) text q table) (g : q ≡ Accepted n) where
+module _ (text table : List ℕ) (q : Result ℕ Refusal) (n : ℕ) (t : Tabled (plan_refusal text) text q table) (g : q ≡ Ok n) where
   pub plan-kept : plan_refusal text ≡ none
   plan-kept = tabled-kept (plan_refusal text) text table q n t g
 

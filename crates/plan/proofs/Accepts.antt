@@ -13,7 +13,9 @@ use Rattle.semantics.specs.Plan.{Block, done, skip, call, hold, loop, either, en
 use Rattle.plan.specs.Grammar.{block_forms, proc_forms, thread_forms, forms, Grammatical}
 use Rattle.plan.specs.Structure.{misplaced, misplaced_form}
 use Rattle.plan.proofs.Trees.{later-blocks}
-use Rattle.plan.proofs.States.{Bracket, statement, one, two, State, first-proc, next-proc, next-thread, in_block}
+use Rattle.plan.specs.declared.Bracket.{Bracket}
+use Rattle.plan.specs.declared.Bracket.TheVariants.{OfStatement as statement, OfOne as one, OfTwo as two}
+use Rattle.plan.proofs.States.{State, first-proc, next-proc, next-thread, in_block}
 use Rattle.plan.proofs.States.{mode_of, stack_of, misplaced_from, after-step}
 use Rattle.plan.proofs.States.{Step, begins-plan, first, next, first-thread, more-threads, ends-plan, skips, calls, takes, loops, chooses}
 use Rattle.plan.proofs.States.{begins-one, begins-two, ends-proc, ends-statement, ends-one, ends-two, ends-choice}
@@ -25,7 +27,7 @@ Accepts s fs = (number : ℕ) → misplaced_from s number fs ≡ none
 pub accepts_step : {s t : State} {f : Form} → Step s f t → (fs : List Form) → Accepts t fs → Accepts s (f ∷ fs)
 accepts_step x fs h number = after-step x number fs ∙ h (suc number)
 
-pub accepts_block : (b : Block) (empty : Bool) → WellFormed empty b → (ks : List Bracket) (fs : List Form) → Accepts (in_block true ks) fs
+accepts_block : (b : Block) (empty : Bool) → WellFormed empty b → (ks : List Bracket) (fs : List Form) → Accepts (in_block true ks) fs
     → Accepts (in_block empty ks) (block_forms b fs)
 unfolding block_forms WellFormed
 accepts_block done true w ks fs h = h

@@ -17,7 +17,8 @@ use Rattle.plan.specs.Places.{IsPlan}
 use Rattle.semantics.specs.Claims.{by_share, by_hold}
 use Rattle.plan.proofs.ClaimForms.{hold-form, share-form}
 use Rattle.plan.proofs.Trees.{plan_of-forms}
-use Rattle.plan.proofs.States.{Bracket, statement, one, two}
+use Rattle.plan.specs.declared.Bracket.{Bracket}
+use Rattle.plan.specs.declared.Bracket.TheVariants.{OfStatement as statement, OfOne as one, OfTwo as two}
 use Rattle.plan.proofs.States.{State, initial, first-proc, next-proc, next-thread, finished, in_block, awaits_one, awaits_two, ends-either}
 use Rattle.plan.proofs.States.{mode_of, stack_of, misplaced_from, after-step, step_or_refused}
 use Rattle.plan.proofs.States.{Step, begins-plan, first, next, first-thread, more-threads, ends-plan, skips, calls, holds, shares, loops, chooses}
@@ -178,16 +179,10 @@ rest-step (ends-choice {ks}) fs r = follows (BlockThen true (AfterBlock ks)) fs 
 -- the text ends
 at-end : (s : State) (number : ℕ) → misplaced_from s number [] ≡ none → Rest s []
 unfolding Rest misplaced mode_of
-at-end initial number h = absurd (some-ne-none number h)
-at-end first-proc number h = absurd (some-ne-none number h)
-at-end next-proc number h = absurd (some-ne-none number h)
-at-end next-thread number h = absurd (some-ne-none number h)
 at-end finished number h = refl
 at-end (in_block true ks) number h = absurd (some-ne-none number h)
 at-end (in_block false ks) number h = absurd (some-ne-none number h)
-at-end (awaits_one ks) number h = absurd (some-ne-none number h)
-at-end (awaits_two ks) number h = absurd (some-ne-none number h)
-at-end (ends-either ks) number h = absurd (some-ne-none number h)
+at-end _ number h = absurd (some-ne-none number h)
 
 accepted-rest : (fs : List Form) (s : State) (number : ℕ) → misplaced_from s number fs ≡ none → Rest s fs
 accepted-rest [] s number h = at-end s number h
@@ -212,7 +207,7 @@ pub plan-accepted : (fs : List Form) → IsPlan fs → misplaced_form fs ≡ non
 plan-accepted fs x = rw x.written (forms-accepted x.plan x.grammatical)
 
 -- the tree of forms that are those of a plan is that plan
-pub plan_in-written : (fs : List Form) (x : IsPlan fs) → plan_in fs ≡ x.plan
+plan_in-written : (fs : List Form) (x : IsPlan fs) → plan_in fs ≡ x.plan
 plan_in-written fs x = ap plan_in x.written ∙ plan_of-forms x.plan x.grammatical
 
 pub accepted_denotes : (fs : List Form) → misplaced_form fs ≡ none → Grammatical (plan_in fs) × (fs ≡ forms (plan_in fs))

@@ -10,19 +10,14 @@ use borrow.Author.Tests.{lt-ltb, le-ltb}
 use lib.ListN.{length, take, set, length-map}
 use lib.Seq.{length-take-le, take-suc-set, append_snoc}
 use Rattle.limits.specs.Limits.{max_bytes}
-use Rattle.text.specs.declared.Form.{Form}
 use Rattle.text.specs.declared.Refusal.{Refusal}
 use Rattle.text.specs.declared.Line.{Line}
-use Rattle.text.specs.declared.Line.TheVariants.{Read}
-use Rattle.text.specs.declared.Line.TheVariants as line
 use Rattle.text.specs.declared.Place.{Place}
-use Rattle.text.specs.Lines.{refusal, line_at, forms_of, unreadable_line, line_of}
+use Rattle.text.specs.Lines.{refusal, line_at, forms_of, unreadable_line}
 use Rattle.text.specs.Passing.{place, ReadAlike, Stops}
-use Rattle.text.proofs.Reading.{forms_from, unreadable_from, next-forms, next-unreadable, next-later}
-use Rattle.text.proofs.Reading.{next_small, refused-answer, refused-line, ended-forms, ended-readable}
-use Rattle.plan.specs.declared.Reading.{Reading}
-use Rattle.plan.specs.declared.Reading.TheVariants.{Accepted, Refused}
-use Rattle.plan.specs.Table.{code_of, form_at, table_forms, with_line, FormRoom}
+use Rattle.text.proofs.Reading.{forms_from, unreadable_from, ReadForm, read-form, ReadRefused, read-refused, ended-forms, ended-readable}
+use Rattle.std.specs.Prelude.{Result, Ok, Err}
+use Rattle.plan.specs.Table.{code_of, form_at, table_forms, FormRoom}
 use Rattle.plan.specs.Rules.{refused_at, too_long, lines_refusal, in_file, reading_of, read_in_file, Tabled}
 use Rattle.plan.proofs.Codes.{form_of_code}
 
@@ -40,53 +35,49 @@ unfolding forms_of unreadable_line
 filling_none text table p a s =
     record { pace = omega arith; within = a.within; counted = omega (arith, a.counted); stops = s; read = sym a.forms; readable = sym a.readable }
 
--- the line that was put into the table is the one that was read
-pub read_again : (q a r : Line) → q ≡ r → q ≡ a → r ≡ a
-read_again q a r g e = sym g ∙ e
+module _ (text table : List ℕ) (p : Place) (n : ℕ) (s : Filling text table p n) where
+  -- the line at p is read
+  module _ (x : Line) (e : Ok x ≡ line_at text p.at p.line) where
+    read : ReadForm text p.at p.line x
+    read = read-form text p.at p.line x (sym e)
 
-pub line-put : (f : Form) (w n : ℕ) (table : List ℕ) → w ≡ code_of f → set table n w ≡ set table n (code_of f)
-line-put f w n table k = ap (set table n) k
+    pub next-within : (x.next ≤ length text) × (p.line + 1 ≤ x.next + 1)
+    next-within = (read.within, omega (arith, s.counted, read.later))
 
-module _ (text table : List ℕ) (p : Place) (n : ℕ) (q : Line) (s : Filling text table p n) (e : q ≡ line_at text p.at p.line) where
-  module _ (f : Form) (next : ℕ) (g : q ≡ Read f next) (p' : Place) (a : ReadAlike text (place next (p.line + 1)) p') where
-    pub filling_more : (table₀ table₁ : List ℕ) → table₁ ≡ with_line q n table → length text ≤ max_bytes → FormRoom text table₀ → length table ≡ length table₀
-        → p.at < length text → Stops text p'.at → Filling text table₁ p' (n + 1)
-    filling_more table₀ table₁ k b c d h stops =
-        let room : n < length table = omega (arith, s.pace, c.room) in
-        let put : table₁ ≡ set table n (code_of f) = rw g at k in
-        let form : form_at (code_of f) ≡ f = form_of_code f (omega (arith, next_small text p.at p.line q e f next g)) in
-        let one : table_forms (take (n + 1) table₁) ≡ table_forms (take n table) ++ (f ∷ []) =
-        rw (put, add-one, take-suc-set table n (code_of f) room, map-append form_at (take n table) (code_of f ∷ []), form) in
-        let later = next-later text p.at p.line q e f next g in
-        record {
-          pace = omega (arith, s.pace, later, a.later);
-          within = a.within;
-          counted = omega (arith, s.counted, later, a.counted);
-          stops = stops;
-          read = ap (λ l. l ++ forms_from text p'.at) one ∙ append_snoc (table_forms (take n table)) f (forms_from text p'.at)
-              ∙ ap (λ l. table_forms (take n table) ++ f ∷ l) (sym a.forms)
-              ∙ ap (λ l. table_forms (take n table) ++ l) (next-forms text p.at p.line q e f next g (forms_from text p.at) refl) ∙ s.read;
-          readable = sym a.readable ∙ next-unreadable text p.at p.line q e f next g (unreadable_line text) s.readable;
-        }
+    module _ (q : Place) (a : ReadAlike text (place x.next (p.line + 1)) q) where
+      pub filling_more : (table₀ table₁ : List ℕ) → table₁ ≡ set table n (code_of x.form) → length text ≤ max_bytes → FormRoom text table₀ → length table ≡ length table₀
+          → p.at < length text → Stops text q.at → Filling text table₁ q (n + 1)
+      filling_more table₀ table₁ k b c d h stops =
+          let room : n < length table = omega (arith, s.pace, c.room) in
+          let form : form_at (code_of x.form) ≡ x.form = form_of_code x.form (omega (arith, read.small)) in
+          let one : table_forms (take (n + 1) table₁) ≡ table_forms (take n table) ++ (x.form ∷ []) =
+          rw (k, add-one, take-suc-set table n (code_of x.form) room, map-append form_at (take n table) (code_of x.form ∷ []), form) in
+          record {
+            pace = omega (arith, s.pace, read.later, a.later);
+            within = a.within;
+            counted = omega (arith, s.counted, read.later, a.counted);
+            stops = stops;
+            read = rw (one, append_snoc (table_forms (take n table)) x.form (forms_from text q.at), ← a.forms, ← read.forms) s.read;
+            readable = sym a.readable ∙ rw (add-one p.line) (sym read.unreadable ∙ s.readable);
+          }
 
-    pub filling_less : length text - p'.at < length text - p.at
-    filling_less = omega (arith, next-later text p.at p.line q e f next g, a.later, a.within)
+      pub filling_less : length text - q.at < length text - p.at
+      filling_less = omega (arith, read.later, a.later, a.within)
 
-  pub next-counted : (f : Form) (next : ℕ) → q ≡ Read f next → p.line + 1 ≤ next + 1
-  next-counted f next g = omega (arith, s.counted, next-later text p.at p.line q e f next g)
-
-  pub filling_refused : (x : Refusal) (table₁ : List ℕ) → p.at < length text → q ≡ line.Refused x → Tabled (refused_at 3 (unreadable_line text)) text (Refused x) table₁
+  -- or refused
+  pub filling_refused : (x : Refusal) (table₁ : List ℕ) → Err x ≡ line_at text p.at p.line → p.at < length text → Tabled (refused_at 3 (unreadable_line text)) text (Err x) table₁
   unfolding reading_of
-  filling_refused x table₁ h g =
-      let u : some p.line ≡ unreadable_line text = refused-line text p.at p.line q e x h s.stops g (unreadable_line text) s.readable in
+  filling_refused x table₁ e h =
+      let y : ReadRefused text p.at p.line x = read-refused text p.at p.line x h s.stops (sym e) in
+      let u : some p.line ≡ unreadable_line text = sym y.unreadable ∙ s.readable in
       record {
-        answer = ap Refused (refused-answer text p.at p.line q e x h s.stops g) ∙ ap (λ o. reading_of (refused_at 3 o) (length (forms_of text))) u;
+        answer = rw (y.answer, ← u);
         forms = λ none-refused. absurd (none-ne-some _ (sym (rw (← u) at none-refused)));
       }
 
 pub filling_done : (text table table₀ : List ℕ) (p : Place) (n : ℕ) → Filling text table p n → length text ≤ p.at → length text ≤ max_bytes
     → FormRoom text table₀ → length table ≡ length table₀
-    → Tabled (refused_at 3 (unreadable_line text)) text (Accepted n) table
+    → Tabled (refused_at 3 (unreadable_line text)) text (Ok n) table
 unfolding reading_of
 filling_done text table table₀ p n s h a b c =
     let e : none ≡ unreadable_line text = ended-readable text p.at p.line h (unreadable_line text) s.readable in
@@ -96,39 +87,33 @@ filling_done text table table₀ p n s h a b c =
     record { answer = rw (← e, k); forms = λ _. rw k f }
 
 -- an answer that accepts
-pub accepted-none : (a : Option Refusal) (m n : ℕ) → reading_of a m ≡ Accepted n → a ≡ none
+pub accepted-none : (a : Option Refusal) (m n : ℕ) → reading_of a m ≡ Ok n → a ≡ none
 unfolding reading_of
 accepted-none none m n e = refl
-accepted-none (some r) m n e = let z : ◌≡◌ {A = ℕ} 0 1 = cc in absurd (omega arith)
+accepted-none (some r) m n e = cc
 
-pub accepted-count : (a : Option Refusal) (m n : ℕ) → reading_of a m ≡ Accepted n → n ≡ m
+pub accepted-count : (a : Option Refusal) (m n : ℕ) → reading_of a m ≡ Ok n → n ≡ m
 unfolding reading_of
 accepted-count none m n e = cc
-accepted-count (some r) m n e = let z : ◌≡◌ {A = ℕ} 0 1 = cc in absurd (omega arith)
+accepted-count (some r) m n e = cc
 
 -- an answer that refuses
-pub refused-is : (a : Option Refusal) (m : ℕ) (x : Refusal) → reading_of a m ≡ Refused x → a ≡ some x
+pub refused-is : (a : Option Refusal) (m : ℕ) (x : Refusal) → reading_of a m ≡ Err x → a ≡ some x
 unfolding reading_of
-refused-is none m x e = let z : ◌≡◌ {A = ℕ} 0 1 = cc in absurd (omega arith)
+refused-is none m x e = cc
 refused-is (some w) m x e = let k : w ≡ x = cc in ap {B = Option Refusal} some k
 
 -- ---- the rules 2 and 3
 
-pub lines_long : (text table : List ℕ) → max_bytes < length text → Tabled (lines_refusal text) text (Refused (refusal 2 0)) table
+pub lines_long : (text table : List ℕ) → max_bytes < length text → Tabled (lines_refusal text) text (Err (refusal 2 0)) table
 unfolding lines_refusal too_long or_else reading_of
 lines_long text table h = rw (lt-ltb max_bytes (length text) h) (record { answer = refl; forms = λ e. absurd (none-ne-some _ (sym e)) })
 
-pub lines-read : (text table : List ℕ) (q : Reading) → length text ≤ max_bytes → Tabled (refused_at 3 (unreadable_line text)) text q table → Tabled (lines_refusal text) text q table
+pub lines-read : (text table : List ℕ) (q : Result ℕ Refusal) → length text ≤ max_bytes → Tabled (refused_at 3 (unreadable_line text)) text q table → Tabled (lines_refusal text) text q table
 unfolding lines_refusal too_long or_else
 lines-read text table q h t = rw (le-ltb max_bytes (length text) h) t
 
 -- ---- the line in the file
-
-pub file_accepted : (text : List ℕ) (q : Reading) (n : ℕ) → q ≡ Accepted n → Accepted n ≡ read_in_file text q
-file_accepted text q n e = rw e
-
-pub file_refused : (text : List ℕ) (q : Reading) (x : Refusal) (l : ℕ) → q ≡ Refused x → l ≡ line_of text x.line → Refused (refusal x.rule l) ≡ read_in_file text q
-file_refused text q x l e g = rw (e, g)
 
 -- a refusal that names a form, as a reading, with the form's line
 pub read-in_file : (text : List ℕ) (o : Option Refusal) (n : ℕ) → read_in_file text (reading_of o n) ≡ reading_of (in_file text o) n

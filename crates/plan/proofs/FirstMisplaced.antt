@@ -1,7 +1,7 @@
 -- Rule 4 names the first form with which no plan begins, or the number behind the last form's (`structure_first`). From each state some forms lead to
 -- acceptance, so what the machine has read begins a plan; a form without a place is refused whatever follows it.
 use Prim.Native.Nat.{ℕ, suc, ◌+◌, ◌-◌, ◌<◌, ◌≤◌}
-use mathlib.Core.Bool.{Bool, true, false, cond}
+use mathlib.Core.Bool.{true, false}
 use mathlib.Core.List.{List, [], ◌∷◌, ◌++◌, append_assoc, append-nil}
 use mathlib.Core.Logic.{◌⊎◌, inl, inr, ⊎_elim, ◌↔◌}
 use mathlib.Core.Option.{Option, none, some, none-ne-some, some-injective}
@@ -9,12 +9,14 @@ use mathlib.Core.Path.{◌≡◌, refl, ap, sym, subst, ◌∙◌}
 use native.Mathlib.Omega.{arith}
 use lib.ListN.{length, take, drop, take-append-drop}
 use lib.Seq.{take-take, take_all}
-use lib.Dec.{eqb}
 use Rattle.laws.proofs.Tests.{lt_or_le}
 use Rattle.text.specs.declared.Form.{Form}
-use Rattle.plan.specs.Structure.{complete, misplaced, misplaced_form}
+use Rattle.plan.specs.declared.Mode.{Mode}
+use Rattle.plan.specs.declared.Mode.TheVariants.{Complete}
+use Rattle.plan.specs.Structure.{unless_complete, misplaced, misplaced_form}
 use Rattle.plan.specs.Places.{IsPlan, Begins, NoPlace, EndsEarly}
-use Rattle.plan.proofs.States.{Bracket, statement, one, two}
+use Rattle.plan.specs.declared.Bracket.{Bracket}
+use Rattle.plan.specs.declared.Bracket.TheVariants.{OfStatement as statement, OfOne as one, OfTwo as two}
 use Rattle.plan.proofs.States.{State, initial, first-proc, next-proc, next-thread, finished, in_block, awaits_one, awaits_two, ends-either}
 use Rattle.plan.proofs.States.{mode_of, stack_of, misplaced_from, after-step, step_or_refused}
 use Rattle.plan.proofs.States.{Step, begins-plan, first, first-thread, ends-plan, skips}
@@ -81,13 +83,13 @@ refuses-later x fs number n r = record {
   refused = λ h gs. after-step x number (take (suc r.place) fs ++ gs) ∙ r.refused (omega arith) gs;
 }
 
-ended : (number n : ℕ) (b : Bool) → cond b none (some number) ≡ some n → number ≡ n
-ended number n true h = absurd (none-ne-some n h)
-ended number n false h = some-injective number n h
+ended : (number n : ℕ) (m : Mode) → unless_complete m number ≡ some n → number ≡ n
+ended number n Complete h = absurd (none-ne-some n h)
+ended number n _ h = some-injective number n h
 
 refuses : (fs : List Form) (s : State) (number n : ℕ) → misplaced_from s number fs ≡ some n → Refuses s number fs n
 unfolding misplaced
-refuses [] s number n h = refuses-here [] s number n (ended number n (eqb (mode_of s) complete) h) (λ k. absurd (omega arith))
+refuses [] s number n h = refuses-here [] s number n (ended number n (mode_of s) h) (λ k. absurd (omega arith))
 refuses (f ∷ fs) s number n h =
     ⊎_elim (λ (x : (t : State) × Step s f t). refuses-later x.1 fs number n (refuses fs x.0 (suc number) n (sym (after-step x.1 number fs) ∙ h)))
     (λ (no_place : (number : ℕ) (fs : List Form) → misplaced_from s number (f ∷ fs) ≡ some number).

@@ -4,7 +4,6 @@ use mathlib.Core.Bool.{Bool, true, false, cond}
 use mathlib.Core.List.{List, [], ◌∷◌}
 use mathlib.Core.Option.{Option, none, some, some-ne-none, or_else}
 use mathlib.Core.Path.{◌≡◌, refl}
-use native.Mathlib.Omega.{arith}
 use lib.Dec.{ltb}
 use Rattle.laws.proofs.Tests.{first-none}
 use borrow.Author.Tests.{ltb-false}
@@ -82,7 +81,7 @@ pub record WithinLimits (c : Counts) : Type 0 where
 
 neither : (a b : Bool) → pick a true b ≡ false → (a ≡ false) × (b ≡ false)
 unfolding pick
-neither true b h = absurd (let z : ◌≡◌ {A = ℕ} 0 1 = cc in omega arith)
+neither true b h = cc
 neither false b h = (refl, h)
 
 pub within-limits : (c : Counts) → over_limit c ≡ false → WithinLimits c

@@ -13,7 +13,7 @@ use lib.ListN.{length, get_or}
 use Rattle.text.specs.declared.Form.{Form}
 use Rattle.plan.specs.Grammar.{plan_in}
 use Rattle.text.specs.Lines.{refusal}
-use Rattle.plan.specs.declared.Reading.TheVariants.{Accepted, Refused}
+use Rattle.std.specs.Prelude.{Ok, Err}
 use Rattle.plan.specs.Table.{table_forms}
 use Rattle.plan.specs.Settled.{table_plan}
 use Rattle.plan.specs.Starts.{Starts}
@@ -58,7 +58,7 @@ module _ (rule : ℕ) (fs : List Form) (test : ℕ → Bool) where
     where
       go : (o : Option ℕ) → Lowest test 0 n o → refused_at rule (proc_form fs o) ≡ none
       go none x = refl
-      go (some q) x = let z : true ≡ false = sym x.2 ∙ h q (omega (arith, x.1)) in absurd (let y : ◌≡◌ {A = ℕ} 0 1 = cc in omega arith)
+      go (some q) x = cc (x.2, h q (omega (arith, x.1)))
 
 -- ---- as a pass: none before p passes the test, so that the lowest of those from p on is the lowest of all n
 
@@ -81,13 +81,13 @@ module _ (test : ℕ → Bool) (n : ℕ) where
 
       -- at its place, which is also the number of its `(proc`
       pub lowest-found : (starts : List ℕ) → Starts ws starts → p < n → test p ≡ true
-          → Refused (refusal rule (get_or starts p 0)) ≡ reading_of (proc_refusal rule (table_forms ws) test) k
+          → Err (refusal rule (get_or starts p 0)) ≡ reading_of (proc_refusal rule (table_forms ws) test) k
       unfolding reading_of
       lowest-found starts s h z =
           let f : some p ≡ lowest_from test 0 n = rw z at (turn h) in
-          ap (λ l. Refused (refusal rule l)) (s.numbers p (rw c at h)) ∙ refused (some p) f
+          ap (λ l. Err (refusal rule l)) (s.numbers p (rw c at h)) ∙ refused (some p) f
 
-      pub lowest-end : n ≤ p → Accepted k ≡ reading_of (proc_refusal rule (table_forms ws) test) k
+      pub lowest-end : n ≤ p → Ok k ≡ reading_of (proc_refusal rule (table_forms ws) test) k
       unfolding reading_of lowest_from
       lowest-end h =
           let z : n - p ≡ 0 = omega arith in

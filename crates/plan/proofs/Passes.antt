@@ -1,4 +1,4 @@
--- The definitions of the crate in the shape of its functions' needs: a match on a form, a table's forms from a place on, the stack in its buffer.
+-- The definitions of the crate in the shape of its functions' needs: a table's forms from a place on, the stack in its buffer, one rule after another.
 use Prim.Native.Nat.{ℕ, zero, suc, ◌+◌, ◌-◌, ◌<◌, ◌≤◌}
 use native.Mathlib.Numerals.{add-one}
 use native.Mathlib.Omega.{arith}
@@ -6,112 +6,52 @@ use mathlib.Core.Path.{◌≡◌, refl, sym, ap, ◌∙◌}
 use mathlib.Core.Bool.{Bool, true, false, cond}
 use mathlib.Core.List.{List, [], ◌∷◌, map, tail}
 use mathlib.Core.Option.{Option, none, some, or_else}
-use native.Mathlib.Nat.{le_refl}
-use lib.Dec.{eqb, leb}
-use denote.Enum.Declared.{tag_of}
-use types.Run.{OneOf}
-use borrow.Author.Tests.{eq-eqb, ne_eqb}
-use lib.ListN.{length, drop, get_or, set, drop_of_length-le}
-use lib.Seq.{drop-cons, get_or-set_same, get_or-set_other}
-use Rattle.laws.specs.Choice.{pick}
+use native.Mathlib.Nat.{le_refl, add-zero, zero-add}
+use denote.Enum.Bare.{sameb}
+use lib.ListN.{length, take, drop, get_or, set, drop_of_length-le}
+use lib.Seq.{length-take-le, drop-cons, get_or-set_same, get_or-set_other}
+use Rattle.std.specs.List.{position_from, position}
+use Rattle.std.proofs.lemmas.Iterator.Adapters.{position_from-zero}
+use Rattle.std.proofs.lemmas.List.{get_or-take}
+use Rattle.std.proofs.lemmas.Option.{slice_get-get_or}
 use Rattle.text.specs.declared.Form.{Form}
-use Rattle.text.specs.declared.Form.TheVariants.{Close}
-use Rattle.text.specs.Forms.{number_in, kind_in, is_proc, is_thread, is_close, is_statement, is_bracket}
-use Rattle.text.specs.contracts.Form.{the_type}
-use Rattle.text.proofs.Matches.{match_arm, kind-rest}
+use Rattle.text.specs.Forms.{is_proc, is_thread, is_close, is_statement, is_bracket}
+use Rattle.std.specs.Prelude.{Result, Ok, Err, Some, None, slice_get}
+use Rattle.std.specs.Prelude as std
+use Rattle.plan.specs.declared.Mode.{Mode}
+use Rattle.plan.specs.declared.Mode.TheVariants.{AtStart, Complete}
+use Rattle.plan.specs.contracts.Mode.{the_type as mode}
+use Rattle.plan.specs.declared.Bracket.{Bracket}
+use Rattle.plan.specs.declared.Bracket.TheVariants.{OfStatement}
 use Rattle.plan.specs.declared.Advance.{Advance}
-use Rattle.plan.specs.declared.Advance.TheVariants.{Stay, Push, Pop, Misplaced}
-use Rattle.plan.specs.declared.Limited.{Limited}
-use Rattle.plan.specs.declared.Limited.TheVariants.{Within, Past}
-use Rattle.plan.specs.declared.Reading.{Reading}
-use Rattle.plan.specs.declared.Reading.TheVariants.{Accepted, Refused}
 use Rattle.plan.specs.declared.Counts.{Counts}
-use Rattle.plan.specs.Table.{code_of, form_at}
-use Rattle.plan.specs.Structure.{innermost, stack_of, among, advance_of, go_on, complete, misplaced}
+use Rattle.plan.specs.Table.{form_at, table_forms}
+use Rattle.plan.specs.Structure.{innermost, stack_of, advance_of, go_on, unless_complete, misplaced, misplaced_form}
 use Rattle.text.specs.declared.Refusal.{Refusal}
 use Rattle.text.specs.Lines.{refusal}
-use Rattle.plan.specs.Rules.{refused_at, limited_of, reading_of}
-use Rattle.plan.specs.Limits.{Small, as_counts, no_counts, add_if, depth_after, counted, over_limit, past_limit_from, tested_by, least_bad, breaks, breaking, count_if, breaking_form}
-
--- ---- a match on a form: what a definition says of it, by the arm
-
--- an arm of one pattern
-module _ (f k : Form) (e : f ≡ k) where
-  pub code_case : (r : ℕ) → r ≡ code_of k → r ≡ code_of f
-  code_case r h = h ∙ ap code_of (sym e)
-
-  pub advance_case : (mode top : ℕ) (r : Advance) → r ≡ advance_of mode top k → r ≡ advance_of mode top f
-  advance_case mode top r h = h ∙ ap (advance_of mode top) (sym e)
-
-  pub rule_case : (r : ℕ) → r ≡ tested_by k → r ≡ tested_by f
-  rule_case r h = h ∙ ap tested_by (sym e)
-
-  pub number_case : (r : ℕ) → r ≡ number_in k → r ≡ number_in f
-  number_case r h = h ∙ ap number_in (sym e)
-
--- an arm of several patterns, or of the rest
-module _ (f : Form) where
-  pub advance_plain : (mode top : ℕ) (r : Advance) → OneOf (4 ∷ 5 ∷ []) (tag_of the_type f) → r ≡ among 5 6 mode (Stay 6) → r ≡ advance_of mode top f
-  unfolding advance_of
-  advance_plain mode top r h e = e ∙ sym (match_arm (advance_of mode top) (among 5 6 mode (Stay 6)) (4 ∷ 5 ∷ []) f h refl)
-
-  pub advance_bracket : (mode top : ℕ) (r : Advance) → OneOf (6 ∷ 7 ∷ 11 ∷ []) (tag_of the_type f) → r ≡ among 5 6 mode (Push 0) → r ≡ advance_of mode top f
-  unfolding advance_of
-  advance_bracket mode top r h e = e ∙ sym (match_arm (advance_of mode top) (among 5 6 mode (Push 0)) (6 ∷ 7 ∷ 11 ∷ []) f h refl)
-
-  pub rule-lock : (r : ℕ) → OneOf (6 ∷ 11 ∷ []) (tag_of the_type f) → r ≡ 6 → r ≡ tested_by f
-  unfolding tested_by kind_in
-  rule-lock r h e = e ∙ sym (match_arm tested_by 6 (6 ∷ 11 ∷ []) f h refl)
-
-  pub rule-rest : (r : ℕ) → OneOf (0 ∷ 1 ∷ 3 ∷ 4 ∷ 7 ∷ 8 ∷ 9 ∷ 10 ∷ []) (tag_of the_type f) → r ≡ 0 → r ≡ tested_by f
-  unfolding tested_by kind_in
-  rule-rest r h e = e ∙ sym (match_arm tested_by 0 (0 ∷ 1 ∷ 3 ∷ 4 ∷ 7 ∷ 8 ∷ 9 ∷ 10 ∷ []) f h refl)
-
-  pub number-rest : (r : ℕ) → OneOf (0 ∷ 1 ∷ 3 ∷ 4 ∷ 7 ∷ 8 ∷ 9 ∷ 10 ∷ []) (tag_of the_type f) → r ≡ 0 → r ≡ number_in f
-  unfolding number_in
-  number-rest r h e = e ∙ sym (match_arm number_in 0 (0 ∷ 1 ∷ 3 ∷ 4 ∷ 7 ∷ 8 ∷ 9 ∷ 10 ∷ []) f h refl)
-
-  pub depth-close : (d r : ℕ) → f ≡ Close → r ≡ d - 1 → r ≡ depth_after f d
-  unfolding kind_in
-  depth-close d r e h = rw (e, h)
-
-  pub depth-rest : (d r : ℕ) (q : Bool) → OneOf (0 ∷ 1 ∷ 2 ∷ 4 ∷ 5 ∷ 6 ∷ 7 ∷ 8 ∷ 9 ∷ 10 ∷ 11 ∷ []) (tag_of the_type f) → q ≡ is_bracket f → r ≡ add_if q d → r ≡ depth_after f d
-  depth-rest d r q h e k = rw (sym (kind-rest (Close ∷ []) f false h refl refl), k, e)
-
-pub counts-more : (c : Counts) (f : Form) (p s t d : ℕ) (isP isS isT : Bool) → isP ≡ is_proc f → isS ≡ is_statement f → isT ≡ is_thread f
-    → p ≡ add_if isP c.procs → s ≡ add_if isS c.statements → t ≡ add_if isT c.threads → d ≡ depth_after f c.depth → as_counts p s t d ≡ counted c f
-unfolding counted
-counts-more c f p s t d isP isS isT i j k x y z u = rw (x, y, z, u, i, j, k)
-
-pub breaks-number : (rule t a b n : ℕ) (f : Form) → t ≡ tested_by f → t ≡ rule → a ≡ least_bad rule n → b ≡ number_in f → leb a b ≡ breaks rule n f
-unfolding breaks pick
-breaks-number rule t a b n f e h p q = rw (← e, eq-eqb t rule h, ← p, ← q)
-
-pub breaks-not : (rule t n : ℕ) (f : Form) → t ≡ tested_by f → (t ≡ rule → ⊥) → false ≡ breaks rule n f
-unfolding breaks pick
-breaks-not rule t n f e h = rw (← e, ne_eqb t rule h)
+use Rattle.plan.specs.Rules.{refused_at, reading_of}
+use Rattle.plan.specs.Limits.{Small, as_counts, no_counts, add_if, counted, over_limit, past_limit_from, past_limit_form, breaks, breaking, count_if, breaking_form}
 
 -- ---- the stack in its buffer
 
-pub top-none : (buffer : List ℕ) (d : ℕ) → d ≡ 0 → 3 ≡ innermost (stack_of buffer d)
+-- the innermost bracket is the last of those below the depth
+pub top_last : (buffer : List Bracket) (d : ℕ) → d ≤ length buffer → slice_get (take d buffer) (length (take d buffer) - 1) ≡ innermost (stack_of buffer d)
 unfolding stack_of
-top-none buffer d e = rw e
+top_last buffer zero h = refl
+top_last buffer (suc d) h =
+    let e : length (take (suc d) buffer) - 1 ≡ d = omega (arith, length-take-le (suc d) buffer h) in
+    rw (e, slice_get-get_or (take (suc d) buffer) d OfStatement (omega (arith, length-take-le (suc d) buffer h)), get_or-take (suc d) buffer d OfStatement (omega arith))
 
-pub top-some : (buffer : List ℕ) (d : ℕ) → (d ≡ 0 → ⊥) → get_or buffer (d - 1) 0 ≡ innermost (stack_of buffer d)
-unfolding stack_of
-top-some buffer zero n = absurd (n refl)
-top-some buffer (suc d) n = let e : suc d - 1 ≡ d = omega arith in rw e
-
-stack_set : (buffer : List ℕ) (d i v : ℕ) → d ≤ i → stack_of (set buffer i v) d ≡ stack_of buffer d
+stack_set : (buffer : List Bracket) (d i : ℕ) (v : Bracket) → d ≤ i → stack_of (set buffer i v) d ≡ stack_of buffer d
 unfolding stack_of
 stack_set buffer zero i v h = refl
-stack_set buffer (suc d) i v h = rw (get_or-set_other buffer i d v 0 (λ e. omega arith), stack_set buffer d i v (omega arith))
+stack_set buffer (suc d) i v h = rw (get_or-set_other buffer i d v OfStatement (λ e. omega arith), stack_set buffer d i v (omega arith))
 
-pub stack_push : (buffer : List ℕ) (d v : ℕ) → d < length buffer → stack_of (set buffer d v) (d + 1) ≡ v ∷ stack_of buffer d
+pub stack_push : (buffer : List Bracket) (d : ℕ) (v : Bracket) → d < length buffer → stack_of (set buffer d v) (d + 1) ≡ v ∷ stack_of buffer d
 unfolding stack_of
-stack_push buffer d v h = rw (add-one, get_or-set_same buffer d v 0 h, stack_set buffer d d v (le_refl d))
+stack_push buffer d v h = rw (add-one, get_or-set_same buffer d v OfStatement h, stack_set buffer d d v (le_refl d))
 
-pub stack_pop : (buffer : List ℕ) (d : ℕ) → stack_of buffer (d - 1) ≡ tail (stack_of buffer d)
+pub stack_pop : (buffer : List Bracket) (d : ℕ) → stack_of buffer (d - 1) ≡ tail (stack_of buffer d)
 unfolding stack_of
 stack_pop buffer zero = refl
 stack_pop buffer (suc d) = let e : suc d - 1 ≡ d = omega arith in rw e
@@ -122,56 +62,53 @@ stack_pop buffer (suc d) = let e : suc d - 1 ≡ d = omega arith in rw e
 number-next : (i : ℕ) → suc (i + 1) ≡ i + 1 + 1
 number-next i = omega arith
 
-module _ (table : List ℕ) (mode d i : ℕ) (stack : List ℕ) (r : Option ℕ) where
-  turn : (f : Form) (top : ℕ) (q : Advance) → i < length table → f ≡ form_at (get_or table i 0) → top ≡ innermost (stack_of stack d) → q ≡ advance_of mode top f
-      → misplaced mode (stack_of stack d) (i + 1) (map form_at (drop i table))
-      ≡ go_on q (stack_of stack d) (i + 1) (λ m s. misplaced m s (i + 1 + 1) (map form_at (drop (i + 1) table)))
-  unfolding misplaced
-  turn f top q h e t g = rw (drop-cons table i 0 h, g, t, e, ← number-next i, add-one)
+-- the forms of a table from a place on
+forms_at : (table : List ℕ) (i : ℕ) → i < length table → map form_at (drop i table) ≡ form_at (get_or table i 0) ∷ map form_at (drop (i + 1) table)
+forms_at table i h = rw (drop-cons table i 0 h, add-one)
 
-  module _ (f : Form) (top : ℕ) (q : Advance) (h : i < length table) (e : f ≡ form_at (get_or table i 0))
-      (t : top ≡ innermost (stack_of stack d)) (g : q ≡ advance_of mode top f)
-      (p : misplaced mode (stack_of stack d) (i + 1) (map form_at (drop i table)) ≡ r) where
-    went : (k : Advance) → q ≡ k → go_on k (stack_of stack d) (i + 1) (λ m s. misplaced m s (i + 1 + 1) (map form_at (drop (i + 1) table))) ≡ r
-    went k a = ap (λ x. go_on x (stack_of stack d) (i + 1) (λ m s. misplaced m s (i + 1 + 1) (map form_at (drop (i + 1) table))))
-        (sym a) ∙ sym (turn f top q h e t g) ∙ p
+-- what the machine says of a table's forms from place i on
+unfoldable pub misplaced_from : List ℕ → Mode → List Bracket → ℕ → Option ℕ
+misplaced_from table mode stack i = misplaced mode stack (i + 1) (map form_at (drop i table))
 
-    pub pass_stay : (m : ℕ) → q ≡ Stay m → misplaced m (stack_of stack d) (i + 1 + 1) (map form_at (drop (i + 1) table)) ≡ r
-    pass_stay m a = went (Stay m) a
+pub misplaced_start : (table : List ℕ) (buffer : List Bracket) → misplaced_from table AtStart (stack_of buffer 0) 0 ≡ misplaced_form (table_forms table)
+unfolding misplaced_from misplaced_form stack_of
+misplaced_start table buffer = refl
 
-    -- the stack, as long as the table, has room: it holds no more brackets than forms were read
-    pub pass-push : (b : ℕ) (stack₀ : List ℕ) → q ≡ Push b → d ≤ i → length table ≤ length stack₀ → length stack ≡ length stack₀
-        → misplaced 5 (stack_of (set stack d b) (d + 1)) (i + 1 + 1) (map form_at (drop (i + 1) table)) ≡ r
-    pass-push b stack₀ a k l m = rw (stack_push stack d b (omega arith)) (went (Push b) a)
+misplaced_more : (table : List ℕ) (mode : Mode) (stack : List Bracket) (i : ℕ) → i < length table
+    → misplaced_from table mode stack i ≡ go_on (advance_of mode (innermost stack) (form_at (get_or table i 0))) stack (i + 1) (λ m s. misplaced_from table m s (i + 1))
+unfolding misplaced_from misplaced
+misplaced_more table mode stack i h = rw (forms_at table i h, ← number-next i)
 
-    pub pass_pop : (m n : ℕ) → q ≡ Pop m → n ≡ d - 1 → misplaced m (stack_of stack n) (i + 1 + 1) (map form_at (drop (i + 1) table)) ≡ r
-    pass_pop m n a k = rw (k, stack_pop stack d) (went (Pop m) a)
+-- a step of the machine
+pub misplaced_step : (table : List ℕ) (buffer : List Bracket) (mode : Mode) (d i : ℕ) (f : Form) (top : std.Option Bracket) (q : std.Option Advance) (r : Option ℕ)
+    → misplaced_from table mode (stack_of buffer d) i ≡ r → i < length table → f ≡ form_at (get_or table i 0) → top ≡ innermost (stack_of buffer d)
+    → q ≡ advance_of mode top f → go_on q (stack_of buffer d) (i + 1) (λ m s. misplaced_from table m s (i + 1)) ≡ r
+misplaced_step table buffer mode d i f top q r p h e t g = rw (g, t, e, ← misplaced_more table mode (stack_of buffer d) i h) p
 
-    pub pass-misplaced : (n : ℕ) → q ≡ Misplaced → Refused (refusal 4 (i + 1)) ≡ reading_of (refused_at 4 r) n
-    unfolding reading_of
-    pass-misplaced n a = ap (λ x. reading_of (refused_at 4 x) n) (went Misplaced a)
+-- at the end, by the mode
+module _ (table : List ℕ) (stack : List Bracket) (i n : ℕ) (r : Option ℕ) (h : i ≡ length table) where
+  at-end : (m : Mode) → misplaced_from table m stack i ≡ r → unless_complete m (length table + 1) ≡ r
+  unfolding misplaced_from misplaced
+  at-end m p = let k : length table ≤ i = omega arith in rw (drop_of_length-le table k, h) at p
 
-  at-end : length table ≤ i → misplaced mode (stack_of stack d) (i + 1) (map form_at (drop i table)) ≡ r → cond (eqb mode complete) none (some (i + 1)) ≡ r
-  unfolding misplaced
-  at-end h p = rw (drop_of_length-le table h) at p
-
-  pub pass-complete : length table ≤ i → misplaced mode (stack_of stack d) (i + 1) (map form_at (drop i table)) ≡ r → i ≤ length table → mode ≡ 4
-      → Accepted i ≡ reading_of (refused_at 4 r) (length table)
+  pub complete_accepts : (m : Mode) → misplaced_from table m stack i ≡ r → true ≡ sameb mode m Complete → Ok n ≡ reading_of (refused_at 4 r) n
   unfolding reading_of
-  pass-complete h p k e =
-      let a : none ≡ r = rw (eq-eqb mode 4 e) at (at-end h p) in
-      let b : i ≡ length table = omega arith in
-      rw (← a, b)
+  complete_accepts Complete p e = rw (← at-end Complete p)
+  complete_accepts _ p e = cc
 
-  pub pass_early : (n : ℕ) → length table ≤ i → misplaced mode (stack_of stack d) (i + 1) (map form_at (drop i table)) ≡ r → (mode ≡ 4 → ⊥)
-      → Refused (refusal 4 (i + 1)) ≡ reading_of (refused_at 4 r) n
+  pub open_refuses : (m : Mode) → misplaced_from table m stack i ≡ r → false ≡ sameb mode m Complete → Err (refusal 4 (length table + 1)) ≡ reading_of (refused_at 4 r) n
   unfolding reading_of
-  pass_early n h p e = let a : some (i + 1) ≡ r = rw (ne_eqb mode 4 e) at (at-end h p) in rw (← a)
+  open_refuses Complete p e = cc
+  open_refuses m p e = rw (← at-end m p)
 
 -- ---- rule 5, one form of a table on
 
-pub small-none : Small no_counts 0
-small-none = record { procs = le_refl 0; statements = le_refl 0; threads = le_refl 0; depth = le_refl 0 }
+-- the counts before the first form
+pub counts_none : (c : Counts) → c.procs ≡ 0 → c.statements ≡ 0 → c.threads ≡ 0 → c.depth ≡ 0 → (c ≡ no_counts) × Small c 0
+counts_none c p s t d = (same c.procs c.statements c.threads c.depth p s t d, record { procs = omega arith; statements = omega arith; threads = omega arith; depth = omega arith })
+  where
+    same : (p s t o : ℕ) → p ≡ 0 → s ≡ 0 → t ≡ 0 → o ≡ 0 → as_counts p s t o ≡ no_counts
+    same p s t o a b c d = rw (a, b, c, d)
 
 -- a count grows by one at most
 add_most : (b : Bool) (n i : ℕ) → n ≤ i → add_if b n ≤ i + 1
@@ -191,115 +128,100 @@ grown c i s f = record {
     deeper true h k = omega arith
     deeper false h k = h
 
-pub small-more : (c r : Counts) (f : Form) (i : ℕ) → r ≡ counted c f → Small c i → Small r (i + 1)
-small-more c r f i e s = rw e (grown c i s f)
+pub small_more : (c r : Counts) (f : Form) (i : ℕ) → r ≡ counted c f → Small c i → Small r (i + 1)
+small_more c r f i e s = rw e (grown c i s f)
 
-pub small-below : (c : Counts) (i n : ℕ) → Small c i → i < n → n < 65536 → Small c 65536
-small-below c i n s h k = record { procs = omega arith; statements = omega arith; threads = omega arith; depth = omega arith }
+pub small_below : (c : Counts) (i n : ℕ) → Small c i → i < n → n < 65536 → Small c 65536
+small_below c i n s h k = record { procs = omega arith; statements = omega arith; threads = omega arith; depth = omega arith }
 
-module _ (table : List ℕ) (i : ℕ) (c d : Counts) (f : Form) (q : Bool) (r : Option ℕ)
-    (h : i < length table) (e : f ≡ form_at (get_or table i 0)) (k : d ≡ counted c f)
-    (b : q ≡ over_limit d) (p : past_limit_from c (i + 1) (map form_at (drop i table)) ≡ r) where
-  limited : cond q (some (i + 1)) (past_limit_from d (i + 1 + 1) (map form_at (drop (i + 1) table))) ≡ r
-  unfolding past_limit_from
-  limited = rw (b, k, e, ← number-next i, add-one) (rw (drop-cons table i 0 h, add-one) at p)
+-- rule 5's answer by the forms of a table from place i on, where c counts those before
+unfoldable pub limits_from : List ℕ → Counts → ℕ → Result ℕ Refusal
+limits_from table c i = reading_of (refused_at 5 (past_limit_from c (i + 1) (map form_at (drop i table)))) (c.procs + count_if is_proc (map form_at (drop i table)))
 
-  pub limits-again : q ≡ false → past_limit_from d (i + 1 + 1) (map form_at (drop (i + 1) table)) ≡ r
-  limits-again z = rw z at limited
+pub limits_start : (table : List ℕ)
+    → limits_from table no_counts 0 ≡ reading_of (refused_at 5 (past_limit_form (table_forms table))) (count_if is_proc (table_forms table))
+unfolding limits_from past_limit_form
+limits_start table = ap (λ n. reading_of (refused_at 5 (past_limit_from no_counts 1 (table_forms table))) n) (zero-add (count_if is_proc (table_forms table)))
 
-  pub limits-passed : (n : ℕ) → q ≡ true → Past (refusal 5 (i + 1)) ≡ limited_of (refused_at 5 r) n
-  unfolding limited_of
-  limits-passed n z = let a : some (i + 1) ≡ r = rw z at limited in rw (← a)
-
--- the procedures counted, and those among the forms fs
-unfoldable pub procs_from : Counts → List Form → ℕ
-procs_from c fs = c.procs + count_if is_proc fs
-
-pub procs-none : (fs : List Form) → procs_from no_counts fs ≡ count_if is_proc fs
-unfolding procs_from
-procs-none fs = omega arith
-
-pub procs-again : (table : List ℕ) (i r : ℕ) (c d : Counts) (f : Form) → procs_from c (map form_at (drop i table)) ≡ r → i < length table → f ≡ form_at (get_or table i 0)
-    → d ≡ counted c f → procs_from d (map form_at (drop (i + 1) table)) ≡ r
-unfolding procs_from counted count_if
-procs-again table i r c d f p h e k =
-    let rest = count_if is_proc (map form_at (drop (i + 1) table)) in
-    let t : c.procs + (cond (is_proc f) 1 0 + rest) ≡ r = rw (e, add-one) (rw (drop-cons table i 0 h) at p) in
-    rw k (more (is_proc f) rest t)
+more_procs : (c : Counts) (f : Form) (fs : List Form) → c.procs + count_if is_proc (f ∷ fs) ≡ (counted c f).procs + count_if is_proc fs
+unfolding counted count_if
+more_procs c f fs = go (is_proc f) (count_if is_proc fs)
   where
-    more : (q : Bool) (rest : ℕ) → c.procs + (cond q 1 0 + rest) ≡ r → add_if q c.procs + rest ≡ r
-    more true rest t = omega arith
-    more false rest t = omega arith
+    go : (b : Bool) (n : ℕ) → c.procs + (cond b 1 0 + n) ≡ add_if b c.procs + n
+    go true n = omega arith
+    go false n = omega arith
 
-pub limits-kept : (table : List ℕ) (i n : ℕ) (c : Counts) (r : Option ℕ) → length table ≤ i → past_limit_from c (i + 1) (map form_at (drop i table)) ≡ r
-    → procs_from c (map form_at (drop i table)) ≡ n → Within c.procs ≡ limited_of (refused_at 5 r) n
-unfolding past_limit_from procs_from count_if limited_of
-limits-kept table i n c r h p k =
-    let a : none ≡ r = rw (drop_of_length-le table h) at p in
-    let b : c.procs + 0 ≡ n = rw (drop_of_length-le table h) at k in
-    let e : c.procs ≡ n = omega arith in
-    rw (← a, e)
+answered : (b : Bool) (k n : ℕ) (later : Option ℕ) → reading_of (refused_at 5 (cond b (some k) later)) n ≡ cond b (Err (refusal 5 k)) (reading_of (refused_at 5 later) n)
+unfolding reading_of
+answered true k n later = refl
+answered false k n later = refl
+
+pub limits_step : (table : List ℕ) (c : Counts) (i : ℕ) → i < length table
+    → limits_from table c i ≡ cond (over_limit (counted c (form_at (get_or table i 0)))) (Err (refusal 5 (i + 1))) (limits_from table (counted c (form_at (get_or table i 0))) (i + 1))
+unfolding limits_from past_limit_from
+limits_step table c i h = rw (forms_at table i h, more_procs c, ← number-next i) (answered _ _ _ _)
+
+pub limits_end : (table : List ℕ) (c : Counts) (i : ℕ) → length table ≤ i → limits_from table c i ≡ Ok c.procs
+unfolding limits_from past_limit_from count_if reading_of
+limits_end table c i h = rw (drop_of_length-le table h, add-zero)
+
+pub ruleset limits_pass = (counts_none, small_below, limits_start, limits_step, limits_end)
 
 -- ---- rules 6 to 8, one form of a table on
 
-pub rule-first : (rule m : ℕ) (fs : List Form) → m ≡ count_if is_proc fs → breaking rule m 1 fs ≡ breaking_form rule fs
-unfolding breaking_form
-rule-first rule m fs e = rw e
+-- the number of a form by its place
+abbrev number_of : std.Option ℕ → Option ℕ
+number_of (Some i) = some (i + 1)
+number_of None = none
 
-module _ (table : List ℕ) (rule m i : ℕ) (f : Form) (q : Bool) (r : Option ℕ)
-    (h : i < length table) (e : f ≡ form_at (get_or table i 0)) (b : q ≡ breaks rule m f) (p : breaking rule m (i + 1) (map form_at (drop i table)) ≡ r) where
-  tested : cond q (some (i + 1)) (breaking rule m (i + 1 + 1) (map form_at (drop (i + 1) table))) ≡ r
+module _ (rule m : ℕ) where
+  abbrev breaking_code : ℕ → Bool
+  breaking_code w = breaks rule m (form_at w)
+
+  breaking_place : (table : List ℕ) (i : ℕ) → breaking rule m (i + 1) (map form_at table) ≡ number_of (position_from breaking_code i table)
   unfolding breaking
-  tested = rw (b, e, ← number-next i, add-one) (rw (drop-cons table i 0 h, add-one) at p)
-
-  pub rule-again : q ≡ false → breaking rule m (i + 1 + 1) (map form_at (drop (i + 1) table)) ≡ r
-  rule-again z = rw z at tested
-
-  pub rule-broken : (n : ℕ) → q ≡ true → Refused (refusal rule (i + 1)) ≡ reading_of (refused_at rule r) n
-  unfolding reading_of
-  rule-broken n z = let a : some (i + 1) ≡ r = rw z at tested in rw (← a)
-
-pub rule-kept : (table : List ℕ) (rule m i : ℕ) (r : Option ℕ) → length table ≤ i → i ≤ length table
-    → breaking rule m (i + 1) (map form_at (drop i table)) ≡ r
-    → Accepted i ≡ reading_of (refused_at rule r) (length table)
-unfolding breaking reading_of
-rule-kept table rule m i r h k p =
-    let a : none ≡ r = rw (drop_of_length-le table h) at p in
-    let b : i ≡ length table = omega arith in
-    rw (← a, b)
-
--- ---- the rules one after the other
-
-pub first-refuses : (a b : Option Refusal) (q : Reading) (n : ℕ) (x : Refusal) → q ≡ reading_of a n → q ≡ Refused x → q ≡ reading_of (or_else a b) n
-unfolding reading_of or_else
-first-refuses none b q n x e g = let z : ◌≡◌ {A = ℕ} 0 1 = cc in absurd (omega arith)
-first-refuses (some w) b q n x e g = e
-
-pub first_passes : (a b : Option Refusal) (q r : Reading) (n m : ℕ) → q ≡ reading_of a n → q ≡ Accepted m → r ≡ reading_of b n → r ≡ reading_of (or_else a b) n
-unfolding reading_of or_else
-first_passes none b q r n m e g h = h
-first_passes (some w) b q r n m e g h = let z : ◌≡◌ {A = ℕ} 0 1 = cc in absurd (omega arith)
-
--- by the answer of rule 5
-
-module _ (a b : Option Refusal) (q : Limited) (r : Reading) (n k : ℕ) (e : q ≡ limited_of a n) where
-  pub limits_refuse : (x : Refusal) → q ≡ Past x → r ≡ Refused x → r ≡ reading_of (or_else a b) k
-  unfolding limited_of reading_of or_else
-  limits_refuse x g h = go a e
+  breaking_place [] i = refl
+  breaking_place (w ∷ ws) i = rw (number-next i, breaking_place ws (i + 1)) (go (breaking_code w) (position_from breaking_code (i + 1) ws))
     where
-      go : (a : Option Refusal) → q ≡ limited_of a n → r ≡ reading_of (or_else a b) k
-      go none e = let z : ◌≡◌ {A = ℕ} 0 1 = cc in absurd (omega arith)
-      go (some w) e = let z : w ≡ x = cc in rw z h
+      go : (b : Bool) (later : std.Option ℕ) → cond b (some (i + 1)) (number_of later) ≡ number_of (cond b (Some i) later)
+      go true later = refl
+      go false later = refl
 
-  pub limits-pass : (m : ℕ) → q ≡ Within m → r ≡ reading_of b k → r ≡ reading_of (or_else a b) k
-  unfolding limited_of reading_of or_else
-  limits-pass m g h = go a e
-    where
-      go : (a : Option Refusal) → q ≡ limited_of a n → r ≡ reading_of (or_else a b) k
-      go none e = h
-      go (some w) e = let z : ◌≡◌ {A = ℕ} 0 1 = cc in absurd (omega arith)
+  module _ (table : List ℕ) (n : ℕ) (h : m ≡ count_if is_proc (table_forms table)) where
+    first_breaking : breaking_form rule (table_forms table) ≡ number_of (position breaking_code table)
+    unfolding breaking_form
+    first_breaking = rw (← h, breaking_place table 0, ← position_from-zero breaking_code table)
 
-pub procs-counted : (a : Option Refusal) (q : Limited) (n m : ℕ) → q ≡ limited_of a n → q ≡ Within m → m ≡ n
-unfolding limited_of
-procs-counted none q n m e g = cc
-procs-counted (some w) q n m e g = let z : ◌≡◌ {A = ℕ} 0 1 = cc in absurd (omega arith)
+    pub breaking_found : (i : ℕ) → Some i ≡ position breaking_code table → Err (refusal rule (i + 1)) ≡ reading_of (refused_at rule (breaking_form rule (table_forms table))) n
+    unfolding reading_of
+    breaking_found i e = rw (first_breaking, ← e)
+
+    pub breaking_none : None ≡ position breaking_code table → Ok n ≡ reading_of (refused_at rule (breaking_form rule (table_forms table))) n
+    unfolding reading_of
+    breaking_none e = rw (first_breaking, ← e)
+
+-- ---- the rules one after the other: the first that refuses gives the answer, behind a `?`
+
+pub rule_refuses : (a b : Option Refusal) (k n : ℕ) (x : Refusal) → reading_of a n ≡ Err x → reading_of (or_else a b) k ≡ Err x
+unfolding reading_of or_else
+rule_refuses none b k n x e = cc
+rule_refuses (some w) b k n x e = e
+
+pub rule_passes : (a b : Option Refusal) (k n m : ℕ) → reading_of a n ≡ Ok m → reading_of (or_else a b) k ≡ reading_of b k
+unfolding reading_of or_else
+rule_passes none b k n m e = refl
+rule_passes (some w) b k n m e = cc
+
+pub passed_count : (a : Option Refusal) (n m : ℕ) → reading_of a n ≡ Ok m → reading_of a n ≡ Ok n
+unfolding reading_of
+passed_count none n m e = refl
+passed_count (some w) n m e = cc
+
+pub ruleset in_order = (rule_refuses, rule_passes, passed_count)
+
+-- the same, of an answer in a variable
+pub first-refuses : (a b : Option Refusal) (q : Result ℕ Refusal) (n : ℕ) (x : Refusal) → q ≡ reading_of a n → q ≡ Err x → q ≡ reading_of (or_else a b) n
+first-refuses a b q n x e g = g ∙ sym (rule_refuses a b n n x (sym e ∙ g))
+
+pub first_passes : (a b : Option Refusal) (q r : Result ℕ Refusal) (n m : ℕ) → q ≡ reading_of a n → q ≡ Ok m → r ≡ reading_of b n → r ≡ reading_of (or_else a b) n
+first_passes a b q r n m e g h = h ∙ sym (rule_passes a b n n m (sym e ∙ g))

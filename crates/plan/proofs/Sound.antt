@@ -165,7 +165,7 @@ kept-threads (p ∷ ns) m n s t k =
     each b bs (suc i) h = bs i (omega arith)
 
 -- the forms of a plan that keep rules 5 to 8
-pub kept-settled : (plan : LockPlan) → Grammatical plan → Kept (count_if is_proc (forms plan)) no_counts (forms plan) → Settled plan
+kept-settled : (plan : LockPlan) → Grammatical plan → Kept (count_if is_proc (forms plan)) no_counts (forms plan) → Settled plan
 unfolding Kept forms counted kind_in
 kept-settled plan g k =
     let m = length plan.procs in

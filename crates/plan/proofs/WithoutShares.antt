@@ -8,11 +8,10 @@ use mathlib.Core.Path.{◌≡◌, refl, ap, subst, ◌∙◌}
 use native.Mathlib.Omega.{arith}
 use lib.ListN.{length}
 use borrow.Author.Tests.{eqb-true}
+use Rattle.std.specs.Prelude.{Option, Some, None}
 use Rattle.limits.specs.Limits.{lock_count, claim_count}
 use Rattle.text.specs.declared.Form.{Form}
 use Rattle.text.specs.declared.Form.TheVariants.{Plan, Close, Two, Hold, Share}
-use Rattle.text.specs.declared.Kind.{Kind}
-use Rattle.text.specs.declared.Kind.TheVariants.{Known, Unknown}
 use Rattle.text.specs.Forms.{number_in, kind_in, is_share, IsForm}
 use Rattle.text.specs.Kinds.{kind_of}
 use Rattle.text.specs.Lines.{split, unindented, cons_form, forms_in, forms_of}
@@ -34,9 +33,9 @@ unfolding forms_in count_if
 lines-without [] h = refl
 lines-without (l ∷ ls) h = go (kind_of (unindented l)) refl (lines-without ls (λ x m. h x (Memᴰ.tail m)))
   where
-    go : (k : Kind) → kind_of (unindented l) ≡ k → NoShare (forms_in ls) → NoShare (cons_form k (forms_in ls))
-    go Unknown e rest = rest
-    go (Known f) e rest = test (is_share f) refl
+    go : (k : Option Form) → kind_of (unindented l) ≡ k → NoShare (forms_in ls) → NoShare (cons_form k (forms_in ls))
+    go None e rest = rest
+    go (Some f) e rest = test (is_share f) refl
       where
         test : (b : Bool) → is_share f ≡ b → NoShare (f ∷ forms_in ls)
         test true s = absurd (h l (Memᴰ.head refl) (number_in f) (subst (IsForm (unindented l)) (kind-form (Share 0) f s) ((kind-written (unindented l) f).0 e)))

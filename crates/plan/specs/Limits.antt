@@ -1,5 +1,7 @@
 -- Rule 5, a test of the counts of what has been read, form after form; rules 6 to 8, a test of each form's number. 01, "Rules, in checking order".
 use Rattle.std.specs.Prelude.{ℕ, suc, ◌+◌, ◌-◌, ◌≤◌, Bool, true, false, cond, List, [], ◌∷◌, eqb, ltb, leb}
+use Rattle.std.specs.Prelude.{Some, None}
+use Rattle.std.specs.Prelude as std
 use Rattle.std.proofs.Math.Option.{Option, none, some}
 use Rattle.limits.specs.Limits.{max_procs, max_statements, max_threads, max_brackets, lock_count}
 use Rattle.laws.specs.Choice.{pick}
@@ -54,6 +56,11 @@ past_limit_form fs = past_limit_from no_counts 1 fs
 -- the rule that tests a form's number: 6 a hold's or a share's lock, 7 a call's procedure, 8 a thread's; 0 where none does
 unfoldable pub tested_by : Form → ℕ
 tested_by f = cond (is_thread f) 8 (cond (is_call f) 7 (cond (takes_lock f) 6 0))
+
+-- the same as code has it: the number of the rule, 0 for none
+abbrev pub rule_number : std.Option ℕ → ℕ
+rule_number (Some rule) = rule
+rule_number None = 0
 
 -- the least number that breaks the rule, where there are n procedures. 6: "A hold names a lock above 31"; 02, change 9, of a share: "rule 6 for its lock". 7, by 02, change 2:
 -- "a call of a procedure that is not there". 8: "A thread names a procedure that is not there"

@@ -1,7 +1,7 @@
 -- The rules in checking order, as five refusals: the plan's, the verdict's, the pair list's, a copy's, the crossings'. 01, "Rules, in checking order": "A refusal
 -- returns its number and a line (0 where none is named) .. Each rule is tested over the whole text before the next." The rules 4 to 9, 12 and 13 are said of the list of
 -- forms and name a form by its number, from 1; `in_file` names its line in the file. 02, change 5, of rule 10: "take it out, its number unused".
-use Rattle.std.specs.Prelude.{ℕ, zero, suc, ◌-◌, Bool, not, ◌&&◌, ◌||◌, cond, List, [], ◌∷◌, ◌≡◌, ltb, leb, eqb, length, take}
+use Rattle.std.specs.Prelude.{ℕ, zero, suc, ◌-◌, Bool, not, ◌&&◌, ◌||◌, cond, List, [], ◌∷◌, ◌≡◌, ltb, leb, eqb, length, take, Result, Ok, Err}
 use Rattle.std.proofs.Math.Option.{Option, none, some, or_else}
 use Rattle.limits.specs.Limits.{max_bytes, max_size, max_pair_words}
 use Rattle.text.specs.declared.Form.{Form}
@@ -15,10 +15,6 @@ use Rattle.plan.specs.Grammar.{plan_in}
 use Rattle.plan.specs.Structure.{misplaced_form}
 use Rattle.plan.specs.Table.{table_forms}
 use Rattle.plan.specs.Limits.{past_limit_form, breaking_form}
-use Rattle.plan.specs.declared.Limited.{Limited}
-use Rattle.plan.specs.declared.Limited.TheVariants.{Within, Past}
-use Rattle.plan.specs.declared.Reading.{Reading}
-use Rattle.plan.specs.declared.Reading.TheVariants.{Accepted, Refused}
 
 -- a rule that names a line or, of the rules over forms, a form by its number
 abbrev pub refused_at : ℕ → Option ℕ → Option Refusal
@@ -135,24 +131,19 @@ no_two_threads plan t u = refused_if 14 (are_no_two (length plan.threads) t u)
 unfoldable pub crossings_refusal : List ℕ → ℕ → ℕ → Option Refusal
 crossings_refusal text t u = or_else (plan_refusal text) (no_two_threads (plan_of text) t u)
 
--- The cases of rule 5's answer: how many procedures there are, where no limit is passed, or the refusal.
-unfoldable pub limited_of : Option Refusal → ℕ → Limited
-limited_of none n = Within n
-limited_of (some r) n = Past r
+-- The cases of a reading, with 01's numbers: none of the rules asked is broken, and how many forms there are, after rule 5 how many procedures; or the number of the
+-- first rule broken and its line, of a reading of forms the number of the form.
+unfoldable pub reading_of : Option Refusal → ℕ → Result ℕ Refusal
+reading_of none n = Ok n
+reading_of (some r) n = Err r
 
--- The cases of a reading, with 01's numbers: none of the rules asked is broken, and how many forms there are; or the number of the first rule broken and its line, of a
--- reading of forms the number of the form.
-unfoldable pub reading_of : Option Refusal → ℕ → Reading
-reading_of none n = Accepted n
-reading_of (some r) n = Refused r
-
--- a reading of forms, with the line in the file of the form that it names
-abbrev pub read_in_file : List ℕ → Reading → Reading
-read_in_file text (Accepted n) = Accepted n
-read_in_file text (Refused x) = Refused (refusal_in_file text x)
+-- the answer of a check of forms, with the line in the file of the form that a refusal names
+abbrev pub read_in_file : {A : Type 0} → List ℕ → Result A Refusal → Result A Refusal
+read_in_file text (Ok n) = Ok n
+read_in_file text (Err x) = Err (refusal_in_file text x)
 
 -- The promise of a call that reads a text into a table, where `refused` says whether and how the text is refused: the answer, and where it is accepted the table
 -- begins with the text's forms.
-pub record Tabled (refused : Option Refusal) (text : List ℕ) (r : Reading) (table : List ℕ) : Type 0 where
+pub record Tabled (refused : Option Refusal) (text : List ℕ) (r : Result ℕ Refusal) (table : List ℕ) : Type 0 where
   pub answer : r ≡ reading_of refused (length (forms_of text))
   pub forms : refused ≡ none → table_forms (take (length (forms_of text)) table) ≡ forms_of text

@@ -1,11 +1,11 @@
 -- A form as a code in a table: its kind plus 16 times its number. A form is read back from its code (theorem `form_of_code`).
-use Rattle.std.specs.Prelude.{cond, ℕ, ◌+◌, ◌*◌, ◌/◌, ◌%◌, ◌≤◌, min, List, map, eqb, length, set}
+use Rattle.std.specs.Prelude.{cond, ℕ, ◌+◌, ◌*◌, ◌/◌, ◌%◌, ◌≤◌, min, List, map, eqb, length, set, Result, Ok, Err}
 use Rattle.limits.specs.Limits.{max_bytes}
 use Rattle.text.specs.declared.Form.{Form}
 use Rattle.text.specs.declared.Form.TheVariants.{Plan, Proc, Thread, Close, Skip, Call, Hold, Loop, Either, One, Two, Share}
-use Rattle.text.specs.Forms.{kind_number, number_in}
 use Rattle.text.specs.declared.Line.{Line}
-use Rattle.text.specs.declared.Line.TheVariants.{Read, Refused}
+use Rattle.text.specs.declared.Refusal.{Refusal}
+use Rattle.text.specs.Forms.{kind_number, number_in}
 
 -- the code of a form
 unfoldable pub code_of : Form → ℕ
@@ -36,9 +36,9 @@ abbrev pub table_forms : List ℕ → List Form
 table_forms ws = map form_at ws
 
 -- a table with the form of a line at place n; of a refused line nothing is written
-abbrev pub with_line : Line → ℕ → List ℕ → List ℕ
-with_line (Read f next) n table = set table n (code_of f)
-with_line (Refused x) n table = table
+abbrev pub with_line : Result Line Refusal → ℕ → List ℕ → List ℕ
+with_line (Ok line) n table = set table n (code_of line.form)
+with_line (Err x) n table = table
 
 -- a table with room for the forms of a text, as far as rule 2 lets it be read: a form's line has two bytes at least
 pub record FormRoom (text table : List ℕ) : Type 0 where

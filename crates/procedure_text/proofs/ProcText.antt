@@ -4,7 +4,7 @@ use Prim.Native.Nat.{ℕ, suc, ◌+◌, ◌-◌, ◌<◌, ◌≤◌}
 use native.Mathlib.Omega.{arith}
 use mathlib.Core.Path.{◌≡◌, refl, sym, ap, subst, ◌∙◌}
 use mathlib.Core.List.{List, [], ◌∷◌}
-use mathlib.Core.Option.{none}
+use mathlib.Core.Option.{none, some}
 use mathlib.Core.Bool.{Bool, true, false}
 use lib.ListN.{length, take, drop, get_or}
 use lib.Dec.{ltb}
@@ -12,22 +12,21 @@ use denote.Ref.{Bor}
 use borrow.Author.Tests.{lt-ltb, le-ltb, ltb-true}
 use Rattle.text.specs.Lines.{forms_of, unreadable_line, IsText}
 use Rattle.semantics.specs.Plan.{LockPlan, body_in}
-use Rattle.plan.specs.declared.Reading.{Reading}
-use Rattle.plan.specs.declared.Reading.TheVariants.{Accepted, Refused}
 use Rattle.text.specs.declared.Form.{Form}
 use Rattle.plan.specs.Grammar.{forms, proc_forms}
 use Rattle.plan.specs.Table.{form_at, table_forms}
 use Rattle.plan.specs.Settled.{PlanTable, table_plan}
 use Rattle.plan.specs.Starts.{Starts}
 use Rattle.text.specs.declared.Refusal.{Refusal}
-use Rattle.plan.specs.Rules.{plan_refusal, plan_of, proc_form_from, Tabled}
-use Rattle.plan.proofs.Filling.{refused-is}
+use Rattle.plan.specs.Rules.{plan_refusal, plan_of, proc_form_from}
+use Rattle.checked.specs.declared.CheckedText.{CheckedText}
+use Rattle.checked.specs.Checks.{AcceptedText}
 use Rattle.parts.specs.Parts.{Span, span, bytes_in, PartAt, forms_span, forms_before, forms_to_closing}
 use Rattle.procs.proofs.Places.{map-drop}
 use Rattle.parts.proofs.Spans.{span-spelled}
 use Rattle.parts.proofs.ProcForms.{ProcForms, proc-forms}
 use Rattle.procedure_text.specs.ProcText.{or_empty, lines_of_proc, proc_text, table_lines}
-use Rattle.plan.proofs.AcceptedTable.{accepted-rules, accepted-text, accepted-settled, plan-kept, plan-forms, plan-table}
+use Rattle.plan.proofs.AcceptedTable.{accepted-rules, accepted-text, accepted-settled}
 
 -- an empty part
 pub part-empty : (s r : Bor (List ℕ)) (part : Span) → r.ref_ptr ≡ (s.ref_ptr.0, 0 + s.ref_ptr.1) → r.now ≡ [] → span 0 0 ≡ part → PartAt s part r
@@ -57,9 +56,9 @@ module _ (ws : List ℕ) (p procs : ℕ) (c : procs ≡ length (table_plan ws).p
 
 -- ---- of a text
 
-pub lines-refused : (text : List ℕ) (p : ℕ) (table : List ℕ) (q : Reading) (x : Refusal) → Tabled (plan_refusal text) text q table → q ≡ Refused x → span 0 0 ≡ proc_text text p
+pub lines-refused : (text : List ℕ) (p : ℕ) (x : Refusal) → plan_refusal text ≡ some x → span 0 0 ≡ proc_text text p
 unfolding proc_text
-lines-refused text p table q x t g = rw (refused-is (plan_refusal text) (length (forms_of text)) x (sym t.answer ∙ g))
+lines-refused text p x e = rw e
 
 -- a procedure of a table that holds the forms of a text's plan: its closing form is the last before the next procedure or thread
 module _ (text ws : List ℕ) (p : ℕ) (t : PlanTable ws) (e : table_forms ws ≡ forms_of text) where
@@ -73,18 +72,16 @@ module _ (text ws : List ℕ) (p : ℕ) (t : PlanTable ws) (e : table_forms ws �
       rw (h, map-drop form_at (proc_form_from 1 p (table_forms ws)) ws, ← e, t.written, k)
   table-lines false h = rw h
 
-pub text-lines : (text : List ℕ) (p n : ℕ) (table : List ℕ) (q : Reading) → Tabled (plan_refusal text) text q table → q ≡ Accepted n
-    → table_lines text (take (n - 0) table) p ≡ proc_text text p
-unfolding proc_text plan_of
-text-lines text p n table q t g =
-    let ws = take (n - 0) table in
-    let fs = plan-forms text table q n t g in
-    let found = table-lines text ws p (plan-table text table q n t g) fs (ltb p (length (table_plan ws).procs)) refl in
-    rw (plan-kept text table q n t g) (found ∙ rw fs)
+module _ (text : List ℕ) (p : ℕ) (table : List ℕ) (plan : CheckedText) (a : AcceptedText text plan table) where
+  text-lines : table_lines text (take plan.forms table) p ≡ proc_text text p
+  unfolding proc_text plan_of
+  text-lines =
+      let found = table-lines text (take plan.forms table) p a.rules.plan a.tabled (ltb p (length (table_plan (take plan.forms table)).procs)) refl in
+      rw a.kept (found ∙ rw a.tabled)
 
-pub text-part : (text r : Bor (List ℕ)) (p n : ℕ) (table : List ℕ) (q : Reading) → Tabled (plan_refusal text.now) text.now q table → q ≡ Accepted n
-    → PartAt text (table_lines text.now (take (n - 0) table) p) r → PartAt text (proc_text text.now p) r
-text-part text r p n table q t g h = rw (← text-lines text.now p n table q t g) h
+pub text-part : (text r : Bor (List ℕ)) (p : ℕ) (table : List ℕ) (plan : CheckedText) → AcceptedText text.now plan table
+    → PartAt text (table_lines text.now (take plan.forms table) p) r → PartAt text (proc_text text.now p) r
+text-part text r p table plan a h = rw (← text-lines text.now p table plan a) h
 
 -- ---- what the lines are
 

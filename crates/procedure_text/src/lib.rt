@@ -1,15 +1,12 @@
 // The text of a procedure: the rules, then the lines of the text that the procedure is.
 #![tactic(auto)]
 
-ghost use Rattle.std.specs.Prelude.{◌≤◌, length};
-ghost use Rattle.limits.specs.Limits.{max_forms};
 ghost use Rattle.plan.specs.Settled.{PlanTable};
 ghost use Rattle.procs.specs.Laid.{Laid};
 ghost use Rattle.parts.specs.Parts.{PartAt};
 ghost use Rattle.procedure_text.specs.ProcText.{proc_text, table_lines};
 
 use limits::MAX_FORMS;
-use plan::Reading;
 use procs::Layout;
 
 // The lines of a procedure of a table, empty where it is not there.
@@ -18,29 +15,18 @@ fn table_text<'a>(text: &'a [u8], table: &[u64], layout: Layout, proc: usize) ->
     ensures { PartAt text.entry (table_lines text.now table.now proc) result }
 {
     if layout.procs <= proc {
-        return &text[0..0];
+        return &text[..0];
     }
-    let starts = layout.starts;
-    parts::proc_part(text, table, starts[proc] as usize)
+    parts::proc_part(text, table, layout.starts[proc] as usize)
 }
 
 // The lines of a procedure of a text, empty where the plan is refused or the procedure is absent.
-fn find_text<'a>(text: &'a [u8], proc: usize, table: &mut [u64]) -> &'a [u8]
-    requires { max_forms ≤ length table.old }
-    ensures { PartAt text.entry (proc_text text.now proc) result }
-{
-    let checked = checked::read_text(text, table);
-    let reading = checked.reading;
-    let Reading::Accepted(n) = reading else {
-        return &text[0..0];
-    };
-    table_text(text, &table[0..n], checked.layout, proc)
-}
-
-// The same with a table of its own.
 pub fn lines_of(text: &[u8], proc: usize) -> &[u8]
     ensures { PartAt text.entry (proc_text text.now proc) result }
 {
     let mut table = [0u64; MAX_FORMS];
-    find_text(text, proc, &mut table)
+    match checked::read_text(text, &mut table) {
+        Ok(plan) => table_text(text, &table[..plan.forms], plan.layout, proc),
+        Err(_) => &text[..0],
+    }
 }

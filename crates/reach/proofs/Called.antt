@@ -1,27 +1,22 @@
 -- The pass over the forms of a procedure's block gives the mask of the procedures that the block calls (`start-calls`): what follows its closing line is a procedure, a thread
 -- or the plan's end, where the pass stops.
-use Prim.Native.Nat.{ℕ, ◌+◌, ◌*◌, ◌%◌, ◌^◌, ◌<◌, ◌≤◌}
-use native.Mathlib.Numerals.{add-one}
+use Prim.Native.Nat.{ℕ, ◌^◌, ◌<◌, ◌≤◌}
 use native.Mathlib.Omega.{arith}
 use mathlib.Core.Path.{◌≡◌, refl, sym, ap, ◌∙◌}
 use mathlib.Core.Bool.{Bool, true, false, cond}
-use mathlib.Core.List.{List, [], ◌∷◌, map}
-use denote.Enum.Declared.{tag_of}
-use types.Run.{OneOf}
-use borrow.Author.Tests.{lt-ltb, le-ltb}
+use mathlib.Core.List.{List, [], ◌∷◌}
+use borrow.Author.Tests.{lt-ltb}
 use lib.Bits.{bit_or, or_zero_r}
 use lib.Dec.{eqb}
-use lib.ListN.{length, drop, get_or, drop_of_length-le}
-use lib.Seq.{drop-cons}
+use lib.ListN.{length, drop, get_or}
+use Rattle.std.specs.List.{fold, before_first}
 use Rattle.limits.specs.Limits.{max_procs}
 use Rattle.laws.specs.Mask.{in_mask}
 use Rattle.laws.proofs.Bits.{or_assoc}
-use Rattle.laws.proofs.Masks.{shl_one, in_power}
+use Rattle.laws.proofs.Masks.{in_power}
 use Rattle.text.specs.declared.Form.{Form}
-use Rattle.text.specs.declared.Form.TheVariants.{Call, Close, Two}
+use Rattle.text.specs.declared.Form.TheVariants.{Close, Two}
 use Rattle.text.specs.Forms.{number_in, kind_in, begins_other}
-use Rattle.text.specs.contracts.Form.{the_type}
-use Rattle.text.proofs.Matches.{match_arm}
 use Rattle.semantics.specs.Plan.{Block, done, skip, call, hold, loop, either, end, body_in, Written}
 use Rattle.semantics.specs.CallMasks.{call_mask}
 use Rattle.plan.specs.Grammar.{block_forms, proc_forms, thread_forms}
@@ -30,51 +25,36 @@ use Rattle.plan.specs.Settled.{PlanTable, table_plan}
 use Rattle.plan.specs.Starts.{Starts}
 use Rattle.plan.proofs.ClaimForms.{by_claim}
 use Rattle.procs.proofs.Places.{map-drop, places-numbers, table_placed}
+use Rattle.procs.proofs.Fronts.{before_first-cons}
 use Rattle.reach.specs.Passes.{proc_bit, called_by, calls_in, calls_from}
 
 -- ---- a form
 
-pub bit_below : (p r : ℕ) → p < max_procs → r ≡ 1 * 2 ^ p % 2 ^ 64 → r ≡ proc_bit p
-unfolding proc_bit
-bit_below p r h e = rw (lt-ltb p max_procs h) (e ∙ shl_one 64 p (omega arith))
-
-pub bit-above : (p r : ℕ) → max_procs ≤ p → r ≡ 0 → r ≡ proc_bit p
-unfolding proc_bit
-bit-above p r h e = rw (le-ltb p max_procs h) e
-
--- its one member
+-- the one member of a procedure's bit
 pub in_proc_bit : (p b k : ℕ) → p < max_procs → b ≡ proc_bit p → in_mask b k ≡ eqb k p
 unfolding proc_bit
 in_proc_bit p b k h e = rw (e, lt-ltb p max_procs h) (in_power p k)
 
-pub called-call : (f : Form) (p r : ℕ) → f ≡ Call p → r ≡ proc_bit p → r ≡ called_by f
-unfolding called_by kind_in number_in
-called-call f p r e h = rw (e, h)
-
-pub called-rest : (f : Form) (r : ℕ) → OneOf (0 ∷ 1 ∷ 2 ∷ 3 ∷ 4 ∷ 6 ∷ 7 ∷ 8 ∷ 9 ∷ 10 ∷ 11 ∷ []) (tag_of the_type f) → r ≡ 0 → r ≡ called_by f
-unfolding called_by kind_in
-called-rest f r h k = k ∙ sym (match_arm called_by 0 (0 ∷ 1 ∷ 2 ∷ 3 ∷ 4 ∷ 6 ∷ 7 ∷ 8 ∷ 9 ∷ 10 ∷ 11 ∷ []) f h refl)
-
 -- ---- the pass
 
-module _ (table : List ℕ) (mask i r : ℕ) (p : bit_or mask (calls_in (map form_at (drop i table))) ≡ r) where
-  pub calls-done : length table ≤ i → mask ≡ r
-  unfolding calls_in
-  calls-done h = sym (or_zero_r mask) ∙ rw (drop_of_length-le table h) at p
+-- the masks of the forms joined one after another
+pub calls_folded : (ws : List ℕ) (m : ℕ) → fold (λ n w. bit_or n (called_by (form_at w))) m (before_first (λ w. begins_other (form_at w)) ws) ≡ bit_or m (calls_in (table_forms ws))
+unfolding calls_in
+calls_folded [] m = sym (or_zero_r m)
+calls_folded (w ∷ ws) m =
+    let rest = before_first (λ v. begins_other (form_at v)) ws in
+    let more = calls_folded ws (bit_or m (called_by (form_at w))) ∙ or_assoc m (called_by (form_at w)) (calls_in (table_forms ws)) in
+    rw (before_first-cons (λ v. begins_other (form_at v)) w ws) (go (begins_other (form_at w)) rest (calls_in (table_forms ws)) more)
+  where
+    go : (b : Bool) (rest : List ℕ) (n : ℕ) → fold (λ k v. bit_or k (called_by (form_at v))) (bit_or m (called_by (form_at w))) rest ≡ bit_or m (bit_or (called_by (form_at w)) n)
+        → fold (λ k v. bit_or k (called_by (form_at v))) m (cond b [] (w ∷ rest)) ≡ bit_or m (cond b 0 (bit_or (called_by (form_at w)) n))
+    go true rest n e = sym (or_zero_r m)
+    go false rest n e = e
 
-  module _ (f : Form) (q : Bool) (h : i < length table) (e : f ≡ form_at (get_or table i 0)) (b : q ≡ begins_other f) where
-    calls-turn : bit_or mask (cond q 0 (bit_or (called_by f) (calls_in (map form_at (drop (i + 1) table))))) ≡ r
-    unfolding calls_in
-    calls-turn = rw (b, e, add-one) (rw (drop-cons table i 0 h) at p)
-
-    pub calls-over : q ≡ true → mask ≡ r
-    calls-over z = sym (or_zero_r mask) ∙ rw z at calls-turn
-
-    pub calls-more : (c : ℕ) → q ≡ false → c ≡ called_by f → bit_or (bit_or mask c) (calls_in (map form_at (drop (i + 1) table))) ≡ r
-    calls-more c z k =
-        let rest = calls_in (map form_at (drop (i + 1) table)) in
-        let g : bit_or mask (bit_or (called_by f) rest) ≡ r = rw z at calls-turn in
-        or_assoc mask c rest ∙ rw k g
+pub all_called : (ws rest : List ℕ) (k r : ℕ) → rest ≡ before_first (λ w. begins_other (form_at w)) (drop k ws)
+    → r ≡ fold (λ n w. bit_or n (called_by (form_at w))) 0 rest → r ≡ calls_from ws k
+unfolding calls_from
+all_called ws rest k r e g = g ∙ ap (fold (λ n w. bit_or n (called_by (form_at w))) 0) e ∙ calls_folded (drop k ws) 0
 
 -- ---- the forms of a procedure
 

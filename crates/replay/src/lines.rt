@@ -1,172 +1,159 @@
-// The lines of an accepted plan text, told by their letters. A place is the byte at which a line starts, before its spaces; the text's length is the place behind the last line.
-// Lines that are passed over (empty, all spaces, remarks) have a letter of their own, which is no form's.
-ghost use Rattle.std.specs.Prelude.{◌+◌, ◌^◌, ◌<◌, ◌≤◌, length};
+// The lines of an accepted plan text. A place is the byte at which a line starts, before its spaces; the text's length is the place behind the last line.
+ghost use Rattle.std.specs.Prelude.{◌-◌, ◌<◌, ◌≤◌, length};
+ghost use Rattle.std.specs.Iterator.{at_most};
 
-// The place behind the spaces with which a line starts.
-fn indented(text: &[u8], at: usize) -> usize
-    requires { at ≤ length text.now }
-    ensures { result ≤ length text.now }
-{
-    let mut i = at;
-    while i < text.len() {
-        if text[i] != b' ' {
-            return i;
+// How a lock is taken.
+#[derive(Clone, Copy, PartialEq, Eq)]
+pub enum Way {
+    Hold,
+    Share,
+}
+
+// What a line is: a form; passed over, as it is empty, all spaces or a remark; or another text, or none.
+#[derive(Clone, Copy, PartialEq, Eq)]
+pub enum Line {
+    Plan,
+    Proc,
+    Thread,
+    Close,
+    Skip,
+    Call,
+    Take(Way),
+    Loop,
+    Either,
+    One,
+    Two,
+    PassedOver,
+    Other,
+}
+
+impl Line {
+    // What a line is by its bytes behind the spaces. A form that starts with a bracket is told by its second byte, and by the third where two have the same.
+    fn of(bytes: &[u8]) -> Line {
+        match bytes {
+            [] | [b'\n' | b';', ..] => Line::PassedOver,
+            [b')', ..] => Line::Close,
+            [_, b'p', b'r', ..] => Line::Proc,
+            [_, b'p', ..] => Line::Plan,
+            [_, b's', b'h', ..] => Line::Take(Way::Share),
+            [_, b's', ..] => Line::Skip,
+            [_, b't', b'h', ..] => Line::Thread,
+            [_, b't', ..] => Line::Two,
+            [_, b'c', ..] => Line::Call,
+            [_, b'h', ..] => Line::Take(Way::Hold),
+            [_, b'l', ..] => Line::Loop,
+            [_, b'e', ..] => Line::Either,
+            [_, b'o', ..] => Line::One,
+            _ => Line::Other,
         }
-        i += 1;
-    }
-    i
-}
-
-// The letter of a form that starts with a bracket: its second byte, with `k` for a skip, `w` for two and `.` for the plan.
-fn opening(form: &[u8]) -> u8 {
-    if form.len() < 3 {
-        return b'?';
-    }
-    let second = form[1];
-    let third = form[2];
-    match second {
-        b'p' => if third == b'r' { b'p' } else { b'.' },
-        b's' => if third == b'h' { b's' } else { b'k' },
-        b't' => if third == b'h' { b't' } else { b'w' },
-        _ => second,
     }
 }
 
-// The letter of what a line has behind its spaces: that of the form, `)` for a bracket that closes and `;` for what is passed over.
-fn letter_of(form: &[u8]) -> u8 {
-    if form.len() == 0 {
-        return b';';
-    }
-    let first = form[0];
-    match first {
-        b'\n' => b';',
-        b';' => b';',
-        b')' => b')',
-        _ => opening(form),
-    }
-}
-
-// The letter of a line, and `?` where no line is.
-pub fn letter(text: &[u8], at: usize) -> u8 {
-    if text.len() <= at {
-        return b'?';
-    }
-    let start = indented(text, at);
-    letter_of(&text[start..])
-}
-
-// The place behind the next such byte, or the text's end.
-pub fn after(text: &[u8], at: usize, byte: u8) -> usize
-    requires { at < length text.now }
-    ensures { (at < result) × (result ≤ length text.now) }
-{
-    let mut i = at;
-    while i < text.len() {
-        if text[i] == byte {
-            return i + 1;
+// The line at a place.
+pub fn line_at(text: &[u8], at: usize) -> Line {
+    match text.get(at..) {
+        None | Some([]) => Line::Other,
+        Some(rest) => {
+            let spaces = rest.iter().take_while(|b| **b == b' ').count();
+            Line::of(&rest[spaces..])
         }
-        i += 1;
     }
-    i
 }
 
 // The place behind a line.
-pub fn next_line(text: &[u8], at: usize) -> usize
+fn next_line(text: &[u8], at: usize) -> usize
     requires { at < length text.now }
     ensures { (at < result) × (result ≤ length text.now) }
 {
-    after(text, at, b'\n')
+    match text[at..].iter().position(|b| *b == b'\n') {
+        Some(n) => at + n + 1,
+        None => text.len(),
+    }
+}
+
+// The places of the lines from a place on.
+#[derive(Clone, Copy)]
+pub struct Places<'a> {
+    text: &'a [u8],
+    at: usize,
+}
+
+impl Iterator for Places<'_> {
+    type Item = usize;
+
+    ghost remaining = { λ s. at_most (length s.text.now - s.at) };
+
+    fn next(&mut self) -> Option<usize> {
+        let at = self.at;
+        if self.text.len() <= at {
+            return None;
+        }
+        self.at = next_line(self.text, at);
+        Some(at)
+    }
+}
+
+impl<'a> Places<'a> {
+    // The places of all lines.
+    pub fn of(text: &'a [u8]) -> Places<'a> {
+        Places { text, at: 0 }
+    }
 }
 
 // The place of the next line that is not passed over, or the text's end.
 pub fn behind(text: &[u8], at: usize) -> usize {
-    let mut i = at;
-    while i < text.len() {
-        i = next_line(text, i);
-        if letter(text, i) != b';' {
-            return i;
-        }
-    }
-    i
+    let mut others = Places { text, at };
+    others.next();
+    others
+        .find(|i| line_at(text, *i) != Line::PassedOver)
+        .unwrap_or(text.len())
 }
 
 // One digit more behind a number of three at most; another byte changes nothing.
 fn append(n: usize, b: u8) -> usize {
     match b {
-        b'0'..=b'9' => n % 100 * 10 + (b - b'0') as usize,
+        b'0'..=b'9' => n % 100 * 10 + usize::from(b - b'0'),
         _ => n,
     }
 }
 
 // The number in a line.
 pub fn number(text: &[u8], at: usize) -> usize {
-    let mut n: usize = 0;
-    let mut i = at;
-    while i < text.len() {
-        if text[i] == b'\n' {
-            return n;
-        }
-        n = append(n, text[i]);
-        i += 1;
-    }
-    n
+    text.iter()
+        .skip(at)
+        .take_while(|b| **b != b'\n')
+        .fold(0, |n, b| append(n, *b))
 }
 
-// The place of the line with this letter before which k others have it; the text's length where there is none.
-pub fn find(text: &[u8], wanted: u8, k: usize) -> usize {
-    let mut left = k;
-    let mut at: usize = 0;
-    while at < text.len() {
-        if letter(text, at) == wanted {
-            if left == 0 {
-                return at;
-            }
-            left -= 1;
-        }
-        at = next_line(text, at);
-    }
-    at
+// The place of such a line before which k others are.
+pub fn find(text: &[u8], wanted: Line, k: usize) -> Option<usize> {
+    Places::of(text)
+        .filter(|at| line_at(text, *at) == wanted)
+        .nth(k)
 }
 
-// Whether a form is a hold or a share.
-pub fn takes_lock(form: u8) -> bool {
-    match form {
-        b'h' => true,
-        b's' => true,
-        _ => false,
-    }
-}
-
-// The place at which the block of a procedure starts.
+// The place at which the block of a procedure starts, or the text's end where there is no such procedure.
 pub fn body(text: &[u8], proc: usize) -> usize {
-    behind(text, find(text, b'p', proc))
+    find(text, Line::Proc, proc).map_or(text.len(), |at| behind(text, at))
 }
 
 // How many brackets are open behind a line.
-fn nested(depth: usize, form: u8) -> usize
-    requires { depth + 1 < 2 ^ 64 }
-    ensures { result ≤ depth + 1 }
-{
-    match form {
-        b')' => if depth == 0 { 0 } else { depth - 1 },
-        b';' => depth,
-        b'k' => depth,
-        b'c' => depth,
-        b't' => depth,
-        _ => depth + 1,
+fn nested(depth: usize, line: Line) -> usize {
+    match line {
+        Line::Close => depth.saturating_sub(1),
+        Line::PassedOver | Line::Skip | Line::Call | Line::Thread => depth,
+        _ => depth.saturating_add(1),
     }
 }
 
 // The place of the line that closes the bracket opened at `at`.
 pub fn closing(text: &[u8], at: usize) -> usize {
-    let mut depth: usize = 0;
-    let mut i = at;
-    while i < text.len() {
-        depth = nested(depth, letter(text, i));
+    let mut depth = 0;
+    for i in (Places { text, at }) {
+        depth = nested(depth, line_at(text, i));
         if depth == 0 {
             return i;
         }
-        i = next_line(text, i);
     }
-    i
+    text.len()
 }

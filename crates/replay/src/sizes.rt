@@ -1,87 +1,54 @@
-// The sum of the threads' sizes, from the plan's text. Procedure p has entry p + 1 of a table, and the sum has the last.
+// The sum of the threads' sizes, from the plan's text.
 // A pass over the text settles the sizes of the procedures whose callees have theirs settled. No procedure reaches itself, so as many passes as procedures settle all, in whatever order they stand.
-ghost use Rattle.std.specs.Prelude.{◌<◌, ◌≤◌, length};
-ghost use Rattle.replay.specs.Tables.{sum_entry, sizes_room};
-
-use super::lines::{letter, next_line, number};
+use super::lines::{Line, Places, line_at, number};
 use limits::MAX_PROCS;
 
-const SUM: usize = MAX_PROCS + 1;
+// The sizes, as far as they are settled: that of procedure p has place p + 1, behind what stands before the first.
+#[derive(Clone, Copy)]
+struct Sizes([usize; MAX_PROCS + 1]);
 
-pub const SIZES_ROOM: usize = SUM + 1;
+impl Sizes {
+    // The size of a procedure.
+    fn size(&self, proc: usize) -> usize {
+        self.0.get(proc.saturating_add(1)).copied().unwrap_or(0)
+    }
 
-// The size of a procedure, as far as the table has it.
-fn size(sizes: &[usize], proc: usize) -> usize
-    requires { sizes_room ≤ length sizes.now }
-{
-    if proc < MAX_PROCS { sizes[proc + 1] } else { 0 }
-}
+    // What a line adds to the size of its procedure.
+    fn cost(&self, text: &[u8], at: usize) -> usize {
+        match line_at(text, at) {
+            Line::Skip | Line::Either => 1,
+            Line::Take(_) | Line::Loop => 2,
+            Line::Call => self.size(number(text, at)).wrapping_add(1),
+            _ => 0,
+        }
+    }
 
-// What a line adds to the size of its procedure, or a `(thread` line to the sum.
-fn cost(text: &[u8], at: usize, sizes: &[usize]) -> usize
-    requires { sizes_room ≤ length sizes.now }
-{
-    let form = letter(text, at);
-    match form {
-        b'k' => 1,
-        b'e' => 1,
-        b'h' => 2,
-        b's' => 2,
-        b'l' => 2,
-        b'c' => std::num::wrapping_add_usize(1, size(sizes, number(text, at))),
-        b't' => size(sizes, number(text, at)),
-        _ => 0,
+    // A pass over the text. No procedure calls itself, so none reads a size that is being added up.
+    fn pass(&mut self, text: &[u8]) {
+        let mut begun: usize = 0;
+        for at in Places::of(text) {
+            let cost = self.cost(text, at);
+            let first = line_at(text, at) == Line::Proc;
+            if first {
+                begun = begun.saturating_add(1);
+            }
+            if let Some(size) = self.0.get_mut(begun) {
+                *size = if first { 0 } else { size.wrapping_add(cost) };
+            }
+        }
     }
 }
 
-// The entry to which a line adds, after the line before added to `entry`.
-fn next_entry(entry: usize, form: u8) -> usize
-    ensures { result ≤ sum_entry }
-{
-    if form == b't' {
-        return SUM;
+// The sum.
+pub fn sum(text: &[u8]) -> usize {
+    let mut sizes = Sizes([0; MAX_PROCS + 1]);
+    for _ in 0..MAX_PROCS {
+        sizes.pass(text);
     }
-    if SUM <= entry {
-        return SUM;
-    }
-    if form == b'p' { entry + 1 } else { entry }
-}
-
-// What an entry has so far in a pass: nothing where its first line is at hand, whatever an earlier pass left.
-fn so_far(size: usize, first: bool) -> usize {
-    if first { 0 } else { size }
-}
-
-// Adds a line to its entry, after the line before added to `entry`. No procedure calls itself, so none reads an entry that is being added up.
-fn add_line(text: &[u8], at: usize, entry: usize, sizes: &mut [usize]) -> usize
-    requires { sizes_room ≤ length sizes.old }
-{
-    let next = next_entry(entry, letter(text, at));
-    let more = cost(text, at, sizes);
-    sizes[next] = std::num::wrapping_add_usize(so_far(sizes[next], next != entry), more);
-    next
-}
-
-// A pass over the text.
-fn pass(text: &[u8], sizes: &mut [usize])
-    requires { sizes_room ≤ length sizes.old }
-{
-    let mut entry: usize = 0;
-    let mut at: usize = 0;
-    while at < text.len() {
-        entry = add_line(text, at, entry, sizes);
-        at = next_line(text, at);
-    }
-}
-
-// The sum, whatever the table has.
-pub fn sum(text: &[u8], sizes: &mut [usize]) -> usize
-    requires { sizes_room ≤ length sizes.old }
-{
-    let mut passes: usize = 0;
-    while passes < MAX_PROCS {
-        pass(text, sizes);
-        passes += 1;
-    }
-    sizes[SUM]
+    Places::of(text)
+        .filter(|at| line_at(text, *at) == Line::Thread)
+        .fold(
+            0,
+            |sum: usize, at| sum.wrapping_add(sizes.size(number(text, at))),
+        )
 }

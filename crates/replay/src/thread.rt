@@ -1,136 +1,107 @@
-// One thread of the gateway, as a part of the table that the state is: how deep it is in the plan and where, and its counts of locks.
-ghost use Rattle.std.specs.Prelude.{◌<◌, ◌≤◌, length};
-ghost use Rattle.replay.specs.Tables.{levels, thread_room};
+// One thread of the gateway: how deep it is in the plan and where, and its counts of locks.
+ghost use Rattle.std.specs.Prelude.{◌<◌};
+ghost use Rattle.replay.specs.declared.thread.TheConstants.{LEVELS};
 
+use super::lines::Way;
 use limits::{LOCK_COUNT, SIZE_ROOM};
 
-// The part has the thread's depth,
-const DEPTH: usize = 0;
-
-// its count of each lock by hold,
-const HELD: usize = 1;
-
-// and by share,
-const SHARED: usize = HELD + LOCK_COUNT;
-
-// and a place for each depth. The last is where its remainder starts, those before it are of the holds, shares, loops, eithers and calls that it is in, and the first
-// is the text's first line.
-const PLACES: usize = SHARED + LOCK_COUNT;
-
-// A thread is in at most as many of them as its size says.
+// A thread is in at most as many holds, shares, loops, eithers and calls as its size says.
 pub const LEVELS: usize = SIZE_ROOM + 1;
 
-pub const THREAD_ROOM: usize = PLACES + LEVELS;
-
-// The depth of a thread, which is always below the limit.
-fn depth(thread: &[usize]) -> usize
-    requires { thread_room ≤ length thread.now }
-    ensures { result < levels }
-{
-    thread[DEPTH] % LEVELS
+// A place for each depth: the last is where the thread's remainder starts, those before it are of the holds, shares, loops, eithers and calls that it is in, and the first is the
+// text's first line.
+#[derive(Clone, Copy)]
+pub struct Thread {
+    depth: usize,
+    held: [usize; LOCK_COUNT],
+    shared: [usize; LOCK_COUNT],
+    places: [usize; LEVELS],
+    ghost within: { depth < LEVELS },
 }
 
-// The place of a thread's remainder.
-pub fn place(thread: &[usize]) -> usize
-    requires { thread_room ≤ length thread.now }
-{
-    let d = depth(thread);
-    thread[PLACES + d]
-}
-
-// The line of the innermost hold, share, loop, either or call that a thread is in.
-pub fn innermost(thread: &[usize]) -> usize
-    requires { thread_room ≤ length thread.now }
-{
-    let d = depth(thread);
-    if d == 0 { 0 } else { thread[PLACES + d - 1] }
-}
-
-fn store(thread: &mut [usize], i: usize, x: usize)
-    requires { (thread_room ≤ length thread.old) × (i < thread_room) }
-{
-    thread[i] = x;
-}
-
-// Puts a thread at a place, at a depth below the limit.
-fn put(thread: &mut [usize], d: usize, at: usize) -> bool
-    requires { thread_room ≤ length thread.old }
-{
-    if LEVELS <= d {
-        return false;
+impl Thread {
+    // At the text's first line, with no lock.
+    pub fn new() -> Thread {
+        Thread {
+            depth: 0,
+            held: [0; LOCK_COUNT],
+            shared: [0; LOCK_COUNT],
+            places: [0; LEVELS],
+        }
     }
-    store(thread, PLACES + d, at);
-    store(thread, DEPTH, d);
-    true
-}
 
-// Goes to a place behind the line at hand.
-pub fn go(thread: &mut [usize], at: usize) -> bool
-    requires { thread_room ≤ length thread.old }
-{
-    let d = depth(thread);
-    put(thread, d, at)
-}
-
-// Goes to a place inside the line at hand.
-pub fn enter(thread: &mut [usize], at: usize) -> bool
-    requires { thread_room ≤ length thread.old }
-{
-    let d = depth(thread);
-    put(thread, d + 1, at)
-}
-
-// Goes to a place behind the innermost line, or back to it.
-pub fn leave(thread: &mut [usize], at: usize) -> bool
-    requires { thread_room ≤ length thread.old }
-{
-    let d = depth(thread);
-    if d == 0 {
-        return false;
+    // The place of its remainder.
+    pub fn place(&self) -> usize {
+        self.places[self.depth]
     }
-    put(thread, d - 1, at)
-}
 
-// Where the count of a lock stands, by hold or by share: behind the part where there is no such lock.
-fn count_place(lock: usize, hold: bool) -> usize {
-    if LOCK_COUNT <= lock {
-        return THREAD_ROOM;
+    // The line of the innermost hold, share, loop, either or call that it is in.
+    pub fn innermost(&self) -> usize {
+        if self.depth == 0 {
+            0
+        } else {
+            self.places[self.depth - 1]
+        }
     }
-    if hold { HELD + lock } else { SHARED + lock }
-}
 
-// The count of a lock, by hold or by share.
-pub fn count(thread: &[usize], lock: usize, hold: bool) -> usize
-    requires { thread_room ≤ length thread.now }
-{
-    let i = count_place(lock, hold);
-    if THREAD_ROOM <= i { 0 } else { thread[i] }
-}
-
-// Sets a count: whether there is such a lock.
-fn set_count(thread: &mut [usize], lock: usize, hold: bool, x: usize) -> bool
-    requires { thread_room ≤ length thread.old }
-{
-    let i = count_place(lock, hold);
-    if THREAD_ROOM <= i {
-        return false;
+    // Puts it at a place, at a depth below the limit.
+    fn put(&mut self, depth: usize, at: usize) -> bool {
+        if LEVELS <= depth {
+            return false;
+        }
+        self.places[depth] = at;
+        self.depth = depth;
+        true
     }
-    store(thread, i, x);
-    true
-}
 
-// A count up by 1.
-pub fn count_up(thread: &mut [usize], lock: usize, hold: bool) -> bool
-    requires { thread_room ≤ length thread.old }
-{
-    let n = count(thread, lock, hold);
-    set_count(thread, lock, hold, std::num::wrapping_add_usize(n, 1))
-}
+    // Goes to a place behind the line at hand.
+    pub fn go(&mut self, at: usize) -> bool {
+        self.put(self.depth, at)
+    }
 
-// A count down by 1.
-pub fn count_down(thread: &mut [usize], lock: usize, hold: bool) -> bool
-    requires { thread_room ≤ length thread.old }
-{
-    let n = count(thread, lock, hold);
-    set_count(thread, lock, hold, std::num::wrapping_sub_usize(n, 1))
+    // Goes to a place inside the line at hand.
+    pub fn enter(&mut self, at: usize) -> bool {
+        self.put(self.depth + 1, at)
+    }
+
+    // Goes to a place behind the innermost line, or back to it.
+    pub fn leave(&mut self, at: usize) -> bool {
+        if self.depth == 0 {
+            return false;
+        }
+        self.put(self.depth - 1, at)
+    }
+
+    // The count of a lock, 0 where there is no such lock.
+    fn count(&self, lock: usize, way: Way) -> usize {
+        let counts = match way {
+            Way::Hold => &self.held,
+            Way::Share => &self.shared,
+        };
+        counts.get(lock).copied().unwrap_or(0)
+    }
+
+    // Whether it holds a lock.
+    pub fn holds(&self, lock: usize) -> bool {
+        0 < self.count(lock, Way::Hold)
+    }
+
+    // Whether it has a lock in any way.
+    pub fn has(&self, lock: usize) -> bool {
+        self.holds(lock) || 0 < self.count(lock, Way::Share)
+    }
+
+    // Changes the count of a lock: whether there is such a lock.
+    pub fn recount<F: FnOnce(usize) -> usize>(&mut self, lock: usize, way: Way, change: F) -> bool
+        requires { F.IsAlwaysCallable change }
+    {
+        if LOCK_COUNT <= lock {
+            return false;
+        }
+        match way {
+            Way::Hold => self.held[lock] = change(self.held[lock]),
+            Way::Share => self.shared[lock] = change(self.shared[lock]),
+        }
+        true
+    }
 }

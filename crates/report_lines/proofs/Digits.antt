@@ -2,18 +2,16 @@
 -- decimal digit, their value is the number, the first is not 0 unless the number is, and a number below 10 to the power k has at most k.
 use Prim.Native.Nat.{ℕ, zero, suc, ◌+◌, ◌-◌, ◌*◌, ◌/◌, ◌%◌, ◌^◌, ◌<◌, ◌≤◌}
 use native.Mathlib.Omega.{arith}
-use mathlib.Core.Path.{◌≡◌, refl, ap}
+use mathlib.Core.Path.{◌≡◌, refl, sym, ap, ◌∙◌}
 use mathlib.Core.List.Memᴰ
 use mathlib.Core.List.{List, [], ◌∷◌, ◌++◌, Memᴰ, foldl}
 use mathlib.Core.Logic.{⊎_elim}
-use lib.ListN.{length, get_or, set, length-append, get_or-append}
+use lib.ListN.{length, get_or, length-append, get_or-append}
 use borrow.Author.Tests.{lt-ltb, le-ltb}
-use mir.Syntax.{w8, w64}
-use mir.Val.{Fits}
+use Rattle.std.specs.Fmt.{decimal}
+use Rattle.std.proofs.lemmas.Fmt.{decimal_digit, decimal_step}
 use Rattle.laws.proofs.Tests.{lt_or_le}
-use Rattle.laws.specs.Wrote.{Wrote}
 use Rattle.report_lines.specs.Lines.{digits_in, digits}
-use Rattle.laws.proofs.Wrote.{wrote_none, wrote_one}
 
 turns : (j k n : ℕ) → n < j → n < k → digits_in j n ≡ digits_in k n
 unfolding digits_in
@@ -74,33 +72,15 @@ digits-short zero n h = rw (digits-one n (omega arith)) (omega arith)
 digits-short (suc k) n h = ⊎_elim (λ (s : n < 10). rw (digits-one n s) (omega arith))
     (λ (s : 10 ≤ n). let r = digits-short k (n / 10) (omega arith) in rw (digits_more n s, length-append) (omega arith)) (lt_or_le n 10)
 
--- for the numbers of a machine, by their fit: these two are read by `omega` as rules
-pub number_short : (n : ℕ) → Fits w64 n → length (digits n) ≤ 20
-number_short n f = digits-short 19 n (omega (arith, f.fits))
+-- for the numbers of a machine: these two are read by `omega` as rules
+pub number_short : (n : ℕ) → n < 2 ^ 64 → length (digits n) ≤ 20
+number_short n h = digits-short 19 n (omega arith)
 
-pub byte_short : (n : ℕ) → Fits w8 n → length (digits n) ≤ 3
-byte_short n f = digits-short 2 n (omega (arith, f.fits))
+pub byte_short : (n : ℕ) → n < 2 ^ 8 → length (digits n) ≤ 3
+byte_short n h = digits-short 2 n (omega arith)
 
-pub digits-count : (n : ℕ) → 10 ≤ n → length (digits n) ≡ length (digits (n / 10)) + 1
-digits-count n h = rw (digits_more n h, length-append)
+-- ---- they are those that std prints of a machine number
 
--- ---- a buffer while digits are written, in the shape of the needs of `put_digits`
-
-module _ (l : List ℕ) (at n : ℕ) (room : at + length (digits n) ≤ length l) where
-  pub first-room : at < length l
-  first-room = let s = digits-some n in omega arith
-
-  pub tenth_room : 10 ≤ n → at + length (digits (n / 10)) ≤ length l
-  tenth_room h = omega (arith, digits-count n h)
-
-  pub last-room : (l' : List ℕ) (i : ℕ) → 10 ≤ n → Wrote l l' at i (digits (n / 10)) → i < length l
-  last-room l' i h w = omega (arith, digits-count n h, w.place)
-
-  pub last_fits : (l' : List ℕ) (i : ℕ) → 10 ≤ n → length l < 2 ^ 64 → Wrote l l' at i (digits (n / 10)) → Fits w64 (i + 1)
-  last_fits l' i h s w = record { fits = omega (arith, last-room l' i h w) }
-
-  pub put_one : n < 10 → Wrote l (set l at (48 + n)) at (at + 1) (digits n)
-  put_one h = rw (digits-one n h) (wrote_one l l at at [] (48 + n) first-room (wrote_none l at (omega arith)))
-
-  pub put_last : (l' : List ℕ) (i : ℕ) → 10 ≤ n → Wrote l l' at i (digits (n / 10)) → Wrote l (set l' i (48 + n % 10)) at (i + 1) (digits n)
-  put_last l' i h w = rw (digits_more n h) (wrote_one l l' at i (digits (n / 10)) (48 + n % 10) (last-room l' i h w) w)
+pub digits_decimal : (n : ℕ) → n < 2 ^ 64 → digits n ≡ decimal n
+digits_decimal = by_digits (λ n. n < 2 ^ 64 → digits n ≡ decimal n) (λ n h f. digits-one n h ∙ sym (decimal_digit n h))
+    (λ n h e f. digits_more n h ∙ ap (λ l. l ++ ((48 + n % 10) ∷ [])) (e (omega arith)) ∙ sym (decimal_step n h f))

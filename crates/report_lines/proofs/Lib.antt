@@ -1,7 +1,7 @@
--- Texts written one behind another, digits, members of a mask, the lines of these.
+-- Texts written one behind another, digits, lists whose texts are written, how long texts are, lines from their parts.
 pub mod Writing
 pub mod Digits
-pub mod Members
+pub mod Listings
+pub mod Widths
 pub mod WholeLines
-pub mod Joined
 pub mod Examples

@@ -64,13 +64,17 @@ unless_refused (some x) given = refused_line x.rule x.line
 unfoldable pub wanted_text : ℕ → List ℕ
 wanted_text x = bytes "(pair " ++ digits (x / 2) ++ cond (eqb (x % 2) 0) (bytes "s") []
 
+-- a blank, the number of a lock and a mark, where a claim c is in the set m of claims
+abbrev pub claimed_text : ℕ → ℕ → ℕ → List ℕ → List ℕ
+claimed_text m c k mark = cond (in_mask m c) (behind_blank k ++ mark) []
+
 -- a blank and lock k, where it is held in the set m of claims
 unfoldable pub held_text : ℕ → ℕ → List ℕ
-held_text m k = cond (in_mask m (k + lock_count)) (behind_blank k) []
+held_text m k = claimed_text m (k + lock_count) k []
 
 -- where it is shared, "with `s` after the number"
 unfoldable pub shared_text : ℕ → ℕ → List ℕ
-shared_text m k = cond (in_mask m k) (behind_blank k ++ bytes "s") []
+shared_text m k = claimed_text m k k (bytes "s")
 
 -- "a lock had both ways stands first plain, then with `s`"
 abbrev pub lock_text : ℕ → ℕ → List ℕ

@@ -1,15 +1,19 @@
 // The lines of the report into a lent buffer, one behind another. Each function writes at a place and answers the place behind what it wrote; the rest of the buffer
 // is kept.
-#![tactic(auto)]
+// Kept: the buffer and the place go through all writers by hand. A struct that has both holds a `&mut`, so each of its methods would have to promise that the `ghost_name` and
+// the length stay, which the check knows of a slice that is lent (tried: the goals on room then lack the length), and the crates above lend a slice.
+#![tactic(auto, using(crate::proofs::Widths::widths))]
 
 ghost use Rattle.std.specs.Prelude.{◌++◌, ◌≡◌, ◌+◌, ◌*◌, ◌<◌, ◌≤◌, length};
+ghost use Rattle.std.specs.Iterator.{YieldsFirst, item_count};
 ghost use Rattle.limits.specs.Limits.{lock_count, claim_count};
 ghost use Rattle.laws.specs.Wrote.{Wrote};
 ghost use Rattle.columns.specs.Columns.{pair_number, pair_numbers};
-ghost use Rattle.report_lines.specs.Lines.{digits, members, behind_blank, proc_open, refused_line, wanted_text, held_text, shared_text, lock_text, had_locks, had_text, pair_form, pair_line, stuck_line, step_line};
+ghost use Rattle.report_lines.specs.Lines.{digits, members, behind_blank, proc_open, refused_line, wanted_text, claimed_text, lock_text, had_locks, had_text, pair_form, pair_line, stuck_line, step_line};
 ghost use Rattle.report_lines.specs.Lines.{lines_of, proc_lines, deadlock_lines};
 ghost use Rattle.report_lines.specs.Lines.{proc_open_room, refused_line_room, wanted_room, pair_form_room, pair_line_room, stuck_line_room, step_line_room, proc_lines_room, deadlock_room};
 
+use itoa::Buffer;
 use limits::LOCK_COUNT;
 
 // Bytes that suffice for `(pair L ..)`, whatever the pair: a lock has at most 2 digits, and there is room for 32 had both ways, each with a blank, and shared ones with an `s`.
@@ -20,12 +24,9 @@ pub fn put_text(out: &mut [u8], at: usize, text: &[u8]) -> usize
     requires { at + length text.now ≤ length out.old }
     ensures { Wrote out.old out.new at result text.now }
 {
-    let mut i: usize = 0;
-    while i < text.len() {
-        out[at + i] = text[i];
-        i += 1;
-    }
-    at + i
+    let end = at + text.len();
+    out[at..end].copy_from_slice(text);
+    end
 }
 
 // The digits of a number.
@@ -33,13 +34,8 @@ fn put_digits(out: &mut [u8], at: usize, n: u64) -> usize
     requires { at + length (digits n) ≤ length out.old }
     ensures { Wrote out.old out.new at result (digits n) }
 {
-    if n < 10 {
-        out[at] = b'0' + n as u8;
-        return at + 1;
-    }
-    let i = put_digits(out, at, n / 10);
-    out[i] = b'0' + (n % 10) as u8;
-    i + 1
+    let mut buffer = Buffer::new();
+    put_text(out, at, buffer.format(n).as_bytes())
 }
 
 // A keyword and a number.
@@ -51,17 +47,35 @@ pub fn put_numbered(out: &mut [u8], at: usize, keyword: &[u8], n: u64) -> usize
     put_digits(out, i, n)
 }
 
-// A blank and the number, for each member of a mask: the lowest is found by counting trailing zeros, then cleared.
+// The members of a mask, lowest first: the lowest is found by counting trailing zeros, then cleared.
+#[derive(Drop)]
+struct Members(u64);
+
+impl Iterator for Members {
+    type Item = u64;
+
+    ghost next_gives = { YieldsFirst (λ s. members 64 s.0) };
+
+    ghost remaining = { item_count (λ s. members 64 s.0) };
+
+    fn next(&mut self) -> Option<u64> {
+        if self.0 == 0 {
+            return None;
+        }
+        let k = self.0.trailing_zeros();
+        self.0 &= self.0 - 1;
+        Some(u64::from(k))
+    }
+}
+
+// A blank and the number, for each member of a mask.
 fn put_members(out: &mut [u8], at: usize, mask: u64) -> usize
     requires { at + length (lines_of behind_blank (members 64 mask)) ≤ length out.old }
     ensures { Wrote out.old out.new at result (lines_of behind_blank (members 64 mask)) }
 {
-    let mut rest = mask;
     let mut i = at;
-    while rest != 0 {
-        let k = u64::trailing_zeros(rest);
-        i = put_numbered(out, i, b" ", k as u64);
-        rest = rest & (rest - 1);
+    for k in Members(mask) {
+        i = put_numbered(out, i, b" ", k);
     }
     i
 }
@@ -80,7 +94,7 @@ pub fn put_refused(out: &mut [u8], at: usize, rule: u8, line: usize) -> usize
     requires { at + refused_line_room ≤ length out.old }
     ensures { Wrote out.old out.new at result (refused_line rule line) }
 {
-    let i = put_numbered(out, at, b"(refused ", rule as u64);
+    let i = put_numbered(out, at, b"(refused ", u64::from(rule));
     let j = put_numbered(out, i, b" ", line as u64);
     put_text(out, j, b")\n")
 }
@@ -98,57 +112,42 @@ fn put_wanted(out: &mut [u8], at: usize, word: u64) -> usize
 }
 
 // The locks that are had in a mask, by hold or by share.
-fn had_locks(mask: u64) -> u32
+fn had_locks(mask: u64) -> u64
     ensures { result ≡ had_locks mask }
 {
-    let held = locks::held_set(mask);
-    let shared = locks::shared_set(mask);
-    (held | shared) as u32
+    locks::held_set(mask) | locks::shared_set(mask)
 }
 
-// Lock k behind a blank, where it is held in a mask.
-fn put_held(out: &mut [u8], at: usize, mask: u64, k: u64) -> usize
-    requires { (k < lock_count) × (at + length (held_text mask k) ≤ length out.old) }
-    ensures { Wrote out.old out.new at result (held_text mask k) }
+// Lock k behind a blank and with a mark behind it, where a claim is in a mask.
+fn put_claimed(out: &mut [u8], at: usize, mask: u64, claim: u64, k: u64, mark: &[u8]) -> usize
+    requires { (claim < claim_count) × (at + length (claimed_text mask claim k mark.now) ≤ length out.old) }
+    ensures { Wrote out.old out.new at result (claimed_text mask claim k mark.now) }
 {
-    if locks::has_claim(mask, k + 32) {
-        return put_numbered(out, at, b" ", k);
+    if !locks::has_claim(mask, claim) {
+        return at;
     }
-    at
-}
-
-// The same with `s`, where it is shared.
-fn put_shared(out: &mut [u8], at: usize, mask: u64, k: u64) -> usize
-    requires { (k < lock_count) × (at + length (shared_text mask k) ≤ length out.old) }
-    ensures { Wrote out.old out.new at result (shared_text mask k) }
-{
-    if locks::has_claim(mask, k) {
-        let i = put_numbered(out, at, b" ", k);
-        return put_text(out, i, b"s");
-    }
-    at
+    let i = put_numbered(out, at, b" ", k);
+    put_text(out, i, mark)
 }
 
 // Lock k as it is had in a mask: behind a blank where it is held, and then with `s` where it is shared.
+#[tactic(auto, unfolding(crate::specs::Lines::held_text, crate::specs::Lines::shared_text))]
 fn put_lock(out: &mut [u8], at: usize, mask: u64, k: u64) -> usize
     requires { (k < lock_count) × (at + length (lock_text mask k) ≤ length out.old) }
     ensures { Wrote out.old out.new at result (lock_text mask k) }
 {
-    let i = put_held(out, at, mask, k);
-    put_shared(out, i, mask, k)
+    let i = put_claimed(out, at, mask, k + 32, k, b"");
+    put_claimed(out, i, mask, k, k, b"s")
 }
 
-// The locks of a mask, each as it is had: the lowest is found by counting trailing zeros, then cleared.
+// The locks of a mask, each as it is had, lowest number first.
 fn put_had(out: &mut [u8], at: usize, mask: u64) -> usize
     requires { at + length (had_text mask) ≤ length out.old }
     ensures { Wrote out.old out.new at result (had_text mask) }
 {
-    let mut rest = had_locks(mask);
     let mut i = at;
-    while rest != 0 {
-        let k = u32::trailing_zeros(rest);
-        i = put_lock(out, i, mask, k as u64);
-        rest = rest & (rest - 1);
+    for k in Members(had_locks(mask)) {
+        i = put_lock(out, i, mask, k);
     }
     i
 }
@@ -179,7 +178,7 @@ fn put_stuck(out: &mut [u8], at: usize, threads: u8) -> usize
     ensures { Wrote out.old out.new at result (stuck_line threads) }
 {
     let i = put_text(out, at, b"(stuck");
-    let j = put_members(out, i, threads as u64);
+    let j = put_members(out, i, u64::from(threads));
     put_text(out, j, b")\n")
 }
 
@@ -188,24 +187,24 @@ fn put_step(out: &mut [u8], at: usize, entry: u16) -> usize
     requires { at + step_line_room ≤ length out.old }
     ensures { Wrote out.old out.new at result (step_line entry) }
 {
-    let choice = locks::rest_in(entry as u64);
-    let thread = locks::thread_in(entry as u64);
+    let word = u64::from(entry);
+    let choice = locks::rest_in(word);
+    let thread = locks::thread_in(word);
     let i = put_numbered(out, at, b"(step ", thread);
     let j = put_numbered(out, i, b" ", choice);
     put_text(out, j, b")\n")
 }
 
 // The lines of pairs, in order.
+// Kept: masks and codes are two columns, as `pair_numbers` in the clause has them and as the crates above lend them; a slice of pairs would have to be copied into memory that is not there.
 fn put_pairs(out: &mut [u8], at: usize, masks: &[u64], codes: &[u32]) -> usize
     requires { (length masks.now ≤ length codes.now) × (at + length masks.now * pair_line_room ≤ length out.old) }
     ensures wrote { Wrote out.old out.new at result (lines_of pair_line (pair_numbers masks.now codes.now)) }
     ensures upper_bound { result ≤ at + length masks.now * pair_line_room }
 {
     let mut i = at;
-    let mut k: usize = 0;
-    while k < masks.len() {
-        i = put_pair(out, i, masks[k], codes[k]);
-        k += 1;
+    for (mask, code) in masks.iter().zip(codes) {
+        i = put_pair(out, i, *mask, *code);
     }
     i
 }
@@ -217,10 +216,8 @@ fn put_steps(out: &mut [u8], at: usize, entries: &[u16]) -> usize
     ensures upper_bound { result ≤ at + length entries.now * step_line_room }
 {
     let mut i = at;
-    let mut k: usize = 0;
-    while k < entries.len() {
-        i = put_step(out, i, entries[k]);
-        k += 1;
+    for entry in entries {
+        i = put_step(out, i, *entry);
     }
     i
 }

@@ -4,12 +4,13 @@ use Prim.Native.Nat.{ℕ, zero, suc, ◌+◌, ◌-◌, ◌<◌, ◌≤◌}
 use native.Mathlib.Nat.{not-suc-le-zero, le_of_suc-le-suc}
 use native.Mathlib.Omega.{arith}
 use mathlib.Core.Path.{◌≡◌, refl, sym, subst, ◌∙◌}
-use mathlib.Core.List.{List, [], ◌∷◌}
+use mathlib.Core.List.{List, []}
 use lib.ListN.{length, take, get_or, length-take}
-use Rattle.limits.specs.Limits.{max_pairs, max_entries}
+use Rattle.std.proofs.Common.{Result, Ok, Err}
+use Rattle.limits.specs.Limits.{max_pairs}
 use Rattle.laws.specs.Bytes.{bytes}
 use Rattle.text.specs.declared.Refusal.{Refusal}
-use Rattle.semantics.specs.Plan.{Block}
+use Rattle.semantics.specs.Plan.{Block, LockPlan}
 use Rattle.semantics.specs.Pairs.{pair_list}
 use Rattle.plan.specs.Rules.{plan_of}
 use Rattle.plan.specs.Settled.{table_plan, RulesKept}
@@ -17,15 +18,16 @@ use Rattle.plan.proofs.WithinSize.{few-pairs}
 use Rattle.procs.specs.declared.Layout.{Layout}
 use Rattle.procs.specs.Laid.{Laid}
 use Rattle.laws.specs.Wrote.{Wrote}
-use Rattle.report_lines.specs.Lines.{report_open, free_line, closing, proc_lines, deadlock_lines, refused_line, proc_lines_room, deadlock_room}
+use Rattle.report_lines.specs.Lines.{report_open, closing, proc_lines, proc_lines_room}
 use Rattle.laws.proofs.Wrote.{wrote_none, wrote-start, wrote-length}
 use Rattle.columns.specs.Columns.{pair_numbers}
 use Rattle.columns.proofs.Numbers.{numbers-length, numbers-take}
 use Rattle.report_text.specs.declared.Findings.{Findings}
 use Rattle.answers.specs.declared.Verdict.{Verdict}
-use Rattle.answers.specs.declared.Verdict.TheVariants.{Free, Deadlock, Refused}
-use Rattle.report_text.specs.Report.{procedures, proc_parts, verdict_part, parts_of, part_of}
-use Rattle.report_text.specs.Tables.{part_room, schedule_length, schedule_in, ProcTables, Prepared}
+use Rattle.answers.specs.declared.Verdict.TheVariants.{Free, Deadlock}
+use Rattle.answers.specs.Judgement.{schedule_in}
+use Rattle.report_text.specs.Report.{procedures, proc_parts, verdict_part, last_parts, parts_of, part_of}
+use Rattle.report_text.specs.Tables.{part_room, verdict_in, ProcTables, Prepared}
 
 -- ---- a procedure
 
@@ -67,36 +69,9 @@ module _ (j : Findings) (table : List ℕ) (t : ProcTables j table) where
   pub table-laid : Laid (take (j.forms - 0) table) j.layout
   table-laid = let e : j.forms - 0 ≡ j.forms = omega arith in rw e t.laid
 
-  pub table-procs : (p : ℕ) → p < j.procs → p < j.layout.procs
-  table-procs p h = omega (arith, t.procs)
-
   pub table-lines : (p i : ℕ) (out out' : List ℕ) → Wrote out out' 0 i (proc_lines p (pair_list (table_plan (take (j.forms - 0) table)).procs p))
       → Wrote out out' 0 i (proc_lines p (pair_list (table_plan (take j.forms table)).procs p))
   table-lines p i out out' w = let e : j.forms - 0 ≡ j.forms = omega arith in rw e at w
-
--- ---- the verdict
-
-pub free_part : (v : Verdict) (entries out out' : List ℕ) (i : ℕ) → v ≡ Free → Wrote out out' 0 i (bytes "(free)\n")
-    → Wrote out out' 0 i (verdict_part v (schedule_in v entries))
-unfolding verdict_part free_line
-free_part v entries out out' i g w = rw g w
-
-pub refused-part : (v : Verdict) (x : Refusal) (entries out out' : List ℕ) (i : ℕ) → v ≡ Refused x → Wrote out out' 0 i (refused_line x.rule x.line)
-    → Wrote out out' 0 i (verdict_part v (schedule_in v entries))
-unfolding verdict_part
-refused-part v x entries out out' i g w = rw g w
-
-module _ (v : Verdict) (n S : ℕ) (entries : List ℕ) (g : v ≡ Deadlock n S) where
-  pub schedule-within : schedule_length v ≤ length entries → n ≤ length entries
-  unfolding schedule_length
-  schedule-within h = rw g at h
-
-  pub schedule-room : (out : List ℕ) → max_entries ≡ length entries → part_room ≤ length out → 0 + deadlock_room (length (take (n - 0) entries)) ≤ length out
-  schedule-room out h k = rw length-take (omega arith)
-
-  pub deadlock-part : (out out' : List ℕ) (i : ℕ) → Wrote out out' 0 i (deadlock_lines S (take (n - 0) entries)) → Wrote out out' 0 i (verdict_part v (schedule_in v entries))
-  unfolding verdict_part schedule_in schedule_length
-  deadlock-part out out' i w = let e : n - 0 ≡ n = omega arith in rw g (rw e at w)
 
 -- ---- the parts by their places
 
@@ -114,45 +89,63 @@ module _ (ps : List Block) (rest : List (List ℕ)) where
   place-behind zero p i = let e : 0 + i ≡ i = omega arith in rw e
   place-behind (suc n) p i = let e : suc n + i ≡ suc (n + i) = omega arith in rw e (place-behind n (suc p) i)
 
--- past the opening, n procedures, the verdict and the closing line
-far : (k n : ℕ) → n < k → (k ≡ n + 1 → ⊥) → (k ≡ n + 2 → ⊥) → k ≡ n + 1 + suc (suc (k - (n + 3)))
-far k n b c d = let e : n + 3 ≤ k = omega (arith, c, d) in omega arith
+-- those behind the procedures
+module _ (v : Result Verdict Refusal) (schedule out out' : List ℕ) (k i : ℕ) where
+  pub last_verdict : k ≡ 1 → Wrote out out' 0 i (verdict_part v schedule) → Wrote out out' 0 i (get_or (last_parts v schedule) (k - 1) [])
+  last_verdict e w = rw e w
 
-pub part_open : (text schedule out out' : List ℕ) (v : Verdict) (k i : ℕ) → k ≡ 0 → Wrote out out' 0 i (bytes "(report\n") → Wrote out out' 0 i (part_of text v schedule k)
+  pub last_closing : k ≡ 2 → Wrote out out' 0 i (bytes ")\n") → Wrote out out' 0 i (get_or (last_parts v schedule) (k - 1) [])
+  unfolding closing
+  last_closing e w = rw e w
+
+  pub last_none : 0 < k → (k ≡ 1 → ⊥) → (k ≡ 2 → ⊥) → Wrote out out 0 0 (get_or (last_parts v schedule) (k - 1) [])
+  last_none h a b =
+      let e : k - 1 ≡ suc (suc (k - 3)) = omega (arith, a, b) in
+      rw e (wrote_none out 0 (omega arith))
+
+pub part_open : (text schedule out out' : List ℕ) (v : Result Verdict Refusal) (k i : ℕ) → k ≡ 0 → Wrote out out' 0 i (bytes "(report\n") → Wrote out out' 0 i (part_of text v schedule k)
 unfolding parts_of report_open
 part_open text schedule out out' v k i e w = rw e w
 
-module _ (text : List ℕ) (j : Findings) (table entries : List ℕ) (x : Prepared text j table entries) (out out' : List ℕ) (k i : ℕ) where
-  pub part_procedure : (k ≡ 0 → ⊥) → k ≤ j.procs
-      → Wrote out out' 0 i (proc_lines (k - 1) (pair_list (table_plan (take j.forms table)).procs (k - 1))) → Wrote out out' 0 i (part_of text j.verdict (schedule_in j.verdict entries) k)
+module _ (text : List ℕ) (v : Result Verdict Refusal) (schedule : List ℕ) where
+  at-procedure : (k : ℕ) → (k ≡ 0 → ⊥) → k ≤ procedures v (plan_of text) → part_of text v schedule k ≡ proc_lines (k - 1) (pair_list (plan_of text).procs (k - 1))
   unfolding parts_of
-  part_procedure h b w = go k h b w
-    where
-      go : (k : ℕ) → (k ≡ 0 → ⊥) → k ≤ j.procs → Wrote out out' 0 i (proc_lines (k - 1) (pair_list (table_plan (take j.forms table)).procs (k - 1)))
-          → Wrote out out' 0 i (part_of text j.verdict (schedule_in j.verdict entries) k)
-      go zero h b w = absurd (h refl)
-      go (suc m) h b w =
-          let p : table_plan (take j.forms table) ≡ plan_of text = (x.tables (omega arith)).1 in
-          let c : suc m - 1 ≡ 0 + m = omega arith in
-          let e : part_of text j.verdict (schedule_in j.verdict entries) (suc m) ≡ proc_lines (0 + m) (pair_list (plan_of text).procs (0 + m)) =
-          place_procedure (plan_of text).procs (verdict_part j.verdict (schedule_in j.verdict entries) ∷ closing ∷ []) (procedures j.verdict (plan_of text)) 0 m (omega (arith, x.reported)) in
-          rw e (rw (c, p) at w)
+  at-procedure zero h b = absurd (h refl)
+  at-procedure (suc m) h b =
+      let c : suc m - 1 ≡ 0 + m = omega arith in
+      rw c (place_procedure (plan_of text).procs (last_parts v schedule) (procedures v (plan_of text)) 0 m (omega arith))
 
-  behind : (m : ℕ) → k ≡ j.procs + 1 + m → part_of text j.verdict (schedule_in j.verdict entries) k ≡ get_or (verdict_part j.verdict (schedule_in j.verdict entries) ∷ closing ∷ []) m []
+  at-last : (k m : ℕ) → k ≡ procedures v (plan_of text) + 1 + m → part_of text v schedule k ≡ get_or (last_parts v schedule) m []
   unfolding parts_of
-  behind m e =
-      let f : k ≡ suc (procedures j.verdict (plan_of text) + m) = omega (arith, x.reported) in
-      rw f (place-behind (plan_of text).procs (verdict_part j.verdict (schedule_in j.verdict entries) ∷ closing ∷ []) (procedures j.verdict (plan_of text)) 0 m)
+  at-last k m e =
+      let f : k ≡ suc (procedures v (plan_of text) + m) = omega arith in
+      rw f (place-behind (plan_of text).procs (last_parts v schedule) (procedures v (plan_of text)) 0 m)
 
-  pub part-verdict : k ≡ j.procs + 1 → Wrote out out' 0 i (verdict_part j.verdict (schedule_in j.verdict entries)) → Wrote out out' 0 i (part_of text j.verdict (schedule_in j.verdict entries) k)
-  part-verdict e w = subst (Wrote out out' 0 i) (sym (behind 0 (omega arith))) w
+-- all procedures of an accepted plan are reported
+all-reported : (v : Verdict) (plan : LockPlan) → procedures (Ok v) plan ≡ length plan.procs
+unfolding procedures
+all-reported Free plan = refl
+all-reported (Deadlock n S) plan = refl
 
-  pub part-closing : k ≡ j.procs + 2 → Wrote out out' 0 i (bytes ")\n") → Wrote out out' 0 i (part_of text j.verdict (schedule_in j.verdict entries) k)
-  unfolding closing
-  part-closing e w = subst (Wrote out out' 0 i) (sym (behind 1 (omega arith))) w
+module _ (text : List ℕ) (r : Result Findings Refusal) (table entries : List ℕ) (x : Prepared text r table entries) (out out' : List ℕ) (k i : ℕ) where
+  abbrev Part : Type 0
+  Part = Wrote out out' 0 i (part_of text (verdict_in r) (schedule_in (verdict_in r) entries) k)
 
-  pub part_none : (k ≡ 0 → ⊥) → j.procs < k → (k ≡ j.procs + 1 → ⊥) → (k ≡ j.procs + 2 → ⊥) → Wrote out out 0 0 (part_of text j.verdict (schedule_in j.verdict entries) k)
-  part_none a b c d =
-      let m = k - (j.procs + 3) in
-      let e : part_of text j.verdict (schedule_in j.verdict entries) k ≡ get_or (verdict_part j.verdict (schedule_in j.verdict entries) ∷ closing ∷ []) (suc (suc m)) [] = behind (suc (suc m)) (far k j.procs b c d) in
-      rw e (wrote_none out 0 (omega arith))
+  module _ (f : Findings) (g : r ≡ Ok f) where
+    tables : ProcTables f table × (table_plan (take f.forms table) ≡ plan_of text)
+    tables = rw g at x.tables
+
+    all : procedures (Ok f.verdict) (plan_of text) ≡ f.layout.procs
+    all = all-reported f.verdict (plan_of text) ∙ rw (← tables.1) (sym tables.0.laid.procs-all)
+
+    pub part_procedure : (k ≡ 0 → ⊥) → k ≤ f.layout.procs → Wrote out out' 0 i (proc_lines (k - 1) (pair_list (table_plan (take f.forms table)).procs (k - 1))) → Part
+    unfolding verdict_in
+    part_procedure h b w = rw (g, at-procedure text (Ok f.verdict) (schedule_in (Ok f.verdict) entries) k h (omega (arith, all)), ← tables.1) w
+
+    pub part_last : f.layout.procs < k → Wrote out out' 0 i (get_or (last_parts (Ok f.verdict) (schedule_in (Ok f.verdict) entries)) (k - f.layout.procs - 1) []) → Part
+    unfolding verdict_in
+    part_last b w = rw (g, at-last text (Ok f.verdict) (schedule_in (Ok f.verdict) entries) k (k - f.layout.procs - 1) (omega (arith, all))) w
+
+  pub part_refused : (y : Refusal) → r ≡ Err y → (k ≡ 0 → ⊥) → Wrote out out' 0 i (get_or (last_parts (Err y) (schedule_in (Err y) entries)) (k - 1) []) → Part
+  unfolding verdict_in procedures
+  part_refused y g h w = rw (g, at-last text (Err y) (schedule_in (Err y) entries) k (k - 1) (omega (arith, h))) w

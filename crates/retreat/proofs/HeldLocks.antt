@@ -1,14 +1,10 @@
--- What the threads have: the masks along a path, the table of them at the threads' positions, and what may not stand beside what the threads other than one have, as a join
--- that grows by a thread.
+-- What the threads have: the masks along a path, and the table of them at the threads' positions.
 use Prim.Native.Nat.{ℕ, zero, suc, ◌+◌, ◌-◌, ◌*◌, ◌<◌, ◌≤◌}
-use native.Mathlib.Numerals.{add-one}
 use native.Mathlib.Omega.{arith}
 use mathlib.Core.Path.{◌≡◌, refl, sym, ap, ◌∙◌}
 use mathlib.Core.Logic.{⊎_elim, ◌≢◌}
-use mathlib.Core.Bool.{Bool, cond}
+use mathlib.Core.Bool.{Bool}
 use mathlib.Core.List.{List}
-use borrow.Author.Tests.{eq-eqb, ne_eqb}
-use lib.Bits.{bit_or}
 use lib.ListN.{length, get_or, set}
 use lib.Seq.{get_or-drop, get_or-set_same, get_or-set_other}
 use Rattle.limits.specs.Limits.{max_threads, max_size}
@@ -29,13 +25,9 @@ mask_next rows t (suc j) r n f =
     let e : suc j - 1 ≡ j = omega arith in
     (rw e at f) ∙ sym (get_or-drop (max_size * t) rows j 0)
 
-module _ (positions : List ℕ) (n t : ℕ) (w : InRows positions n) (h : t < n) where
-  pub within-at : get_or positions t 0 ≤ max_size
-  unfolding InRows
-  within-at = w t h
-
-  pub within-before : get_or positions t 0 - 1 ≤ max_size
-  within-before = omega (arith, within-at)
+pub within-at : (positions : List ℕ) (n t : ℕ) → InRows positions n → t < n → get_or positions t 0 ≤ max_size
+unfolding InRows
+within-at positions n t w h = w t h
 
 -- ---- the table of what the threads have
 
@@ -43,48 +35,17 @@ pub holding-none : (rows positions masks : List ℕ) → Holding rows positions 
 unfolding Holding
 holding-none rows positions masks t h = absurd (omega arith)
 
-pub holding-more : (rows positions masks masks₀ : List ℕ) (n t v : ℕ) → max_threads ≤ length masks₀ → length masks ≡ length masks₀ → n ≤ max_threads → t < n
+pub holding-more : (rows positions masks : List ℕ) (n t v : ℕ) → max_threads ≡ length masks → n ≤ max_threads → t < n
     → v ≡ get_or (masks_of rows t) (get_or positions t 0) 0 → Holding rows positions masks t → Holding rows positions (set masks t v) (t + 1)
 unfolding Holding
-holding-more rows positions masks masks₀ n t v a s c h e k i l =
+holding-more rows positions masks n t v s c h e k i l =
     ⊎_elim
     (λ (z : i ≡ t).
     ap (λ u. get_or (set masks t v) u 0) z ∙ get_or-set_same masks t v 0 (omega arith) ∙ e ∙ ap (λ u. get_or (masks_of rows u) (get_or positions u 0) 0) (sym z))
     (λ (z : i ≢ t). get_or-set_other masks t i v 0 z ∙ k i (omega arith))
     (eq_or_ne i t)
 
-pub holding-done : (rows positions masks : List ℕ) (n t : ℕ) → n ≤ t → Holding rows positions masks t → Holding rows positions masks n
-unfolding Holding
-holding-done rows positions masks n t h k i l = k i (omega arith)
-
--- ---- what may not stand beside what the others have
-
-pub join_more : (p : ℕ → Bool) (f : ℕ → ℕ) (i r x : ℕ) → r ≡ join_below i p f → x ≡ cond (p i) (f i) 0 → bit_or r x ≡ join_below (i + 1) p f
-unfolding join_below
-join_more p f i r x e h = rw (add-one, e, h)
-
-pub same_end : (i n : ℕ) → i ≤ n → n ≤ i → i ≡ n
-same_end i n a b = omega arith
-
-module _ (masks : List ℕ) (k : ℕ) where
-  pub others-none : 0 ≡ barred_by_others masks 0 k
-  unfolding barred_by_others join_below
-  others-none = refl
-
-  pub others-more : (i r x : ℕ) → r ≡ barred_by_others masks i k → x ≡ cond (other_than k i) (bars (get_or masks i 0)) 0 → bit_or r x ≡ barred_by_others masks (i + 1) k
-  unfolding barred_by_others
-  others-more i r x e h = join_more (other_than k) (λ i. bars (get_or masks i 0)) i r x e h
-
-  pub others-done : (i n r : ℕ) → i ≤ n → n ≤ i → r ≡ barred_by_others masks i k → r ≡ barred_by_others masks n k
-  others-done i n r a b e = rw (← same_end i n a b) e
-
-pub unless_same : (masks : List ℕ) (i k : ℕ) → i ≡ k → 0 ≡ cond (other_than k i) (bars (get_or masks i 0)) 0
-unless_same masks i k e = rw (eq-eqb i k e)
-
-pub unless_other : (masks : List ℕ) (i k r : ℕ) → (i ≡ k → ⊥) → r ≡ bars (get_or masks i 0) → r ≡ cond (other_than k i) (bars (get_or masks i 0)) 0
-unless_other masks i k r n e = rw (ne_eqb i k n) e
-
--- the same, from the table of what each has
+-- what may not stand beside what the others have, from the table of what each has
 pub join-same : (p : ℕ → Bool) (f g : ℕ → ℕ) (n : ℕ) → ((i : ℕ) → i < n → f i ≡ g i) → join_below n p f ≡ join_below n p g
 unfolding join_below
 join-same p f g zero h = refl

@@ -5,9 +5,9 @@ use native.Mathlib.Nat.{add-zero, eq-zero-or-pos}
 use native.Mathlib.Omega.{arith}
 use mathlib.Core.Path.{◌≡◌, refl, sym, ap, ◌∙◌, subst}
 use mathlib.Core.Logic.{⊎_elim, ◌≢◌}
-use mathlib.Core.Bool.{Bool, true, false}
+use mathlib.Core.Bool.{Bool, true, false, not}
 use mathlib.Core.List.{List, []}
-use borrow.Author.Tests.{ne_eqb, eqb-true, eqb-false}
+use borrow.Author.Tests.{ne_eqb, eqb-false}
 use lib.Bits.{bit_and}
 use lib.Count.{count_trailing_zeros}
 use lib.Dec.{eqb}
@@ -17,42 +17,51 @@ use Rattle.limits.specs.Limits.{max_threads, claim_count, max_size}
 use Rattle.laws.specs.Choice.{pick}
 use Rattle.laws.specs.Mask.{bit, in_mask}
 use Rattle.laws.proofs.Tests.{eq_or_ne, lt_or_le}
-use Rattle.laws.proofs.Bits.{bit-none}
 use Rattle.laws.proofs.Writes.{emit_keep}
 use Rattle.laws.proofs.Masks.{digit-out, trailing_lowest}
 use Rattle.semantics.specs.Retreat.{others_at, scan_back, JumpTo}
-use Rattle.semantics.proofs.Retreat.RetreatMoves.{scan-again}
 use Rattle.retreat.specs.Paths.{masks_of, InRows, Holding, barred_by_others, meeting, may_go_back, NoneMayGoBack}
 use Rattle.retreat.specs.Moves.{Landed}
 use Rattle.retreat.proofs.HeldLocks.{within-at, others-held}
 
 -- ---- the scan
 
-module _ (rows : List ℕ) (t l a r : ℕ) (s : scan_back (masks_of rows t) l a ≡ r) where
+-- at place i of the scan down to r
+module _ (rows : List ℕ) (t l i r : ℕ) (s : scan_back (masks_of rows t) l i ≡ r) where
   abbrev row : List ℕ
   row = masks_of rows t
 
-  pub scan-more : (m : ℕ) (q : Bool) → m ≡ get_or (masks_of rows t) a 0 → q ≡ in_mask m l → q ≡ true → scan_back (masks_of rows t) l (a - 1) ≡ r
-  unfolding masks_of
-  scan-more m q e f z =
-      let h : bit (get_or row a 0) l ≡ 1 = ap (λ x. bit x l) (sym e) ∙ eqb-true (bit m l) 1 (sym f ∙ z) in
-      sym (scan-again row l a (bit-none l) h).1 ∙ s
+  module _ (m : ℕ) (q : Bool) (o : 0 < i) (e : m ≡ get_or (masks_of rows t) i 0) (f : q ≡ in_mask m l) where
+    tested : q ≡ in_mask (get_or row i 0) l
+    tested = f ∙ ap (λ x. in_mask x l) e
 
-  pub scan-here : (m : ℕ) (q : Bool) → 0 < a → m ≡ get_or (masks_of rows t) a 0 → q ≡ in_mask m l → q ≡ false → a ≡ r
-  unfolding scan_back
-  scan-here m q h e f z = stop a h (ap (λ x. in_mask x l) (sym e) ∙ sym f ∙ z) s
-    where
-      stop : (a : ℕ) → 0 < a → in_mask (get_or row a 0) l ≡ false → scan_back row l a ≡ r → a ≡ r
-      stop zero h k s = absurd (omega arith)
-      stop (suc a) h k s = rw k at s
+    pub scan-more : not q ≡ false → scan_back (masks_of rows t) l (i - 1) ≡ r
+    unfolding scan_back
+    scan-more z = more i o (same q z tested) s
+      where
+        same : (q : Bool) → not q ≡ false → {x : Bool} → q ≡ x → x ≡ true
+        same true z e = sym e
+        same false z e = cc
 
-  pub scan-out : a ≤ 0 → a ≡ r
+        more : (i : ℕ) → 0 < i → in_mask (get_or row i 0) l ≡ true → scan_back row l i ≡ r → scan_back row l (i - 1) ≡ r
+        more zero o h s = absurd (omega arith)
+        more (suc i) o h s = let e : suc i - 1 ≡ i = omega arith in rw e (rw h at s)
+
+    pub scan-here : not q ≡ true → i ≡ r
+    unfolding scan_back
+    scan-here z = here i o (same q z tested) s
+      where
+        same : (q : Bool) → not q ≡ true → {x : Bool} → q ≡ x → x ≡ false
+        same true z e = cc
+        same false z e = sym e
+
+        here : (i : ℕ) → 0 < i → in_mask (get_or row i 0) l ≡ false → scan_back row l i ≡ r → i ≡ r
+        here zero o h s = absurd (omega arith)
+        here (suc i) o h s = rw h at s
+
+  pub scan-out : i ≤ 0 → 0 ≡ r
   unfolding scan_back
-  scan-out h = out a h s
-    where
-      out : (a : ℕ) → a ≤ 0 → scan_back row l a ≡ r → a ≡ r
-      out zero h s = s
-      out (suc a) h s = absurd (omega arith)
+  scan-out h = let e : i ≡ 0 = omega arith in rw e at s
 
 -- ---- one thread
 
@@ -104,22 +113,22 @@ same_from positions positions₀ k e =
     let at : (l : List ℕ) → get_or (drop k l) 0 0 ≡ get_or l k 0 = λ l. get_or-drop k l 0 0 ∙ ap (λ i. get_or l i 0) (add-zero k) in
     sym (at positions) ∙ ap (λ l. get_or l 0 0) e ∙ at positions₀
 
-module _ (rows begins masks positions positions₀ wanted wanted₀ : List ℕ) (n k : ℕ) (b : k < n) (same : drop k positions ≡ drop k positions₀) (h : Holding rows positions₀ masks n) where
+module _ (rows begins masks positions positions₀ wanted : List ℕ) (n k : ℕ) (b : k < n) (same : drop k positions ≡ drop k positions₀) (h : Holding rows positions₀ masks n) where
   pub jump_some : NoneMayGoBack rows positions₀ n → 0 < get_or positions k 0 → 0 < bit_and (get_or (masks_of rows k) (get_or positions k 0 - 1) 0) (barred_by_others masks n k)
   jump_some f = rw (same_from positions positions₀ k same) (meets rows positions₀ masks n k b h f)
 
   pub jump_within : InRows positions₀ n → get_or positions k 0 ≤ max_size
   jump_within w = rw (same_from positions positions₀ k same) (within-at positions₀ n k w b)
 
-  module _ (small : n ≤ max_threads) (long : max_threads ≤ length positions₀) (kept : length positions ≡ length positions₀) where
+  module _ (small : n ≤ max_threads) (long : max_threads ≡ length positions) where
     pub jump_keep : (v : ℕ) → drop (k + 1) (set positions k v) ≡ drop (k + 1) positions₀
     jump_keep v = emit_keep positions positions₀ [] [] k v (omega arith) same
 
-    pub landed-more : (p w : ℕ) → max_threads ≤ length wanted₀ → length wanted ≡ length wanted₀
+    pub landed-more : (p w : ℕ) → max_threads ≡ length wanted
         → JumpTo (masks_of rows k) (barred_by_others masks n k) (get_or begins k 0) (get_or positions k 0) p w → Landed rows begins n positions₀ positions wanted k
         → Landed rows begins n positions₀ (set positions k p) (set wanted k w) (k + 1)
     unfolding Landed
-    landed-more p w long' kept' to f t l =
+    landed-more p w long' to f t l =
         ⊎_elim
         (λ (e : t ≡ k). subst (λ u. At u (get_or (set positions k p) u 0) (get_or (set wanted k w) u 0)) (sym e) (rw (
           get_or-set_same positions k p 0 (omega arith),
@@ -139,8 +148,3 @@ module _ (rows begins masks positions positions₀ wanted wanted₀ : List ℕ) 
 pub landed_none : (rows begins positions positions₀ wanted : List ℕ) (n : ℕ) → Landed rows begins n positions₀ positions wanted 0
 unfolding Landed
 landed_none rows begins positions positions₀ wanted n t h = absurd (omega arith)
-
-pub landed-done : (rows begins positions positions₀ wanted : List ℕ) (n k : ℕ) → n ≤ k → Landed rows begins n positions₀ positions wanted k
-    → Landed rows begins n positions₀ positions wanted n
-unfolding Landed
-landed-done rows begins positions positions₀ wanted n k h f t l = f t (omega arith)

@@ -6,11 +6,10 @@ use native.Mathlib.Omega.{arith}
 use mathlib.Core.Path.{◌≡◌, sym, ap, ◌∙◌, subst}
 use mathlib.Core.Logic.{◌⊎◌, ⊎_elim, ◌≢◌}
 use mathlib.Core.List.{List}
-use borrow.Author.Tests.{ltb-true, ltb-false}
 use lib.Bits.{bit_and}
 use lib.ListN.{length, get_or, set, take, drop, length-drop}
 use lib.Seq.{drop-length, length-take-le, get_or-take, get_or-set_same, get_or-set_other, take-set-lt}
-use Rattle.limits.specs.Limits.{max_size, max_entries}
+use Rattle.limits.specs.Limits.{max_threads, max_size, max_entries}
 use Rattle.laws.proofs.Tests.{eq_or_ne}
 use Rattle.laws.proofs.Bits.{bit-none}
 use Rattle.laws.proofs.Sums.{total_lt, total-most, total-at}
@@ -21,8 +20,8 @@ use Rattle.semantics.specs.Joins.{other_than}
 use Rattle.semantics.specs.Retreat.{Paths, GoingBack, others_at, scan_back, JumpTo}
 use Rattle.semantics.proofs.Retreat.RetreatMoves.{scanned, step_back, jump_back}
 use Rattle.retreat.specs.Paths.{masks_of, choice_at, InRows, Holding, meeting}
-use Rattle.retreat.specs.Moves.{NoneBelow, FirstBelow, has_stepped, AtStart, steps_left, entry_of, State, state, StateFull, OnWayBack}
-use Rattle.retreat.specs.Moves.{Landed, SteppedBack, Jumped, Turned, Retreats, WentBack}
+use Rattle.retreat.specs.declared.State.{State}
+use Rattle.retreat.specs.Moves.{SomeStepped, AtStart, steps_left, entry_of, Landed, SteppedBack, Jumped, Turned, Retreats, WentBack}
 use Rattle.retreat.proofs.HeldLocks.{join-same}
 use Rattle.retreat.proofs.StepBack.{back-stepped}
 
@@ -131,37 +130,25 @@ falls-within f w i b = let le = f.none_higher i b in omega (arith, w i b)
 
 -- what holds at every turn of the way back, with the entries es
 pub record Going (choices rows begins : List ℕ) (n : ℕ) (s₀ s : State) (es : List ℕ) : Type 0 where
-  pub on_way : OnWayBack choices rows begins n s
+  pub in_rows : InRows s.positions n
   pub room : length es + steps_left s.positions n ≤ steps_left s₀.positions n
   pub few : steps_left s₀.positions n ≤ max_entries
   pub retreats : Retreats choices rows begins n s₀ s es
 
-stepped-at : (positions : List ℕ) (n t : ℕ) → FirstBelow (has_stepped positions) n t → t < n → 0 < get_or positions t 0
-unfolding has_stepped
-stepped-at positions n t f b = ltb-true 0 (get_or positions t 0) (f.passes b)
+module _ (choices rows begins : List ℕ) (n : ℕ) (s₀ s s' : State) (es es' : List ℕ) (u : Turned choices rows begins n s s' es es')
+    (g : Going choices rows begins n s₀ s es) (some : SomeStepped s.positions n) (small : n ≤ max_threads) (size : max_threads ≡ length s.positions) where
+  stepped : (t : ℕ) × (t < n) × (0 < get_or s.positions t 0)
+  stepped = some
 
-at-start : (positions : List ℕ) (n t : ℕ) → FirstBelow (has_stepped positions) n t → n ≤ t → AtStart positions n
-unfolding AtStart NoneBelow has_stepped
-at-start positions n t f h i b = omega (arith, ltb-false 0 (get_or positions i 0) (f.before i (omega arith)))
-
-module _ (choices rows begins : List ℕ) (n : ℕ) (s₀ : State) (positions wanted masks positions' wanted' masks' es es' : List ℕ) (t : ℕ)
-    (u : Turned choices rows begins n (state positions wanted masks) (state positions' wanted' masks') es es')
-    (g : Going choices rows begins n s₀ (state positions wanted masks) es) (f : FirstBelow (has_stepped positions) n t) (b : t < n) where
-  abbrev s : State
-  s = state positions wanted masks
-
-  abbrev s' : State
-  s' = state positions' wanted' masks'
-
-  long : n ≤ length s.positions
-  long = omega (arith, g.on_way.sized.positions-full, g.on_way.few)
+  abbrev t : ℕ
+  t = stepped.0
 
   falls : Falls s.positions s'.positions n
   unfolding Turned
-  falls = ⊎_elim (λ (r : SteppedBack choices rows n s s' es es'). step_falls long r)
-      (λ (r : Jumped rows begins n s s' es'). jump_falls t b (stepped-at s.positions n t f b) r) u
+  falls = ⊎_elim (λ (r : SteppedBack choices rows n s s' es es'). step_falls (omega arith) r)
+      (λ (r : Jumped rows begins n s s' es'). jump_falls t stepped.1 stepped.2 r) u
 
-  pub going_less : steps_left positions' n < steps_left positions n
+  pub going_less : steps_left s'.positions n < steps_left s.positions n
   going_less = falls-less falls
 
   shorter : length es' + steps_left s'.positions n ≤ steps_left s₀.positions n
@@ -173,8 +160,7 @@ module _ (choices rows begins : List ℕ) (n : ℕ) (s₀ : State) (positions wa
   retreats_on : n ≤ length s'.positions → Retreats choices rows begins n s₀ s' es'
   unfolding Turned
   retreats_on long' = record {
-    leads = λ ps ns P x bound e chosen paths g₀.
-        on ps ns P x bound n e t b (stepped-at s.positions n t f b) long' u chosen paths (g.retreats.leads ps ns P x bound e chosen paths g₀);
+    leads = λ ps ns P x bound e chosen paths g₀. on ps ns P x bound n e t stepped.1 stepped.2 long' u chosen paths (g.retreats.leads ps ns P x bound e chosen paths g₀);
   }
     where
       On : (ps : List Block) (ns : List ℕ) (P : ℕ → List ℕ) (x : ℕ → ℕ → ThreadState) (bound n : ℕ) → Type 0
@@ -189,42 +175,28 @@ module _ (choices rows begins : List ℕ) (n : ℕ) (s₀ : State) (positions wa
           ⊎_elim (λ (r : SteppedBack choices rows (length ns) s s' es es'). goes_step choices rows s s' es es' chosen paths g r)
           (λ (r : Jumped rows begins (length ns) s s' es'). goes_jump choices rows s s' es es' chosen paths g long t b o r) u)
 
-  pub going_on : length positions' ≡ length positions → length wanted' ≡ length wanted → length masks' ≡ length masks
-      → Going choices rows begins n s₀ (state positions' wanted' masks') es'
-  going_on p q m =
-      let w = g.on_way in
-      let full = w.sized in
-      let sized : StateFull s' = record {
-        positions-full = omega (arith, full.positions-full);
-        wanted-full = omega (arith, full.wanted-full);
-        masks-full = omega (arith, full.masks-full);
-      } in
-      record {
-        on_way = record { paths = w.paths; turns = w.turns; beginnings = w.beginnings; few = w.few; in_rows = falls-within falls w.in_rows; sized = sized };
-        room = shorter;
-        few = g.few;
-        retreats = retreats_on (omega (arith, w.few, sized.positions-full));
-      }
+  pub going_on : max_threads ≡ length s'.positions → Going choices rows begins n s₀ s' es'
+  going_on size' = record { in_rows = falls-within falls g.in_rows; room = shorter; few = g.few; retreats = retreats_on (omega arith) }
 
 -- there is room for one entry more in front of those from place d on
-pub going_room : (choices rows begins : List ℕ) (n : ℕ) (s₀ s : State) (entries entries₀ : List ℕ) (t d : ℕ) → Going choices rows begins n s₀ s (drop d entries)
-    → FirstBelow (has_stepped s.positions) n t → t < n → max_entries ≤ length entries₀ → length entries ≡ length entries₀ → 0 < d
+pub going_room : (choices rows begins : List ℕ) (n : ℕ) (s₀ s : State) (entries : List ℕ) (d : ℕ) → Going choices rows begins n s₀ s (drop d entries)
+    → SomeStepped s.positions n → max_entries ≤ length entries → 0 < d
 unfolding steps_left
-going_room choices rows begins n s₀ s entries entries₀ t d g f b long kept =
-    omega (arith, g.room, g.few, length-drop d entries, stepped-at s.positions n t f b, total-at n (λ i. get_or s.positions i 0) t b)
+going_room choices rows begins n s₀ s entries d g (t, b, o) long =
+    omega (arith, g.room, g.few, length-drop d entries, total-at n (λ i. get_or s.positions i 0) t b)
 
 -- before the first move
-pub going_first : (choices rows begins : List ℕ) (n : ℕ) (s : State) (entries : List ℕ) → OnWayBack choices rows begins n s → Going choices rows begins n s s (drop (length entries) entries)
+pub going_first : (choices rows begins : List ℕ) (n : ℕ) (s : State) (entries : List ℕ) → InRows s.positions n → n ≤ max_threads
+    → Going choices rows begins n s s (drop (length entries) entries)
 unfolding steps_left InRows
-going_first choices rows begins n s entries w =
+going_first choices rows begins n s entries w small =
     rw (drop-length entries) (record {
-      on_way = w;
+      in_rows = w;
       room = omega arith;
-      few = omega (arith, w.few, total-most n max_size (λ t. get_or s.positions t 0) (λ t b. w.in_rows t b));
+      few = omega (arith, total-most n max_size (λ t. get_or s.positions t 0) (λ t b. w t b));
       retreats = record { leads = λ ps ns P x bound e chosen paths g. g };
     })
 
-pub going_done : (choices rows begins : List ℕ) (n : ℕ) (s₀ s : State) (es : List ℕ) (t : ℕ) → Going choices rows begins n s₀ s es → FirstBelow (has_stepped s.positions) n t → n ≤ t
+pub going_done : (choices rows begins : List ℕ) (n : ℕ) (s₀ s : State) (es : List ℕ) → Going choices rows begins n s₀ s es → AtStart s.positions n
     → WentBack choices rows begins n s₀ s es
-going_done choices rows begins n s₀ s es t g f h =
-    record { short = omega (arith, g.room); ended = at-start s.positions n t f h; retreats = g.retreats }
+going_done choices rows begins n s₀ s es g h = record { short = omega (arith, g.room); ended = h; retreats = g.retreats }

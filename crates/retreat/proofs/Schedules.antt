@@ -5,7 +5,7 @@ use Prim.Native.Nat.{ℕ, zero, suc, ◌+◌, ◌-◌, ◌%◌, ◌<◌, ◌≤�
 use native.Mathlib.Omega.{arith}
 use mathlib.Core.Path.{◌≡◌, refl, sym, ap, ◌∙◌, subst}
 use mathlib.Core.Logic.{◌⊎◌, inl, inr, ⊎_elim, ◌≢◌}
-use mathlib.Core.List.{List, []}
+use mathlib.Core.List.{List, [], ◌++◌}
 use lib.Dec.{T, eqb, eqb→eq, eqb_refl}
 use lib.ListN.{length, get_or, take, drop, length-drop, length-map, get_or-map}
 use lib.Seq.{take-length, length-take-le, get_or-take, get_or-drop}
@@ -31,7 +31,8 @@ use Rattle.semantics.proofs.Retreat.RetreatMoves.{paths_of, AtCycle, cycle-targe
 use Rattle.retreat.specs.declared.Targets.{Targets}
 use Rattle.retreat.specs.declared.Outcome.{Outcome}
 use Rattle.retreat.specs.Paths.{row_start, path_of, masks_of, choice_at, Holding}
-use Rattle.retreat.specs.Moves.{AtStart, steps_left, State, state, Retreats, WentBack}
+use Rattle.retreat.specs.declared.State.{State}
+use Rattle.retreat.specs.Moves.{AtStart, steps_left, Retreats, WentBack}
 use Rattle.retreat.specs.Answer.{TargetsFit, Right, Scheduled}
 use Rattle.retreat.proofs.HeldLocks.{within-at}
 
@@ -201,30 +202,25 @@ module _ (plan : LockPlan) (vss : List (List ℕ)) (k : ℕ) (thread_of pair : �
     first = cycle-target paths r.cycle at-cycle inside (thread_sizes plan) (paths-short plan first-at (λ t b. rw (at t b) (within t b)))
 
     -- what the way back to the start ends with
-    ended : (last : State) (es : List ℕ) → Retreats choices rows targets.begins targets.threads (state lens targets.wanted masks) last es
+    ended : (last : State) (es : List ℕ) → Retreats choices rows targets.begins targets.threads (record { positions = lens; wanted = targets.wanted; masks = masks }) last es
         → AtStart last.positions targets.threads → Schedule plan es (in_mask (stuck_rounds targets.threads targets.threads last.wanted last.masks))
-    unfolding AtStart
     ended last es b z =
         let e = r.all in
         let g = b.leads ps plan.threads P s (thread_sizes plan) (sym e)
         (λ t j c l. let d : t < n = omega (arith, e) in path-choice choices rows lens t fit.turns fit.paths (omega (arith, few)) (in_row t d) j l) paths (rw e first) in
         rw e (finished-schedule plan r.ranks.rank r.ranks.sound (finished paths g (λ t c. get_or-take targets.threads last.positions t 0 (below t c) ∙ z t (below t c))))
 
--- the entries from a place on to the end, as a part of the table
-rest_of : (table : List ℕ) (d : ℕ) → take (length table - d) (drop d table) ≡ drop d table
-rest_of table d = rw (← length-drop d table) (take-length (drop d table))
-
-pub rest-room : (table entries : List ℕ) (d : ℕ) → length (drop d table) ≤ length entries → length (take (length table - d) (drop d table)) ≤ length entries
-rest-room table entries d h = rw (rest_of table d) h
-
-pub rest-wrote : (table before after : List ℕ) (d : ℕ) → Wrote before after 0 (length (take (length table - d) (drop d table))) (take (length table - d) (drop d table))
-    → Wrote before after 0 (length table - d) (drop d table)
-rest-wrote table before after d w = rw (rest_of table d, length-drop d table) at w
+-- the entries from a place on to the end, copied to the start of a buffer
+pub rest-wrote : (table before part : List ℕ) (d k : ℕ) → k ≡ length table - d → part ≡ take k (drop d table) → length (drop d table) ≤ length before
+    → Wrote before (part ++ drop (length (take k (drop d table))) before) 0 (length (take k (drop d table))) (drop d table)
+rest-wrote table before part d k e f h =
+    let same : take k (drop d table) ≡ drop d table = rw (e, ← length-drop d table) (take-length (drop d table)) in
+    rw (f, same) (record { place = omega arith; fits = h; written = refl })
 
 -- the answer, in the shape of the function's need
 pub scheduled : (choices rows : List ℕ) (targets : Targets) (masks : List ℕ) (last : State) (es before after : List ℕ) (o : Outcome) → TargetsFit choices rows targets
     → Holding rows targets.positions masks targets.threads
-    → WentBack choices rows targets.begins targets.threads (state targets.positions targets.wanted masks) last es
+    → WentBack choices rows targets.begins targets.threads (record { positions = targets.positions; wanted = targets.wanted; masks = masks }) last es
     → Wrote before after 0 o.entries es → o.stuck ≡ stuck_rounds targets.threads targets.threads last.wanted last.masks
     → Scheduled choices rows targets before o after
 scheduled choices rows targets masks last es before after o fit h went wrote e = record {

@@ -15,7 +15,7 @@ use Rattle.retreat.specs.declared.Targets.{Targets}
 use Rattle.retreat.specs.declared.Outcome.{Outcome}
 use Rattle.retreat.specs.Paths.{path_of, InRows}
 
--- the tables have room for each thread
+-- the tables have room for each thread. Kept, though they are arrays: `PathsPrepared` (targets) says it
 pub record TargetsFull (t : Targets) : Type 0 where
   pub positions-full : max_threads ≡ length t.positions
   pub begins-full : max_threads ≡ length t.begins

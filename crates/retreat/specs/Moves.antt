@@ -1,29 +1,27 @@
 -- The moves of the way back over the lent tables, as the theory has them (semantics, RetreatMoves): a step back puts an entry in front, a jump forgets
 -- the entries.
-use Rattle.std.specs.Prelude.{ℕ, ◌+◌, ◌-◌, ◌*◌, ◌<◌, ◌≤◌, Bool, true, false, List, [], ◌∷◌, ◌⊎◌, ◌≡◌, ltb, length, get_or, set, take}
-use Rattle.limits.specs.Limits.{max_threads, max_entries}
+use Rattle.std.specs.Prelude.{ℕ, ◌+◌, ◌-◌, ◌*◌, ◌<◌, ◌≤◌, Bool, true, false, List, [], ◌∷◌, ◌⊎◌, ◌≡◌, Option, MatchOption, length, get_or, set, take}
 use Rattle.laws.specs.Sums.{total}
 use Rattle.semantics.specs.Plan.{Block}
 use Rattle.semantics.specs.Run.{ThreadState}
 use Rattle.semantics.specs.Retreat.{Paths, GoingBack, others_at, JumpTo}
-use Rattle.retreat.specs.Paths.{masks_of, choice_at, InRows, Holding, may_go_back}
+use Rattle.retreat.specs.declared.State.{State}
+use Rattle.retreat.specs.Paths.{masks_of, choice_at, Holding, may_go_back}
 
 -- no number below k passes the test
-unfoldable pub NoneBelow : (ℕ → Bool) → ℕ → Type 0
+abbrev pub NoneBelow : (ℕ → Bool) → ℕ → Type 0
 NoneBelow test k = (i : ℕ) → i < k → test i ≡ false
 
--- r is the first number below n that passes the test, or n where none does
-pub record FirstBelow (test : ℕ → Bool) (n r : ℕ) : Type 0 where
-  pub within : r ≤ n
-  pub passes : r < n → test r ≡ true
-  pub before : NoneBelow test r
+-- r is the first number below n that passes the test, if one does
+abbrev pub FirstBelow : (ℕ → Bool) → ℕ → Option ℕ → Type 0
+FirstBelow test n r = MatchOption r (NoneBelow test n) (λ k. (k < n) × (test k ≡ true) × NoneBelow test k)
 
--- thread t has stepped
-unfoldable pub has_stepped : List ℕ → ℕ → Bool
-has_stepped positions t = ltb 0 (get_or positions t 0)
+-- one of n threads has stepped
+abbrev pub SomeStepped : List ℕ → ℕ → Type 0
+SomeStepped positions n = (t : ℕ) × (t < n) × (0 < get_or positions t 0)
 
 -- n threads are at their start
-unfoldable pub AtStart : List ℕ → ℕ → Type 0
+abbrev pub AtStart : List ℕ → ℕ → Type 0
 AtStart positions n = (t : ℕ) → t < n → get_or positions t 0 ≡ 0
 
 -- the sum of the positions of n threads
@@ -38,31 +36,6 @@ entry_of choices positions k = k + 8 * choice_at choices k (get_or positions k 0
 unfoldable pub Landed : List ℕ → List ℕ → ℕ → List ℕ → List ℕ → List ℕ → ℕ → Type 0
 Landed rows begins n positions positions' wanted' k =
     (t : ℕ) → t < k → JumpTo (masks_of rows t) (others_at n (masks_of rows) positions t) (get_or begins t 0) (get_or positions t 0) (get_or positions' t 0) (get_or wanted' t 0)
-
--- a state of the way back: the position of each thread on its path, and what each wants and has at the last target
-pub record State : Type 0 where
-  pub positions : List ℕ
-  pub wanted : List ℕ
-  pub masks : List ℕ
-
--- the state that three lent tables have
-abbrev pub state : List ℕ → List ℕ → List ℕ → State
-state positions wanted masks = record { positions = positions; wanted = wanted; masks = masks }
-
--- the tables of a state have room for each thread
-pub record StateFull (s : State) : Type 0 where
-  pub positions-full : max_threads ≤ length s.positions
-  pub wanted-full : max_threads ≤ length s.wanted
-  pub masks-full : max_threads ≤ length s.masks
-
--- the paths and what the threads begin with are there, and the positions of a state are within the rows
-pub record OnWayBack (choices rows begins : List ℕ) (n : ℕ) (s : State) : Type 0 where
-  pub paths : max_entries ≤ length rows
-  pub turns : max_entries ≤ length choices
-  pub beginnings : max_threads ≤ length begins
-  pub few : n ≤ max_threads
-  pub in_rows : InRows s.positions n
-  pub sized : StateFull s
 
 -- a thread that may go back did: its entry is in front, what is wanted and had at the target is as before
 pub record SteppedBack (choices rows : List ℕ) (n : ℕ) (s s' : State) (es es' : List ℕ) : Type 0 where

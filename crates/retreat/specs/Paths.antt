@@ -1,7 +1,7 @@
 -- The lent tables: the path of each thread, the masks of what it has along it, and what the threads have at their positions.
-use Rattle.std.specs.Prelude.{ℕ, ◌+◌, ◌-◌, ◌*◌, ◌%◌, ◌<◌, ◌≤◌, Bool, false, List, ◌∷◌, ◌≡◌, eqb, length, get_or, take, drop}
+use Rattle.std.specs.Prelude.{ℕ, ◌+◌, ◌-◌, ◌*◌, ◌%◌, ◌<◌, ◌≤◌, Bool, false, List, ◌∷◌, ◌≡◌, eqb, get_or, take, drop}
 use Rattle.std.specs.Int.Bits.{bit_and}
-use Rattle.limits.specs.Limits.{max_threads, max_size, max_entries}
+use Rattle.limits.specs.Limits.{max_size}
 use Rattle.laws.specs.Choice.{pick}
 use Rattle.columns.specs.Columns.{steps}
 use Rattle.semantics.specs.Conflict.{bars}
@@ -47,12 +47,3 @@ may_go_back rows positions n k = pick (eqb (get_or positions k 0) 0) false (eqb 
 -- no thread may go back
 unfoldable pub NoneMayGoBack : List ℕ → List ℕ → ℕ → Type 0
 NoneMayGoBack rows positions n = (k : ℕ) → k < n → may_go_back rows positions n k ≡ false
-
--- n threads at their positions, with the table of what they have there
-pub record Standing (rows positions masks : List ℕ) (n : ℕ) : Type 0 where
-  pub paths : max_entries ≤ length rows
-  pub places : max_threads ≤ length positions
-  pub table : max_threads ≤ length masks
-  pub few : n ≤ max_threads
-  pub in_rows : InRows positions n
-  pub holding : Holding rows positions masks n

@@ -21,7 +21,7 @@ use Rattle.semantics.specs.Sizes.{size_of}
 use Rattle.semantics.proofs.Calls.Ranks.{reach-falls, reached-present}
 use Rattle.semantics.proofs.Analysis.CutOffSizes.{size_by_callees}
 use Rattle.plan.specs.Settled.{PlanTable, table_plan}
-use Rattle.procs.proofs.Places.{proc-few}
+use Rattle.procs.specs.declared.Layout.{Layout}
 use Rattle.reach.specs.Passes.{proc_bit}
 use Rattle.reach.proofs.Called.{in_proc_bit}
 use Rattle.sizes.specs.Passes.{known_size, size_from}
@@ -43,32 +43,38 @@ module _ (mask p before : ℕ) where
     here = λ _. subst T (sym (in_or before b p)) (or_T (in_mask before p) (in_mask b p) (inr (subst T (sym (in_proc_bit p b p h e)) (eq→eqb p p refl))));
   }
 
-module _ (ws starts masks sizes : List ℕ) (p found v b : ℕ) (a : SizesAsked ws starts masks) (f : SizesFound ws sizes found) (h : p < length (table_plan ws).procs) where
+module _ (ws : List ℕ) (l : Layout) (masks sizes : List ℕ) (p found v b : ℕ) (a : SizesAsked ws l masks) (f : SizesFound ws sizes found) (g : p < l.procs) where
   abbrev ps : List Block
   ps = (table_plan ws).procs
 
+  h : p < length ps
+  h = omega (arith, a.laid.procs-all)
+
+  few : p < max_procs
+  few = omega (arith, h, a.plan.settled.few-procs)
+
   -- the procedure's own size, where all that it reaches are found
-  size-now : bit_or (get_or masks p 0) found ≡ found → v ≡ size_from ws sizes (get_or starts p 0) → v ≡ min size_room (size_of ps p)
+  size-now : bit_or (get_or masks p 0) found ≡ found → v ≡ size_from ws sizes (get_or l.starts p 0) → v ≡ min size_room (size_of ps p)
   unfolding size_from
-  size-now e g =
-      g ∙ ap (min size_room) (start_cost ws starts a.plan a.begins (known_size sizes) p h)
+  size-now e k =
+      k ∙ ap (min size_room) (start_cost ws l.starts a.plan a.laid.starts_there (known_size sizes) p h)
       ∙ size_by_callees size_room ps a.ranks (known_size sizes) p h (λ q c.
       let x : Reaches ps p q = directly c in
       f.entries q (reached-present ps a.plan.settled.callees_present x) (or_within (get_or masks p 0) found q e ((a.reach.exact p h q).1 x)))
 
-  pub size-put : (bit_or (get_or masks p 0) found ≡ found) → v ≡ size_from ws sizes (get_or starts p 0) → b ≡ proc_bit p → SizesFound ws (set sizes p v) (bit_or found b)
-  size-put e g k = record {
+  pub size-put : (bit_or (get_or masks p 0) found ≡ found) → v ≡ size_from ws sizes (get_or l.starts p 0) → b ≡ proc_bit p → SizesFound ws (set sizes p v) (bit_or found b)
+  size-put e c k = record {
     room = omega (arith, f.room, length-set sizes p v);
-    entries = λ q l t. ⊎_elim
-        (λ (z : q ≡ p). rw z (get_or-set_same sizes p v 0 (omega (arith, f.room)) ∙ size-now e g))
+    entries = λ q i t. ⊎_elim
+        (λ (z : q ≡ p). rw z (get_or-set_same sizes p v 0 (omega (arith, f.room, h)) ∙ size-now e c))
         (λ (d : q ≢ p).
         get_or-set_other sizes p q v 0 d
-        ∙ f.entries q l (⊎_elim (λ x. x) (λ x. absurd (d (eqb→eq q p (subst T (in_proc_bit p b q few k) x)))) (T-or (in_mask found q) (in_mask b q) (subst T (in_or found b q) t))))
+        ∙ f.entries q i (⊎_elim (λ x. x) (λ x. absurd (d (eqb→eq q p (subst T (in_proc_bit p b q few k) x)))) (T-or (in_mask found q) (in_mask b q) (subst T (in_or found b q) t))))
         (eq_or_ne q p);
   }
-    where
-      few : p < max_procs
-      few = proc-few ws (length ps) refl p a.plan h
+
+  pub put-found : b ≡ proc_bit p → FoundAt (get_or masks p 0) p found (bit_or found b)
+  put-found k = found-now (get_or masks p 0) p found b few k
 
 -- ---- a round
 
@@ -87,34 +93,33 @@ round-more masks p before found after r x = record {
 pub round-done : (masks : List ℕ) (p n before after : ℕ) → p ≤ n → n ≤ p → FoundRound masks p before after → FoundRound masks n before after
 round-done masks p n before after h k r = let z : p ≡ n = omega arith in rw z at r
 
-pub proc-present : (ws : List ℕ) (n p : ℕ) → n ≡ length (table_plan ws).procs → p < n → p < length (table_plan ws).procs
-proc-present ws n p e h = omega arith
-
 -- ---- all rounds
 
 -- those of a rank below d are found
-pub record RanksFound (ws starts masks : List ℕ) (d found : ℕ) : Type 0 where
-  pub asked : SizesAsked ws starts masks
+pub record RanksFound (ws : List ℕ) (l : Layout) (masks : List ℕ) (d found : ℕ) : Type 0 where
+  pub asked : SizesAsked ws l masks
   pub below : (p : ℕ) → p < length (table_plan ws).procs → asked.ranks.rank p < d → T (in_mask found p)
 
-module _ (ws starts masks : List ℕ) where
-  pub ranks-none : SizesAsked ws starts masks → RanksFound ws starts masks 0 0
-  ranks-none a = record { asked = a; below = λ p h l. absurd (omega arith) }
+module _ (ws : List ℕ) (l : Layout) (masks : List ℕ) where
+  pub ranks-none : SizesAsked ws l masks → RanksFound ws l masks 0 0
+  ranks-none a = record { asked = a; below = λ p h i. absurd (omega arith) }
 
-  pub ranks-more : (d n before after : ℕ) → n ≡ length (table_plan ws).procs → RanksFound ws starts masks d before → FoundRound masks n before after
-      → RanksFound ws starts masks (d + 1) after
-  ranks-more d n before after e r x =
+  pub ranks-more : (d before after : ℕ) → RanksFound ws l masks d before → FoundRound masks l.procs before after → RanksFound ws l masks (d + 1) after
+  ranks-more d before after r x =
       let ps = (table_plan ws).procs in
       let a = r.asked in
       record {
         asked = a;
-        below = λ p h l. x.here p (omega arith) (λ q t.
+        below = λ p h i. x.here p (omega (arith, a.laid.procs-all)) (λ q t.
             let y : Reaches ps p q = (a.reach.exact p h q).0 t in
             r.below q (reached-present ps a.plan.settled.callees_present y) (omega (arith, reach-falls ps a.ranks.rank a.ranks.sound y)));
       }
 
-  pub all_found : (sizes : List ℕ) (d n found : ℕ) → n ≡ length (table_plan ws).procs → n ≤ d → RanksFound ws starts masks d found → SizesFound ws sizes found → Sized ws sizes
-  all_found sizes d n found e h r f = record { room = f.room; entries = λ p k. f.entries p k (r.below p k (omega (arith, r.asked.ranks.below p k))) }
+  pub all_found : (sizes : List ℕ) (d found : ℕ) → l.procs ≤ d → RanksFound ws l masks d found → SizesFound ws sizes found → Sized ws sizes
+  all_found sizes d found h r f =
+      record { room = f.room; entries = λ p k. f.entries p k (r.below p k (omega (arith, r.asked.ranks.below p k, r.asked.laid.procs-all))) }
 
 pub sizes-none : (ws sizes : List ℕ) → PlanTable ws → max_procs ≤ length sizes → SizesFound ws sizes 0
 sizes-none ws sizes t h = record { room = omega (arith, t.settled.few-procs); entries = λ p k x. absurd (subst T (in_none p) x) }
+
+pub ruleset rounds = (round-none, round-more, round-done)

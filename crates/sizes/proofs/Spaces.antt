@@ -7,7 +7,7 @@ use mathlib.Core.Path.{◌≡◌, refl, ap, ◌∙◌}
 use mathlib.Core.List.{List}
 use mathlib.Core.Logic.{⊎_elim}
 use mathlib.Core.Option.{none}
-use lib.ListN.{length, get_or, set, length-set}
+use lib.ListN.{length, take, get_or, set, length-set}
 use lib.Seq.{get_or-set_same, get_or-set_other}
 use Rattle.limits.specs.Limits.{max_threads, size_room}
 use Rattle.laws.specs.Sums.{total}
@@ -16,16 +16,14 @@ use Rattle.semantics.specs.Plan.{LockPlan}
 use Rattle.semantics.specs.Sizes.{thread_size, thread_sizes}
 use Rattle.plan.specs.Table.{table_forms}
 use Rattle.plan.specs.Settled.{PlanTable, table_plan}
-use Rattle.plan.specs.declared.Reading.{Reading}
-use Rattle.plan.specs.Rules.{too_large, reading_of}
+use Rattle.plan.specs.Rules.{too_large}
 use Rattle.plan.proofs.WithinSize.{thread-within}
 use Rattle.procs.specs.declared.Layout.{Layout}
 use Rattle.procs.specs.Laid.{Laid}
-use Rattle.procs.proofs.Layouts.{runs-at}
 use Rattle.sizes.specs.declared.Space.{Space}
 use Rattle.sizes.specs.Passes.{known_size}
 use Rattle.sizes.specs.Sized.{Sized, ThreadsCut, Summed}
-use Rattle.sizes.specs.Space.{SpaceOf, ChecksSizes}
+use Rattle.sizes.specs.Space.{SpaceOf}
 
 -- ---- over lists
 
@@ -68,27 +66,27 @@ module _ (ws sizes : List ℕ) (l : Layout) (plan : PlanTable ws) (d : Laid ws l
   abbrev p : LockPlan
   p = table_plan ws
 
-  size-at : (t : ℕ) → t < length p.threads → known_size sizes (get_or l.runs t 0) ≡ min size_room (thread_size p t)
+  size-at : (t : ℕ) → t < length p.threads → known_size sizes (get_or p.threads t 0) ≡ min size_room (thread_size p t)
   unfolding thread_size
-  size-at t h = rw (runs-at ws l d t (omega (arith, d.threads-all))) (s.entries (get_or p.threads t 0) (plan.settled.threads-present t h))
+  size-at t h = s.entries (get_or p.threads t 0) (plan.settled.threads-present t h)
 
-  pub threads-cut : ThreadsCut l.runs l.threads sizes
-  threads-cut = record { cut = λ t h. omega (arith, size-at t (omega (arith, d.threads-all))) }
+  pub threads-few : length (take l.threads l.runs) ≤ max_threads
+  threads-few = omega (arith, ap length d.runs_are, plan.settled.few-threads)
+
+  pub threads-cut : ThreadsCut (take l.threads l.runs) (length (take l.threads l.runs)) sizes
+  threads-cut = rw d.runs_are (record { cut = λ t h. omega (arith, size-at t h) })
 
   module _ (kept : too_large (table_forms ws) ≡ none) where
-    size_exact : (t : ℕ) → t < length p.threads → known_size sizes (get_or l.runs t 0) ≡ thread_size p t
+    size_exact : (t : ℕ) → t < length p.threads → known_size sizes (get_or p.threads t 0) ≡ thread_size p t
     size_exact t h = omega (arith, size-at t h, thread-within (table_forms ws) plan.settled kept t h)
 
-    space-found : (x : Space) → Summed l.runs l.threads sizes x → SpaceOf p x
+    pub space-found : (x : Space) → Summed (take l.threads l.runs) (length (take l.threads l.runs)) sizes x → SpaceOf (table_plan ws) x
     unfolding thread_sizes
-    space-found x m = record {
-      full = m.full;
-      threads = m.threads ∙ d.threads-all;
-      each = λ t h. m.each t (omega (arith, d.threads-all)) ∙ size_exact t h;
-      sum = m.sum ∙ ap (λ n. total n (λ t. known_size sizes (get_or l.runs t 0))) d.threads-all
-          ∙ total-same (length p.threads) (λ t. known_size sizes (get_or l.runs t 0)) (thread_size p) size_exact;
-    }
-
-  pub checks_sizes : (r : Reading) (x : Space) → r ≡ reading_of (too_large (table_forms ws)) (length ws) → Summed l.runs l.threads sizes x
-      → ChecksSizes (too_large (table_forms ws)) ws (record { reading = r; space = x })
-  checks_sizes r x e m = record { reading = e; space = λ kept. space-found kept x m }
+    space-found x m =
+        let n : Summed p.threads (length p.threads) sizes x = rw d.runs_are at m in
+        record {
+          full = n.full;
+          threads = n.threads;
+          each = λ t h. n.each t h ∙ size_exact t h;
+          sum = n.sum ∙ total-same (length p.threads) (λ t. known_size sizes (get_or p.threads t 0)) (thread_size p) size_exact;
+        }

@@ -1,36 +1,35 @@
--- One turn of the pass that adds up a procedure's size, and its end: the sum so far and what is left cost together, cut off, as much as all.
-use Prim.Native.Nat.{ℕ, ◌+◌, ◌<◌, ◌≤◌, min}
-use native.Mathlib.Numerals.{add-one}
+-- The fold that adds up a procedure's size: the sum so far and what is left cost together, cut off, as much as all.
+use Prim.Native.Nat.{ℕ, ◌+◌, ◌≤◌, min}
 use native.Mathlib.Omega.{arith}
-use mathlib.Core.Path.{◌≡◌}
+use mathlib.Core.Path.{◌≡◌, ap, ◌∙◌}
 use mathlib.Core.Bool.{Bool, true, false, cond}
-use mathlib.Core.List.{List, map}
-use lib.ListN.{length, drop, get_or, drop_of_length-le}
-use lib.Seq.{drop-cons}
+use mathlib.Core.List.{List, [], ◌∷◌}
+use lib.ListN.{drop}
+use Rattle.std.specs.List.{fold, before_first}
 use Rattle.limits.specs.Limits.{size_room}
-use Rattle.text.specs.declared.Form.{Form}
 use Rattle.text.specs.Forms.{begins_other}
-use Rattle.plan.specs.Table.{form_at}
-use Rattle.sizes.specs.Passes.{cost_of, cost_from, known_size}
+use Rattle.plan.specs.Table.{form_at, table_forms}
+use Rattle.procs.proofs.Fronts.{before_first-cons}
+use Rattle.sizes.specs.Passes.{cost_of, cost_from, known_size, size_from}
 
-pub capped : (r x : ℕ) → r ≡ min size_room x → r ≤ size_room
-capped r x e = omega arith
+module _ (sizes : List ℕ) where
+  -- a form's cost added, both cut off
+  abbrev pub added : ℕ → ℕ → ℕ
+  added n w = min size_room (n + min size_room (cost_of (known_size sizes) (form_at w)))
 
-module _ (table sizes : List ℕ) (size i r : ℕ) (p : min size_room (size + cost_from (known_size sizes) (map form_at (drop i table))) ≡ r) (small : size ≤ size_room) where
-  pub size-done : length table ≤ i → size ≡ r
+  sizes_folded : (ws : List ℕ) (m : ℕ) → m ≤ size_room → fold added m (before_first (λ w. begins_other (form_at w)) ws) ≡ min size_room (m + cost_from (known_size sizes) (table_forms ws))
   unfolding cost_from
-  size-done h = let e : min size_room (size + 0) ≡ r = rw (drop_of_length-le table h) at p in omega arith
+  sizes_folded [] m h = omega arith
+  sizes_folded (w ∷ ws) m h =
+      let rest = before_first (λ v. begins_other (form_at v)) ws in
+      let more = sizes_folded ws (added m w) (omega arith) in
+      rw (before_first-cons (λ v. begins_other (form_at v)) w ws) (go (begins_other (form_at w)) rest (cost_from (known_size sizes) (table_forms ws)) more)
+    where
+      go : (b : Bool) (rest : List ℕ) (n : ℕ) → fold added (added m w) rest ≡ min size_room (added m w + n)
+          → fold added m (cond b [] (w ∷ rest)) ≡ min size_room (m + cond b 0 (cost_of (known_size sizes) (form_at w) + n))
+      go true rest n e = omega arith
+      go false rest n e = omega (arith, e)
 
-  module _ (f : Form) (q : Bool) (h : i < length table) (e : f ≡ form_at (get_or table i 0)) (b : q ≡ begins_other f) where
-    size-turn : min size_room (size + cond q 0 (cost_of (known_size sizes) f + cost_from (known_size sizes) (map form_at (drop (i + 1) table)))) ≡ r
-    unfolding cost_from
-    size-turn = rw (b, e, add-one i) (rw (drop-cons table i 0 h) at p)
-
-    pub size-over : q ≡ true → size ≡ r
-    size-over z = let g : min size_room (size + 0) ≡ r = rw z at size-turn in omega arith
-
-    pub size-more : (c s : ℕ) → q ≡ false → c ≡ min size_room (cost_of (known_size sizes) f) → s ≡ min size_room (size + c)
-        → min size_room (s + cost_from (known_size sizes) (map form_at (drop (i + 1) table))) ≡ r
-    size-more c s z k m =
-        let g : min size_room (size + (cost_of (known_size sizes) f + cost_from (known_size sizes) (map form_at (drop (i + 1) table)))) ≡ r = rw z at size-turn in
-        omega arith
+  pub all_added : (ws rest : List ℕ) (k r : ℕ) → rest ≡ before_first (λ w. begins_other (form_at w)) (drop k ws) → r ≡ fold added 0 rest → r ≡ size_from ws sizes k
+  unfolding size_from
+  all_added ws rest k r e g = g ∙ ap (fold added 0) e ∙ sizes_folded (drop k ws) 0 (omega arith) ∙ omega arith

@@ -6,7 +6,8 @@ use Rattle.laws.specs.Sums.{total}
 use Rattle.semantics.specs.Plan.{Ranks}
 use Rattle.semantics.specs.Sizes.{size_of}
 use Rattle.plan.specs.Settled.{PlanTable, table_plan}
-use Rattle.plan.specs.Starts.{Starts}
+use Rattle.procs.specs.declared.Layout.{Layout}
+use Rattle.procs.specs.Laid.{Laid}
 use Rattle.reach.specs.Reached.{ReachTable}
 use Rattle.sizes.specs.declared.Space.{Space}
 use Rattle.sizes.specs.Passes.{known_size}
@@ -16,11 +17,11 @@ pub record Sized (ws sizes : List ℕ) : Type 0 where
   pub room : length (table_plan ws).procs ≤ length sizes
   pub entries : (p : ℕ) → p < length (table_plan ws).procs → get_or sizes p 0 ≡ min size_room (size_of (table_plan ws).procs p)
 
--- what the sizes are found from: a plan's table within rule 12, the places of its procedures, and what each of them reaches
-pub record SizesAsked (ws starts masks : List ℕ) : Type 0 where
+-- what the sizes are found from: a plan's table within rule 12, its layout, and what each of its procedures reaches
+pub record SizesAsked (ws : List ℕ) (l : Layout) (masks : List ℕ) : Type 0 where
   pub plan : PlanTable ws
   pub ranks : Ranks (table_plan ws).procs
-  pub begins : Starts ws starts
+  pub laid : Laid ws l
   pub reach : ReachTable ws masks
 
 -- the sizes of the procedures of a mask are found

@@ -6,15 +6,14 @@ use Rattle.laws.specs.Choice.{pick}
 use Rattle.laws.specs.Mask.{bit}
 use Rattle.laws.specs.Sums.{total}
 use Rattle.text.specs.Forms.{number_in, kind_in}
-use Rattle.text.specs.Kinds.{kind_of, plan_kind, two_kind, skip_kind, thread_kind, call_kind, hold_kind, share_kind, numbered, keyword_kind}
-use Rattle.text.specs.Kinds.{between_keyword, after_keyword, number_of, append_digit, leading_of, digit_of}
+use Rattle.text.specs.Kinds.{kind_of, keyword_kind, between_keyword, after_keyword, number_of}
 use Rattle.text.specs.Lines.{split, unindented, passed_over, forms_in, forms_of, unreadable, unreadable_line, line_for, line_of}
 use Rattle.semantics.specs.Claims.{by_share, by_hold}
 use Rattle.semantics.specs.Plan.{body_in}
 use Rattle.semantics.specs.CallMasks.{call_mask, join_through, warshall_round, reach_masks, reach_mask, join_reached}
 use Rattle.semantics.specs.Sizes.{size_with, size_at, size_of, thread_size, thread_sizes}
 use Rattle.plan.specs.Grammar.{in_front, behind, plan_in}
-use Rattle.plan.specs.Structure.{among, only, close_block, on_close, advance_of, misplaced, misplaced_form}
+use Rattle.plan.specs.Structure.{close_block, advance_of, misplaced, misplaced_form}
 use Rattle.plan.specs.Limits.{counted, over_limit, past_limit_from, past_limit_form, tested_by, least_bad, breaks, breaking, count_if, breaking_form}
 use Rattle.plan.specs.Rules.{too_long, lines_refusal, references_refusal, grammar_refusal, forms_refusal, plan_of, proc_form_from, lowest_from, proc_refusal, recursive, idle, too_large, plan_refusal}
 use Rattle.report_lines.specs.Lines.{digits_in, digits, refused_line}
@@ -22,9 +21,9 @@ use Rattle.space.specs.Slip.{size_line, sum_line, size_lines, slip_of, printed_s
 use Rattle.space.specs.Examples.{SlipsRight}
 
 pub slips-right : SlipsRight
-unfolding printed_slip slip_of size_lines size_line sum_line digits digits_in refused_line kind_of plan_kind two_kind skip_kind thread_kind call_kind hold_kind share_kind numbered keyword_kind between_keyword
-    after_keyword number_of append_digit leading_of digit_of split unindented passed_over forms_in forms_of unreadable unreadable_line line_for line_of pick or_else bind equal by_share by_hold in_front behind
-    plan_in among only close_block on_close advance_of misplaced misplaced_form counted over_limit past_limit_from past_limit_form tested_by least_bad number_in kind_in breaks breaking count_if
+unfolding printed_slip slip_of size_lines size_line sum_line digits digits_in refused_line kind_of keyword_kind between_keyword
+    after_keyword number_of split unindented passed_over forms_in forms_of unreadable unreadable_line line_for line_of pick or_else bind equal by_share by_hold in_front behind
+    plan_in close_block advance_of misplaced misplaced_form counted over_limit past_limit_from past_limit_form tested_by least_bad number_in kind_in breaks breaking count_if
     breaking_form too_long lines_refusal references_refusal grammar_refusal forms_refusal plan_of proc_form_from lowest_from proc_refusal recursive call_mask join_through warshall_round
     reach_masks reach_mask idle join_reached too_large plan_refusal body_in size_with size_at size_of thread_size thread_sizes total bit
 slips-right = record { a = refl; threads = refl; shared = refl; empty = refl }

@@ -4,24 +4,21 @@ use Prim.Native.Nat.{ℕ, zero, suc, ◌+◌, ◌<◌, ◌≤◌}
 use native.Mathlib.Numerals.{add-one}
 use native.Mathlib.Omega.{arith}
 use mathlib.Core.List.{List, ◌++◌}
-use mathlib.Core.Option.{none}
-use mathlib.Core.Path.{◌≡◌, refl, sym, ◌∙◌}
-use lib.ListN.{length, get_or}
+use mathlib.Core.Option.{some}
+use mathlib.Core.Path.{◌≡◌, refl}
+use lib.ListN.{length, take, get_or}
+use lib.Seq.{length-take-le}
+use Rattle.std.proofs.lemmas.List.{get_or-take}
 use Rattle.limits.specs.Limits.{max_threads}
 use Rattle.laws.specs.Bytes.{bytes}
 use Rattle.laws.specs.Wrote.{Wrote}
 use Rattle.laws.proofs.Wrote.{wrote_none, wrote-more, wrote-three}
-use Rattle.text.specs.Lines.{forms_of}
 use Rattle.text.specs.declared.Refusal.{Refusal}
 use Rattle.semantics.specs.Sizes.{thread_size}
-use Rattle.plan.specs.declared.Reading.TheVariants.{Accepted}
-use Rattle.plan.specs.declared.Reading.TheVariants as plan
 use Rattle.plan.specs.Rules.{plan_of, plan_refusal}
-use Rattle.plan.proofs.Filling.{refused-is}
-use Rattle.plan.proofs.AcceptedTable.{plan-kept, accepted-settled}
-use Rattle.sizes.specs.Space.{SpaceOf}
+use Rattle.plan.proofs.AcceptedTable.{accepted-settled}
 use Rattle.checked.specs.declared.CheckedText.{CheckedText}
-use Rattle.checked.specs.Checks.{Checks}
+use Rattle.checked.specs.Checks.{AcceptedText}
 use Rattle.report_lines.specs.Lines.{digits, refused_line}
 use Rattle.space.specs.Slip.{size_line, sum_line, size_lines, slip_of, printed_slip}
 
@@ -40,38 +37,36 @@ pub lines_more : (l l₁ l₂ : List ℕ) (i r n : ℕ) (size : ℕ → ℕ) →
 unfolding size_lines
 lines_more l l₁ l₂ i r n size v w = rw (add-one n) (wrote-more l l₁ l₂ 0 i r (size_lines size n) (size_line n (size n)) v w)
 
-pub lines-done : (l l₁ : List ℕ) (i t n : ℕ) (size : ℕ → ℕ) → t ≤ n → n ≤ t → Wrote l l₁ 0 i (size_lines size t) → Wrote l l₁ 0 i (size_lines size n)
-lines-done l l₁ i t n size h k w = let e : t ≡ n = omega arith in rw e at w
-
 lines_same : (n : ℕ) (size size' : ℕ → ℕ) → ((t : ℕ) → t < n → size t ≡ size' t) → size_lines size n ≡ size_lines size' n
 unfolding size_lines
 lines_same zero size size' h = refl
 lines_same (suc n) size size' h = rw (lines_same n size size' (λ t b. h t (omega arith)), h n (omega arith))
 
+-- the sizes are the first n of a table, and the sum stands behind their lines
+pub space-whole : (l l₁ l₂ : List ℕ) (i r n sum : ℕ) (each : List ℕ) → n ≤ length each → Wrote l l₁ 0 i (size_lines (λ t. get_or (take n each) t 0) (length (take n each)))
+    → Wrote l₁ l₂ i r (sum_line sum) → Wrote l l₂ 0 r (size_lines (λ t. get_or each t 0) n ++ sum_line sum)
+space-whole l l₁ l₂ i r n sum each h v w =
+    let e : length (take n each) ≡ n = length-take-le n each h in
+    let same = lines_same n (λ t. get_or (take n each) t 0) (λ t. get_or each t 0) (λ t b. get_or-take n each t 0 b) in
+    wrote-more l l₁ l₂ 0 i r _ _ (rw (e, same) at v) w
+
 -- ---- the slip of a text
 
-module _ (text table : List ℕ) (c : CheckedText) (t : Checks text c table) where
-  pub slip-refused : (x : Refusal) (before after : List ℕ) (r : ℕ) → c.reading ≡ plan.Refused x → Wrote before after 0 r (refused_line x.rule x.line)
-      → Wrote before after 0 r (printed_slip text)
-  unfolding printed_slip
-  slip-refused x before after r g w = rw (refused-is (plan_refusal text) (length (forms_of text)) x (sym t.tabled.answer ∙ g)) w
+pub slip-refused : (text : List ℕ) (x : Refusal) (before after : List ℕ) (r : ℕ) → plan_refusal text ≡ some x → Wrote before after 0 r (refused_line x.rule x.line)
+    → Wrote before after 0 r (printed_slip text)
+unfolding printed_slip
+slip-refused text x before after r k w = rw k w
 
-  module _ (n : ℕ) (g : c.reading ≡ Accepted n) where
-    kept : plan_refusal text ≡ none
-    kept = plan-kept text table c.reading n t.tabled g
+module _ (text table : List ℕ) (plan : CheckedText) (a : AcceptedText text plan table) where
+  pub space-few : plan.space.threads ≤ max_threads
+  space-few = omega (arith, a.space.threads, (accepted-settled text a.kept).few-threads)
 
-    space : SpaceOf (plan_of text) c.space
-    space = t.space kept
+  pub space-full : max_threads ≡ length plan.space.each
+  space-full = a.space.full
 
-    pub space-few : c.space.threads ≤ max_threads
-    space-few = omega (arith, space.threads, (accepted-settled text kept).few-threads)
-
-    pub space-full : max_threads ≡ length c.space.each
-    space-full = space.full
-
-    pub slip-whole : (before after : List ℕ) (r : ℕ)
-        → Wrote before after 0 r (size_lines (λ u. get_or c.space.each u 0) c.space.threads ++ sum_line c.space.sum) → Wrote before after 0 r (printed_slip text)
-    unfolding printed_slip slip_of
-    slip-whole before after r w =
-        let lines = lines_same (length (plan_of text).threads) (λ u. get_or c.space.each u 0) (thread_size (plan_of text)) space.each in
-        rw kept (rw (space.threads, lines, space.sum) at w)
+  pub slip-whole : (before after : List ℕ) (r : ℕ)
+      → Wrote before after 0 r (size_lines (λ u. get_or plan.space.each u 0) plan.space.threads ++ sum_line plan.space.sum) → Wrote before after 0 r (printed_slip text)
+  unfolding printed_slip slip_of
+  slip-whole before after r w =
+      let lines = lines_same (length (plan_of text).threads) (λ u. get_or plan.space.each u 0) (thread_size (plan_of text)) a.space.each in
+      rw a.kept (rw (a.space.threads, lines, a.space.sum) at w)

@@ -2,38 +2,29 @@
 use Prim.Native.Nat.{ℕ, ◌^◌, ◌<◌}
 use native.Mathlib.Omega.{arith}
 use mathlib.Core.List.{List}
-use mathlib.Core.Path.{◌≡◌, sym, ap, ◌∙◌}
-use lib.ListN.{length}
-use Rattle.text.specs.Lines.{forms_of}
+use mathlib.Core.Option.{some}
+use mathlib.Core.Path.{◌≡◌, ap, ◌∙◌}
+use Rattle.std.proofs.Common.{Result, Ok, Err, IsErrAnd}
 use Rattle.text.specs.declared.Refusal.{Refusal}
 use Rattle.semantics.specs.Sizes.{thread_sizes}
-use Rattle.plan.specs.declared.Reading.TheVariants.{Accepted}
-use Rattle.plan.specs.declared.Reading.TheVariants as plan
 use Rattle.plan.specs.Rules.{plan_of, plan_refusal}
-use Rattle.plan.proofs.Filling.{refused-is}
-use Rattle.plan.proofs.AcceptedTable.{plan-kept, accepted-sum}
-use Rattle.sizes.specs.declared.Space.{Space}
+use Rattle.plan.proofs.AcceptedTable.{accepted-sum}
 use Rattle.checked.specs.declared.CheckedText.{CheckedText}
-use Rattle.checked.specs.Checks.{Checks}
-use Rattle.answers.specs.declared.Counted.{Counted}
-use Rattle.answers.specs.declared.Counted.TheVariants.{Count, Refused}
+use Rattle.checked.specs.Checks.{AcceptedText}
 use Rattle.answers.specs.Answers.{counted_of, counted_number, counted_high}
 use Rattle.answers.proofs.LineBounds.{plan_bounded}
-use Rattle.answers.proofs.Counts.{counted_carried}
+use Rattle.answers.proofs.Counts.{handed-on, counted_carried}
 use Rattle.space.specs.Slip.{needed_entries, Needs, NeedsNumber}
 
-module _ (text table : List ℕ) (c : CheckedText) (t : Checks text c table) where
-  pub needed-refused : (x : Refusal) → c.reading ≡ plan.Refused x → Needs text (Refused x)
-  unfolding needed_entries counted_of
-  needed-refused x g = rw (refused-is (plan_refusal text) (length (forms_of text)) x (sym t.tabled.answer ∙ g))
+pub needed-refused : (text : List ℕ) (r : Result ℕ Refusal) (x : Refusal) → plan_refusal text ≡ some x → IsErrAnd r (λ y. y ≡ x) → Needs text r
+unfolding needed_entries counted_of
+needed-refused text r x k e = rw (handed-on r x e, k)
 
-  pub needed-sum : (n : ℕ) (s : Space) → c.reading ≡ Accepted n → s ≡ c.space → Needs text (Count s.sum)
-  unfolding needed_entries counted_of
-  needed-sum n s g e =
-      let kept = plan-kept text table c.reading n t.tabled g in
-      rw (kept, e) (ap Count (t.space kept).sum)
+pub needed-sum : (text table : List ℕ) (plan : CheckedText) → AcceptedText text plan table → Needs text (Ok plan.space.sum)
+unfolding needed_entries counted_of
+needed-sum text table plan a = rw a.kept (ap Ok a.space.sum)
 
-module _ (text : List ℕ) (r : Counted) (e : Needs text r) where
+module _ (text : List ℕ) (r : Result ℕ Refusal) (e : Needs text r) where
   pub needed_carried : counted_high r < 2 ^ 40
   unfolding needed_entries
   needed_carried = counted_carried (plan_refusal text) r (thread_sizes (plan_of text)) e (λ k. omega (arith, accepted-sum text k)) (plan_bounded text)

@@ -1,23 +1,23 @@
 -- The space that a schedule needs: what the calls promise, and the slip, byte for byte. 02, change 4: "For a plan that passes every rule on it up to and with 9, in checking
 -- order, a small program prints `(size T S)` for each thread, then `(sum S)`; for any other, only its `(refused R L)`."
-use Rattle.std.specs.Prelude.{ℕ, zero, suc, ◌+◌, ◌*◌, List, [], ◌++◌, ◌≡◌, length}
+use Rattle.std.specs.Prelude.{ℕ, zero, suc, ◌+◌, ◌*◌, List, [], ◌++◌, ◌≡◌, length, Result}
 use Rattle.limits.specs.Limits.{max_threads}
 use Rattle.laws.specs.Bytes.{bytes}
+use Rattle.text.specs.declared.Refusal.{Refusal}
 use Rattle.semantics.specs.Plan.{LockPlan}
 use Rattle.semantics.specs.Sizes.{thread_size, thread_sizes}
 use Rattle.plan.specs.Rules.{plan_of, plan_refusal}
 use Rattle.report_lines.specs.Lines.{digits, unless_refused}
-use Rattle.answers.specs.declared.Counted.{Counted}
 use Rattle.answers.specs.Answers.{counted_of, counted_number}
 
 -- ---- the calls
 
 -- how many entries a schedule needs: the sum of the threads' sizes, or the refusal by the plan's rules
-unfoldable pub needed_entries : List ℕ → Counted
+unfoldable pub needed_entries : List ℕ → Result ℕ Refusal
 needed_entries text = counted_of (plan_refusal text) (thread_sizes (plan_of text))
 
 -- the answer of the call
-abbrev pub Needs : List ℕ → Counted → Type 0
+abbrev pub Needs : List ℕ → Result ℕ Refusal → Type 0
 Needs text r = r ≡ needed_entries text
 
 -- and as a number

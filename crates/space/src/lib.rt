@@ -2,14 +2,13 @@
 #![tactic(auto)]
 
 ghost use Rattle.std.specs.Prelude.{◌++◌, ◌≡◌, ◌+◌, ◌*◌, ◌≤◌, length, get_or};
-ghost use Rattle.limits.specs.Limits.{max_forms, max_threads};
+ghost use Rattle.limits.specs.Limits.{max_threads};
 ghost use Rattle.laws.specs.Wrote.{Wrote};
 ghost use Rattle.space.specs.Slip.{Needs, NeedsNumber, size_line, sum_line, size_lines, printed_slip, size_line_room, sum_line_room, slip_room};
 
-use answers::Counted;
 use limits::{MAX_FORMS, MAX_THREADS};
-use plan::Reading;
 use sizes::Space;
+use text::Refusal;
 
 // Bytes that suffice for the line of a thread.
 const SIZE_LINE_ROOM: usize = 6 + 20 + 1 + 20 + 2;
@@ -17,34 +16,20 @@ const SIZE_LINE_ROOM: usize = 6 + 20 + 1 + 20 + 2;
 // Bytes that suffice for a slip: a line for each thread, and the line of the sum.
 pub const SLIP_ROOM: usize = MAX_THREADS * SIZE_LINE_ROOM + 5 + 20 + 2;
 
-// How many entries a schedule of a text's plan needs, by way of a table of its forms.
-fn find_needed(text: &[u8], table: &mut [u64]) -> Counted
-    requires { max_forms ≤ length table.old }
-    ensures { Needs text.now result }
-{
-    let checked = checked::read_text(text, table);
-    let reading = checked.reading;
-    let space = checked.space;
-    match reading {
-        Reading::Accepted(_) => Counted::Count(space.sum),
-        Reading::Refused(refusal) => Counted::Refused(refusal),
-    }
-}
-
-// The same with a table of its own.
-pub fn needed_entries(text: &[u8]) -> Counted
+// How many entries a schedule of a text's plan needs.
+pub fn needed_entries(text: &[u8]) -> Result<usize, Refusal>
     ensures { Needs text.now result }
 {
     let mut table = [0u64; MAX_FORMS];
-    find_needed(text, &mut table)
+    let plan = checked::read_text(text, &mut table)?;
+    Ok(plan.space.sum)
 }
 
 // The same with the answer as a number.
 pub fn space_number(text: &[u8]) -> u64
     ensures { NeedsNumber text.now result }
 {
-    let counted = needed_entries(text);
-    answers::counted_number(counted)
+    answers::counted_number(needed_entries(text))
 }
 
 // ---- the slip
@@ -69,17 +54,15 @@ fn put_sum(out: &mut [u8], at: usize, sum: u64) -> usize
     report_lines::put_text(out, i, b")\n")
 }
 
-// The lines of the first n threads.
-fn put_sizes(out: &mut [u8], sizes: &[u64], n: usize) -> usize
-    requires { (n ≤ length sizes.now) × (n * size_line_room ≤ length out.old) }
-    ensures wrote { Wrote out.old out.new 0 result (size_lines (λ t. get_or sizes.now t 0) n) }
-    ensures upper_bound { result ≤ n * size_line_room }
+// The lines of the threads that have these sizes.
+fn put_sizes(out: &mut [u8], sizes: &[u64]) -> usize
+    requires { length sizes.now * size_line_room ≤ length out.old }
+    ensures wrote { Wrote out.old out.new 0 result (size_lines (λ t. get_or sizes.now t 0) (length sizes.now)) }
+    ensures upper_bound { result ≤ length sizes.now * size_line_room }
 {
-    let mut i: usize = 0;
-    let mut t: usize = 0;
-    while t < n {
-        i = put_size(out, i, t as u64, sizes[t]);
-        t += 1;
+    let mut i = 0;
+    for (t, &size) in sizes.iter().enumerate() {
+        i = put_size(out, i, t as u64, size);
     }
     i
 }
@@ -89,29 +72,18 @@ fn put_space(out: &mut [u8], space: Space) -> usize
     requires { (space.threads ≤ max_threads) × (max_threads ≡ length space.each) × (slip_room ≤ length out.old) }
     ensures { Wrote out.old out.new 0 result (size_lines (λ t. get_or space.each t 0) space.threads ++ sum_line space.sum) }
 {
-    let each = space.each;
-    let i = put_sizes(out, &each, space.threads);
+    let i = put_sizes(out, &space.each[..space.threads]);
     put_sum(out, i, space.sum as u64)
 }
 
-// What the program prints of a text, by way of a table of its forms.
-fn find_slip(text: &[u8], out: &mut [u8], table: &mut [u64]) -> usize
-    requires { (slip_room ≤ length out.old) × (max_forms ≤ length table.old) }
-    ensures { Wrote out.old out.new 0 result (printed_slip text.now) }
-{
-    let checked = checked::read_text(text, table);
-    let reading = checked.reading;
-    match reading {
-        Reading::Accepted(_) => put_space(out, checked.space),
-        Reading::Refused(refusal) => report_lines::put_refused(out, 0, refusal.rule, refusal.line),
-    }
-}
-
-// The same with a table of its own.
+// What the program prints of a text.
 pub fn put_slip(text: &[u8], out: &mut [u8]) -> usize
     requires { slip_room ≤ length out.old }
     ensures { Wrote out.old out.new 0 result (printed_slip text.now) }
 {
     let mut table = [0u64; MAX_FORMS];
-    find_slip(text, out, &mut table)
+    match checked::read_text(text, &mut table) {
+        Ok(plan) => put_space(out, plan.space),
+        Err(refusal) => report_lines::put_refused(out, 0, refusal.rule, refusal.line),
+    }
 }

@@ -2,23 +2,11 @@
 // standard error.
 #![tactic(auto)]
 
-use streams::TEXT_ROOM;
-
-// The copy of a text that was read, unless reading failed.
-fn straighten_input(text: &[u8], whole: bool) {
-    if !whole {
-        io::write_all(2, b"straight: standard input cannot be read\n");
-        return;
-    }
-    let printed = streams::print_copy(text, true);
-    if !printed.whole {
-        io::write_all(2, b"straight: the copy cannot be written\n");
-    }
-}
-
 fn main(rt: HostRuntime) {
-    let mut text = [0u8; TEXT_ROOM];
-    let input = streams::read_input(&rt, &mut text);
-    let n = input.bytes;
-    straighten_input(&text[..n], input.whole);
+    streams::print_input(
+        &rt,
+        |text| streams::print_copy(text, true),
+        b"straight: standard input cannot be read\n",
+        b"straight: the copy cannot be written\n",
+    );
 }

@@ -1,3 +1,2 @@
 -- How many bytes of a buffer were read; that every part of a report is printed.
-pub mod Counting
 pub mod Printing

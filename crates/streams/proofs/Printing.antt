@@ -1,25 +1,25 @@
--- Parts printed one after the other are printed whole: with each part its bytes are added, and behind the last none is left. In a report a part that has no byte is past the last
--- one, and no report has more parts than the most.
-use Prim.Native.Nat.{ℕ, ◌+◌, ◌-◌, ◌<◌, ◌≤◌}
-use native.Mathlib.Nat.{sub-zero}
+-- Parts printed one after the other are printed whole: with each part its bytes are added, and behind the last none is left. No report has more parts than the most.
+use Prim.Native.Nat.{ℕ, ◌+◌, ◌<◌, ◌≤◌}
 use native.Mathlib.Numerals.{add-one}
 use native.Mathlib.Omega.{arith}
-use mathlib.Core.Bool.{false, not}
 use mathlib.Core.List.{List, [], flatten}
 use mathlib.Core.Logic.{⊎_elim}
 use mathlib.Core.Path.{◌≡◌, refl, ap, ◌∙◌}
 use lib.ListN.{length, take, drop, get_or, length-append, drop_of_length-le, get_or-eq_default}
 use lib.Seq.{drop-cons}
-use borrow.Author.Tests.{not-false}
+use Rattle.std.proofs.Common.{Result, Ok, Err, IsErr}
+use Rattle.std.proofs.lemmas.Result.{IfOk-from_err}
 use Rattle.laws.proofs.Tests.{lt_or_le}
 use Rattle.laws.specs.Wrote.{Wrote}
 use Rattle.laws.proofs.Wrote.{wrote-start}
+use Rattle.text.specs.declared.Refusal.{Refusal}
+use Rattle.answers.specs.Judgement.{schedule_in}
 use Rattle.report_text.specs.declared.Findings.{Findings}
 use Rattle.report_text.specs.Report.{parts_of}
-use Rattle.report_text.specs.Tables.{most_parts, schedule_in, Prepared}
-use Rattle.report_text.proofs.Whole.{last-part, few_parts}
-use Rattle.streams.specs.declared.Printed.{Printed}
-use Rattle.streams.specs.Printing.{AllPrinted, AllOrNone}
+use Rattle.report_text.specs.Tables.{most_parts, verdict_in, Prepared}
+use Rattle.report_text.proofs.Whole.{parts_report, few_parts}
+use Rattle.streams.specs.declared.Unwritten.{Unwritten}
+use Rattle.streams.specs.Printing.{AllPrinted, AllOrNone, ReportPrinted}
 
 -- ---- parts of any kind
 
@@ -39,13 +39,13 @@ next-part parts k = ⊎_elim there past (lt_or_le k (length parts))
     past h = rw (drop_of_length-le parts {i = k} h, drop_of_length-le parts {i = k + 1} (omega arith), get_or-eq_default parts [] {n = k} h) refl
 
 -- what stands at the start of a buffer is printed with the buffer's first bytes
-pub start-printed : (r : Printed) (out out' : List ℕ) (n : ℕ) (given : List ℕ) → Wrote out out' 0 n given → AllOrNone r (take (n - 0) out') → AllPrinted r given
-start-printed r out out' n given w p whole = p.all whole ∙ rw (sub-zero n) (ap length (wrote-start out out' 0 n given w refl))
+pub start-printed : (r : Result ℕ Unwritten) (out out' : List ℕ) (n : ℕ) (given : List ℕ) → Wrote out out' 0 n given → AllOrNone r (take n out') → AllPrinted r given
+start-printed (Ok m) out out' n given w p = p ∙ ap length (wrote-start out out' 0 n given w refl)
+start-printed (Err e) out out' n given w p = tt
 
 module _ (parts : List (List ℕ)) (k bytes : ℕ) (before : PrintedTo parts k bytes) where
-  pub part-printed : (n : ℕ) (r : Printed) (out out' : List ℕ) → Wrote out out' 0 n (get_or parts k []) → AllOrNone r (take (n - 0) out') → not r.whole ≡ false
-      → PrintedTo parts (k + 1) (bytes + r.bytes)
-  part-printed n r out out' w p h = omega (arith, next-part parts k, start-printed r out out' n (get_or parts k []) w p (not-false r.whole h))
+  pub part-printed : (n m : ℕ) (out out' : List ℕ) → Wrote out out' 0 n (get_or parts k []) → m ≡ bytes + length (take n out') → PrintedTo parts (k + 1) m
+  part-printed n m out out' w e = omega (arith, next-part parts k, ap length (wrote-start out out' 0 n (get_or parts k []) w refl))
 
   pub parts_printed : length parts ≤ k → bytes ≡ length (flatten parts)
   unfolding flatten
@@ -54,13 +54,17 @@ module _ (parts : List (List ℕ)) (k bytes : ℕ) (before : PrintedTo parts k b
 -- ---- those of a report
 
 -- the report on a text that was judged, part by part
-abbrev pub reported : List ℕ → Findings → List ℕ → List (List ℕ)
-reported text j entries = parts_of text j.verdict (schedule_in j.verdict entries)
+abbrev pub reported : List ℕ → Result Findings Refusal → List ℕ → List (List ℕ)
+reported text j entries = parts_of text (verdict_in j) (schedule_in (verdict_in j) entries)
 
-module _ (text : List ℕ) (j : Findings) (table entries : List ℕ) (k bytes : ℕ) (before : PrintedTo (reported text j entries) k bytes) where
-  -- a part without a byte is past the last
-  pub none_left : (n : ℕ) (out out' : List ℕ) → n ≡ 0 → Wrote out out' 0 n (get_or (reported text j entries) k []) → bytes ≡ length (flatten (reported text j entries))
-  none_left n out out' z w = parts_printed (reported text j entries) k bytes before ((last-part text j.verdict (schedule_in j.verdict entries) k).1 (omega (arith, w.place)))
+module _ (text : List ℕ) (j : Result Findings Refusal) (table entries : List ℕ) (x : Prepared text j table entries) where
+  -- no report has more parts than the most
+  pub report-printed : (k bytes : ℕ) → PrintedTo (reported text j entries) k bytes → most_parts ≤ k → ReportPrinted text (Ok bytes)
+  report-printed k bytes before h = record {
+    given = flatten (reported text j entries);
+    report = parts_report text table entries j x;
+    printed = parts_printed (reported text j entries) k bytes before (omega (arith, few_parts text (verdict_in j) (schedule_in (verdict_in j) entries) x.judged));
+  }
 
-  pub most-printed : Prepared text j table entries → most_parts ≤ k → bytes ≡ length (flatten (reported text j entries))
-  most-printed x h = parts_printed (reported text j entries) k bytes before (omega (arith, few_parts text j.verdict (schedule_in j.verdict entries) x.judged))
+  pub report-unwritten : (r : Result ℕ Unwritten) → IsErr r → ReportPrinted text r
+  report-unwritten r e = record { given = flatten (reported text j entries); report = parts_report text table entries j x; printed = IfOk-from_err r _ e }

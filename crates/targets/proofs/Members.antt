@@ -7,7 +7,7 @@ use mathlib.Core.Logic.{⊎_elim, ◌≢◌}
 use mathlib.Core.Path.{◌≡◌, refl, sym, ap, ◌∙◌, subst}
 use lib.Dec.{T, eqb, eqb→eq}
 use lib.ListN.{length, get_or, take, drop, length-map, length-set}
-use lib.Seq.{get_or-set_same, get_or-set_other}
+use lib.Seq.{length-take-le, get_or-take, get_or-set_same, get_or-set_other}
 use Rattle.limits.specs.Limits.{max_threads, max_size, max_entries}
 use Rattle.laws.proofs.Tests.{eq_or_ne, eq→eqb, search_below}
 use Rattle.laws.proofs.Ascending.{mem_ascending}
@@ -38,7 +38,7 @@ module _ (hs ws : List ℕ) (l : Layout) (chosen : List ℕ) (k : ℕ) (a : Cycl
   few-all : n ≤ max_threads
   few-all = few-threads ws l a.plan-laid
 
-  pub member-present : (i : ℕ) → i < k → member_thread chosen i < n
+  member-present : (i : ℕ) → i < k → member_thread chosen i < n
   member-present i h =
       let b : member_thread chosen i < length (pair_lists ws) = pair_in_lem (pair_lists ws) (member_thread chosen i) (member_pair hs chosen i) (a.cycle.from i h) in
       let e : length (pair_lists ws) ≡ length (table_plan ws).threads = length-map (table_plan ws).threads (pair_list (table_plan ws).procs) in
@@ -47,7 +47,7 @@ module _ (hs ws : List ℕ) (l : Layout) (chosen : List ℕ) (k : ℕ) (a : Cycl
   member_low : (i : ℕ) → i < k → member_thread chosen i < max_threads
   member_low i h = omega (arith, member-present i h, few-all)
 
-  pub asked-target : (i : ℕ) → i < k → Target ws n (get_or chosen i 0 % 8) (pair_by hs (get_or chosen i 0))
+  asked-target : (i : ℕ) → i < k → Target ws n (get_or chosen i 0 % 8) (pair_by hs (get_or chosen i 0))
   unfolding pair_list proc_of
   asked-target i h = record {
     present = member-present i h;
@@ -56,6 +56,16 @@ module _ (hs ws : List ℕ) (l : Layout) (chosen : List ℕ) (k : ℕ) (a : Cycl
         (get_or-map_in (pair_list (table_plan ws).procs) (table_plan ws).threads (member_thread chosen i) (rw (← a.plan-laid.laid.threads-all) (member-present i h)))
         (a.cycle.from i h));
   }
+
+  -- the candidates of the cycle one after the other
+  chosen-length : length (take k chosen) ≡ k
+  chosen-length = length-take-le k chosen a.room
+
+  chosen-at : (i : ℕ) → i < length (take k chosen) → get_or (take k chosen) i 0 ≡ get_or chosen i 0
+  chosen-at i h = get_or-take k chosen i 0 (omega (arith, chosen-length))
+
+  pub asked-next : (i : ℕ) → i < length (take k chosen) → Target ws n (get_or (take k chosen) i 0 % 8) (pair_by hs (get_or (take k chosen) i 0))
+  asked-next i h = rw (chosen-at i h) (asked-target i (omega (arith, chosen-length)))
 
   -- the length of a member's path is within its row
   member-within : (lens : List ℕ) (j : ℕ) → j < k → get_or lens (member_thread chosen j) 0 ≤ size_of (table_plan ws).procs (proc_of ws (member_thread chosen j))
@@ -105,7 +115,7 @@ module _ (hs ws : List ℕ) (l : Layout) (chosen : List ℕ) (k : ℕ) (a : Cycl
     each : (P : ℕ → Type 0) → ((j : ℕ) → j < i → P j) → P i → (j : ℕ) → j < i + 1 → P j
     each P f x j h = ⊎_elim (λ (z : j ≡ i). subst P (sym z) x) (λ (z : j ≢ i). f j (omega arith)) (eq_or_ne j i)
 
-    pub done_more : MembersDone hs ws chosen (i + 1) n steps' s'
+    done_more : MembersDone hs ws chosen (i + 1) n steps' s'
     done_more = record {
       all = m.same-threads ∙ d.all;
       full = record {
@@ -130,6 +140,10 @@ module _ (hs ws : List ℕ) (l : Layout) (chosen : List ℕ) (k : ℕ) (a : Cycl
           let o = d.others t h (λ j l. none j (omega arith)) in
           (other_length t z ∙ o.0, other-wanted t z ∙ o.1);
     }
+
+  pub done-next : (steps steps' : List ℕ) (s s' : Targets) (i : ℕ) → i < length (take k chosen) → MembersDone hs ws chosen i n steps s
+      → MemberPut ws (get_or (take k chosen) i 0 % 8) (pair_by hs (get_or (take k chosen) i 0)) s steps s' steps' → MembersDone hs ws chosen (i + 1) n steps' s'
+  done-next steps steps' s s' i h d m = done_more steps steps' s s' i (omega (arith, chosen-length)) d (rw (chosen-at i h) at m)
 
   -- ---- all members
 
@@ -167,16 +181,16 @@ module _ (hs ws : List ℕ) (l : Layout) (chosen : List ℕ) (k : ℕ) (a : Cycl
           begins_with = λ u h. d.begins_are u (below u h);
         }
 
-  pub prepared : (choices choices₀ rows rows₀ : List ℕ) (s : Targets) (i : ℕ) → i ≤ k → k ≤ i → max_entries ≤ length choices₀ → length choices ≡ length choices₀
-      → max_entries ≤ length rows₀ → length rows ≡ length rows₀ → MembersDone hs ws chosen i n (steps_in choices rows) s → PathsPrepared hs ws chosen k choices rows s
-  prepared choices choices₀ rows rows₀ s i h b long same wide also d =
-      let e : i ≡ k = omega arith in
+  pub prepared : (choices rows : List ℕ) (s : Targets) (i : ℕ) → i ≤ length (take k chosen) → length (take k chosen) ≤ i → max_entries ≤ length choices → max_entries ≤ length rows
+      → MembersDone hs ws chosen i n (steps_in choices rows) s → PathsPrepared hs ws chosen k choices rows s
+  prepared choices rows s i h b long wide d =
+      let e : i ≡ k = omega (arith, chosen-length) in
       let all : MembersDone hs ws chosen k n (steps_in choices rows) s = subst (λ j. MembersDone hs ws chosen j n (steps_in choices rows) s) e d in
       record {
         right = tables-right choices rows s all;
         fit = record {
-          paths = omega arith;
-          turns = omega arith;
+          paths = wide;
+          turns = long;
           few = omega (arith, few-all, d.all);
           full = d.full;
           in_rows = rw d.all (paths-within (steps_in choices rows) s all);

@@ -29,33 +29,27 @@ pub later-line : (k line : ℕ) (l : List ℕ) (ls : List (List ℕ)) → passed
 unfolding line_for pick
 later-line k line l ls h = let e : suc k - 1 ≡ k = omega arith in rw (h, eqb-suc-zero k, e)
 
+one-line : (b c : Bool) (x y line n : ℕ) → suc line ≤ x → x ≤ suc line + n → suc line ≤ y → y ≤ suc line + n
+    → (line ≤ pick b x (cond c line y)) × (pick b x (cond c line y) ≤ line + suc n)
+unfolding pick
+one-line b c x y line n h k i j = (grind arith, grind arith)
+
+line-bounds : (ls : List (List ℕ)) (k line : ℕ) → (line ≤ line_for k line ls) × (line_for k line ls ≤ line + length ls)
+unfolding line_for
+line-bounds [] k line = (omega arith, omega arith)
+line-bounds (l ∷ ls) k line =
+    let p = line-bounds ls k (suc line) in
+    let q = line-bounds ls (k - 1) (suc line) in
+    one-line (passed_over l) (eqb k 0) (line_for k (suc line) ls) (line_for (k - 1) (suc line) ls) line (length ls) p.0 p.1 q.0 q.1
+
 pub line-least : (ls : List (List ℕ)) (k line : ℕ) → line ≤ line_for k line ls
-unfolding line_for pick
-line-least [] k line = omega arith
-line-least (l ∷ ls) k line = go (passed_over l) (eqb k 0) (line-least ls k (suc line)) (line-least ls (k - 1) (suc line))
-  where
-    go : (b c : Bool) → suc line ≤ line_for k (suc line) ls → suc line ≤ line_for (k - 1) (suc line) ls
-        → line ≤ pick b (line_for k (suc line) ls) (cond c line (line_for (k - 1) (suc line) ls))
-    go true c p q = omega arith
-    go false true p q = omega arith
-    go false false p q = omega arith
+line-least ls k line = (line-bounds ls k line).0
 
 pub line-most : (ls : List (List ℕ)) (k line : ℕ) → line_for k line ls ≤ line + length ls
-unfolding line_for pick
-line-most [] k line = omega arith
-line-most (l ∷ ls) k line = go (passed_over l) (eqb k 0) (line-most ls k (suc line)) (line-most ls (k - 1) (suc line))
-  where
-    go : (b c : Bool) → line_for k (suc line) ls ≤ suc line + length ls → line_for (k - 1) (suc line) ls ≤ suc line + length ls
-        → pick b (line_for k (suc line) ls) (cond c line (line_for (k - 1) (suc line) ls)) ≤ line + suc (length ls)
-    go true c p q = omega arith
-    go false true p q = omega arith
-    go false false p q = omega arith
+line-most ls k line = (line-bounds ls k line).1
 
 pub line-grows : (ls : List (List ℕ)) (j k line : ℕ) → j ≤ k → line_for j line ls ≤ line_for k line ls
-line-grows [] j k line h = none_left
-  where
-    none_left : line_for j line [] ≤ line_for k line []
-    none_left = omega (arith, line-most [] j line, line-least [] k line)
+line-grows [] j k line h = omega (arith, line-most [] j line, line-least [] k line)
 line-grows (l ∷ ls) j k line h = go (passed_over l) refl j k h (line-grows ls j k (suc line) h) (λ i m g. line-grows ls i m (suc line) g)
   where
     go : (b : Bool) → passed_over l ≡ b → (j k : ℕ) → j ≤ k → line_for j (suc line) ls ≤ line_for k (suc line) ls

@@ -1,7 +1,6 @@
--- A match on forms; the definitions in the shape of the functions' needs; forms and the lines in which they are written; texts cut into lines; what is passed over; the
--- forms that lines spell and the lines in which they stand; a text read line after line.
+-- A match on forms; forms and the lines in which they are written; texts cut into lines; what is passed over; the forms that lines spell and the lines in which they
+-- stand; a text read line after line.
 pub mod Matches
-pub mod Branches
 pub mod Written
 pub mod Cuts
 pub mod Passing

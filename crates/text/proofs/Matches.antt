@@ -8,10 +8,11 @@ use mathlib.Core.Logic.{inl, inr}
 use mathlib.Core.Path.{◌≡◌, refl, sym, ap, subst, ◌∙◌}
 use lib.Dec.{eqb}
 use lib.ListN.{get_or}
-use borrow.Author.Tests.{eqb-true}
 use denote.Enum.Declared.{tag_of}
 use mir.Val.{has_key}
 use types.Run.{OneOf}
+use native.Mathlib.Omega.{arith}
+use Rattle.std.proofs.lemmas.Bool.Decides.{nat_tests}
 use Rattle.text.specs.declared.Form.{Form}
 use Rattle.text.specs.declared.Form.TheVariants.{Plan, Proc, Thread, Close, Skip, Call, Hold, Loop, Either, One, Two, Share}
 use Rattle.text.specs.Forms.{number_in, kind_number, kind_in}
@@ -24,40 +25,19 @@ form_at n k = get_or (Plan ∷ Proc ∷ Thread n ∷ Close ∷ Skip ∷ Call n �
 form-there : (f : Form) → form_at (number_in f) (kind_number f) ≡ f
 unfolding number_in
 form-there Plan = refl
-form-there Proc = refl
-form-there (Thread n) = refl
-form-there Close = refl
-form-there Skip = refl
-form-there (Call n) = refl
-form-there (Hold l) = refl
-form-there Loop = refl
-form-there Either = refl
-form-there One = refl
-form-there Two = refl
-form-there (Share l) = refl
+form-there f = refl
 
 kind_tag : (f : Form) → tag_of the_type f ≡ kind_number f
 kind_tag Plan = refl
-kind_tag Proc = refl
-kind_tag (Thread n) = refl
-kind_tag Close = refl
-kind_tag Skip = refl
-kind_tag (Call n) = refl
-kind_tag (Hold l) = refl
-kind_tag Loop = refl
-kind_tag Either = refl
-kind_tag One = refl
-kind_tag Two = refl
-kind_tag (Share l) = refl
+kind_tag f = refl
 
 -- a form of the kind of g
+same-number : (k n : ℕ) → (eqb k n || false) ≡ true → n ≡ k
+same-number k n e = grind (arith, nat_tests)
+
 pub kind-form : (g f : Form) → kind_in (g ∷ []) f ≡ true → f ≡ form_at (number_in f) (kind_number g)
 unfolding kind_in
-kind-form g f e = sym (form-there f) ∙ ap (form_at (number_in f)) (go (eqb (kind_number g) (kind_number f)) refl e)
-  where
-    go : (b : Bool) → eqb (kind_number g) (kind_number f) ≡ b → (b || false) ≡ true → kind_number f ≡ kind_number g
-    go true h k = sym (eqb-true (kind_number g) (kind_number f) h)
-    go false h k = cc
+kind-form g f e = sym (form-there f) ∙ ap (form_at (number_in f)) (same-number (kind_number g) (kind_number f) e)
 
 -- a function that gives a at each of the numbers gives a at one of them
 all_one : {A : Type 0} (g : ℕ → A) (a : A) (ks : List ℕ) (x : ℕ) → OneOf ks x → map g ks ≡ map (λ k. a) ks → g x ≡ a
@@ -92,19 +72,12 @@ without js (k ∷ ks) = cond (has_key js k) (without js ks) (k ∷ without js ks
 abbrev pub others : List Form → List ℕ
 others gs = without (positions gs) (0 ∷ 1 ∷ 2 ∷ 3 ∷ 4 ∷ 5 ∷ 6 ∷ 7 ∷ 8 ∷ 9 ∷ 10 ∷ 11 ∷ [])
 
--- the arm of one pattern, of several, and of the rest
+-- the arm of several patterns, and of the rest
 module _ (gs : List Form) (f : Form) (r : Bool) where
-  pub kind-one : (g : Form) → f ≡ g → is_key gs g ≡ true → r ≡ true → r ≡ kind_in gs f
-  kind-one g e k h = h ∙ sym k ∙ is_key_lem gs g ∙ ap (kind_in gs) (sym e)
-
-  module _ (b : Bool) (ks : List ℕ) (h : OneOf ks (tag_of the_type f)) (e : map (λ k. is_key gs (form_at (number_in f) k)) ks ≡ map (λ k. b) ks) (k : r ≡ b) where
-    kind_arm : r ≡ kind_in gs f
-    kind_arm = k ∙ sym (match_arm (is_key gs) b ks f h e) ∙ is_key_lem gs f
-
   pub kind-among : OneOf (positions gs) (tag_of the_type f) → map (λ k. is_key gs (form_at (number_in f) k)) (positions gs) ≡ map (λ k. true) (positions gs)
       → r ≡ true → r ≡ kind_in gs f
-  kind-among h e k = kind_arm true (positions gs) h e k
+  kind-among h e k = k ∙ sym (match_arm (is_key gs) true (positions gs) f h e) ∙ is_key_lem gs f
 
   pub kind-rest : OneOf (others gs) (tag_of the_type f) → map (λ k. is_key gs (form_at (number_in f) k)) (others gs) ≡ map (λ k. false) (others gs)
       → r ≡ false → r ≡ kind_in gs f
-  kind-rest h e k = kind_arm false (others gs) h e k
+  kind-rest h e k = k ∙ sym (match_arm (is_key gs) false (others gs) f h e) ∙ is_key_lem gs f

@@ -1,30 +1,27 @@
 -- What is passed over: spaces before a form and lines without one leave the forms, the unreadable line and the lines of the forms as they are. Each law is one step of
 -- passing over, at a place of a text.
-use Prim.Native.Nat.{ℕ, suc, ◌+◌, ◌-◌, ◌<◌, ◌≤◌}
+use Prim.Native.Nat.{ℕ, suc, ◌+◌, ◌<◌, ◌≤◌}
 use native.Mathlib.Numerals.{add-one}
 use native.Mathlib.Omega.{arith}
-use mathlib.Core.Path.{◌≡◌, refl, sym, ap, subst, ◌∙◌}
+use mathlib.Core.Path.{◌≡◌, refl, sym, ap, ◌∙◌}
+use mathlib.Core.Logic.{◌⊎◌, inl, inr}
 use mathlib.Core.Bool.{Bool, true, false, cond}
 use mathlib.Core.List.{List, [], ◌∷◌}
 use lib.ListN.{length, drop, get_or, length-drop}
-use lib.Seq.{drop-cons, drop-drop}
+use lib.Seq.{drop-cons}
 use lib.Dec.{eqb}
 use borrow.Author.Tests.{ne_eqb}
+use Rattle.std.specs.Prelude.{Option, Some, None, MatchOption}
 use Rattle.laws.specs.Choice.{pick}
 use Rattle.text.specs.declared.Form.{Form}
-use Rattle.text.specs.declared.Form.TheVariants.{Plan, Proc, Thread, Close, Skip, Call, Hold, Loop, Either, One, Two, Share}
-use Rattle.text.specs.declared.Kind.{Kind}
-use Rattle.text.specs.declared.Kind.TheVariants.{Known, Unknown}
+use Rattle.text.specs.declared.Form.TheVariants.{Plan}
 use Rattle.text.specs.declared.Place.{Place}
-use Rattle.text.specs.declared.Pass.{Pass}
-use Rattle.text.specs.declared.Pass.TheVariants.{Over, Here}
 use Rattle.text.specs.Forms.{write}
 use Rattle.text.specs.Kinds.{kind_of}
 use Rattle.text.specs.Lines.{line_length, Split, push_byte, split, unindented, blank_or_remark, passed_over, forms_in, unreadable, line_for}
-use Rattle.text.specs.Passing.{place, ReadAlike, rest_of_line, Stops, PassedOne}
+use Rattle.text.specs.Passing.{place, ReadAlike, rest_of_line, Stops, LineBehind, PassedOne}
 use Rattle.text.proofs.Written.{kind-written}
-use Rattle.text.proofs.Cuts.{split-line, split-joined, joined}
-use Rattle.text.proofs.Branches.{line-again}
+use Rattle.text.proofs.Cuts.{line_length-cons, split-behind, split-joined, joined}
 
 -- ---- lines
 
@@ -32,17 +29,7 @@ use Rattle.text.proofs.Branches.{line-again}
 written-kept : (f : Form) → (unindented (write f) ≡ write f) × (blank_or_remark (write f) ≡ false)
 unfolding write unindented
 written-kept Plan = (refl, refl)
-written-kept Proc = (refl, refl)
-written-kept (Thread n) = (refl, refl)
-written-kept Close = (refl, refl)
-written-kept Skip = (refl, refl)
-written-kept (Call n) = (refl, refl)
-written-kept (Hold n) = (refl, refl)
-written-kept Loop = (refl, refl)
-written-kept Either = (refl, refl)
-written-kept One = (refl, refl)
-written-kept Two = (refl, refl)
-written-kept (Share n) = (refl, refl)
+written-kept f = (refl, refl)
 
 pub write-unindented : (f : Form) → unindented (write f) ≡ write f
 write-unindented f = (written-kept f).0
@@ -52,16 +39,16 @@ unfolding passed_over
 spelled_kept l f e = ap blank_or_remark e ∙ (written-kept f).1
 
 -- a line that is a form is not passed over
-pub known_kept : (l : List ℕ) (f : Form) → kind_of (unindented l) ≡ Known f → passed_over l ≡ false
+pub known_kept : (l : List ℕ) (f : Form) → kind_of (unindented l) ≡ Some f → passed_over l ≡ false
 known_kept l f e = spelled_kept l f ((kind-written (unindented l) f).0 e).written
 
 -- so one that is passed over is none
-pub passed-unknown : (l : List ℕ) → passed_over l ≡ true → kind_of (unindented l) ≡ Unknown
+pub passed-unknown : (l : List ℕ) → passed_over l ≡ true → kind_of (unindented l) ≡ None
 passed-unknown l h = go (kind_of (unindented l)) refl
   where
-    go : (k : Kind) → kind_of (unindented l) ≡ k → k ≡ Unknown
-    go Unknown e = refl
-    go (Known f) e = let z : ◌≡◌ {A = ℕ} 0 1 = cc (h, known_kept l f e) in absurd (omega arith)
+    go : (k : Option Form) → kind_of (unindented l) ≡ k → k ≡ None
+    go None e = refl
+    go (Some f) e = cc (h, known_kept l f e)
 
 pub unindented-length : (l : List ℕ) → length (unindented l) ≤ length l
 unfolding unindented
@@ -106,7 +93,7 @@ alike_places text p q a b c r = record { later = a; within = b; counted = c; for
 pub alike_none : (text : List ℕ) (p : Place) → p.at ≤ length text → ReadAlike text p p
 alike_none text p h = alike_places text p p (omega arith) h (omega arith) (record { forms = refl; readable = refl; lines = λ k. refl })
 
-alike_then : (text : List ℕ) (p q r : Place) → ReadAlike text p q → ReadAlike text q r → ReadAlike text p r
+pub alike_then : (text : List ℕ) (p q r : Place) → ReadAlike text p q → ReadAlike text q r → ReadAlike text p r
 alike_then text p q r a b = record {
   later = omega (arith, a.later, b.later);
   within = b.within;
@@ -128,81 +115,55 @@ module _ (text : List ℕ) (p : Place) (h : p.at < length text) where
   here : (b : ℕ) → get_or text at 0 ≡ b → drop at text ≡ b ∷ drop (at + 1) text
   here b e = rw add-one (drop-cons text at 0 h ∙ ap (λ x. x ∷ drop (suc at) text) e)
 
-  pub pass-space : get_or text at 0 ≡ 32 → at + 1 < length text → ReadAlike text p (place (at + 1) p.line)
-  unfolding split
+  pub pass-space : get_or text at 0 ≡ 32 → at + 1 < length text → PassedOne text p (Some (place (at + 1) p.line))
+  unfolding split PassedOne
   pass-space e g =
       let rest = split (drop (at + 1) text) in
       let some_left : rest.ended ≡ [] → rest.tail ≡ [] → ⊥ =
       λ x y. omega (arith, length-drop (at + 1) text, ap length (cut-nothing (drop (at + 1) text) x y)) in
       let r : Alike p.line (split (drop at text)) p.line rest = rw (here 32 e) (space_alike p.line rest.ended rest.tail some_left) in
-      alike_places text p (place (at + 1) p.line) (omega arith) (omega arith) (omega arith) r
-
-  pub pass-end : get_or text at 0 ≡ 10 → ReadAlike text p (place (at + 1) (p.line + 1))
-  unfolding split passed_over unindented
-  pass-end e =
-      let rest = split (drop (at + 1) text) in
-      let r : Alike p.line (split (drop at text)) (p.line + 1) rest = rw (here 10 e, add-one p.line) (over_alike p.line [] rest.ended rest.tail refl) in
-      alike_places text p (place (at + 1) (p.line + 1)) (omega arith) (omega arith) (omega arith) r
+      (alike_places text p (place (at + 1) p.line) (omega arith) (omega arith) (omega arith) r, omega arith)
 
   -- the first line where its first byte is b, which is not 10
   first-line : (b : ℕ) → get_or text at 0 ≡ b → (b ≡ 10 → ⊥) → rest_of_line text at ≡ b ∷ rest_of_line text (at + 1)
-  unfolding line_length
-  first-line b e n = rw (here b e, ne_eqb b 10 n)
+  first-line b e n = rw (here b e, line_length-cons, ne_eqb b 10 n)
 
-  module _ (end : ℕ) (g : end ≡ at + line_length (drop at text)) where
-    pub pass_remark : get_or text at 0 ≡ 59 → end < length text → ReadAlike text p (place (end + 1) (p.line + 1))
-    unfolding passed_over unindented
-    pass_remark e k =
-        let n = line_length (drop at text) in
-        let v : at + suc n ≡ end + 1 = omega arith in
-        let w : drop (suc n) (drop at text) ≡ drop (end + 1) text = drop-drop (suc n) at text ∙ ap (λ i. drop i text) v in
-        let s = split-line (drop at text) (omega (arith, length-drop at text)) in
-        let o : passed_over (rest_of_line text at) ≡ true = ap passed_over (first-line 59 e (λ z. omega arith)) in
-        let rest = split (drop (end + 1) text) in
-        let r : Alike p.line (split (drop at text)) (p.line + 1) rest =
-        subst (λ c. Alike p.line c (p.line + 1) rest) (sym (rw w at s)) (rw (add-one p.line) (over_alike p.line (rest_of_line text at) rest.ended rest.tail o)) in
-        alike_places text p (place (end + 1) (p.line + 1)) (omega arith) (omega arith) (omega arith) r
+  -- a line end, or a remark
+  passed-here : (get_or text at 0 ≡ 10) ⊎ (get_or text at 0 ≡ 59) → passed_over (rest_of_line text at) ≡ true
+  unfolding passed_over unindented
+  passed-here (inl e) = rw (here 10 e, line_length-cons)
+  passed-here (inr e) = ap passed_over (first-line 59 e (λ z. omega arith))
 
-    pub remark_later : at < end + 1
-    remark_later = omega arith
+  behind_alike : (q : Place) → LineBehind text p q → passed_over (rest_of_line text at) ≡ true → ReadAlike text p q × (at < q.at)
+  behind_alike q b o =
+      let rest = split (drop q.at text) in
+      let l : suc p.line ≡ q.line = omega (arith, b.line) in
+      let r : Alike p.line (split (drop at text)) (suc p.line) rest = rw (split-behind text at q.at b.place b.within) (over_alike p.line (rest_of_line text at) rest.ended rest.tail o) in
+      (alike_places text p q (omega (arith, b.place)) b.within (omega (arith, b.place, b.line)) (rw l at r), omega (arith, b.place))
+
+  pub pass_line : (get_or text at 0 ≡ 10) ⊎ (get_or text at 0 ≡ 59) → (r : Option Place) → MatchOption r (length text ≤ at + line_length (drop at text)) (LineBehind text p) → PassedOne text p r
+  unfolding Stops PassedOne
+  pass_line k (Some q) h = behind_alike q h (passed-here k)
+  pass_line k None h = λ z. absurd (omega (arith, h))
 
   -- nothing to pass over: a last line of one byte, and any byte but those that are passed over
-  pub stops-last : (get_or text at 0 ≡ 10 → ⊥) → length text ≤ at + 1 → Stops text at
-  unfolding Stops
-  stops-last n k = λ z. absurd (omega (arith, line-again text at (at + line_length (drop at text)) h n refl))
+  pub stops-last : (get_or text at 0 ≡ 10 → ⊥) → length text ≤ at + 1 → PassedOne text p None
+  unfolding Stops PassedOne
+  stops-last n k =
+      let e : line_length (drop at text) ≡ suc (line_length (drop (at + 1) text)) = rw (here (get_or text at 0) refl, line_length-cons, ne_eqb (get_or text at 0) 10 n) in
+      λ z. absurd (omega arith)
 
-  pub stops_byte : (get_or text at 0 ≡ 10 → ⊥) → (get_or text at 0 ≡ 32 → ⊥) → (get_or text at 0 ≡ 59 → ⊥) → Stops text at
-  unfolding Stops passed_over unindented
+  pub stops_byte : (get_or text at 0 ≡ 10 → ⊥) → (get_or text at 0 ≡ 32 → ⊥) → (get_or text at 0 ≡ 59 → ⊥) → PassedOne text p None
+  unfolding Stops PassedOne passed_over unindented
   stops_byte n s r = λ z. rw (first-line (get_or text at 0) refl n, ne_eqb (get_or text at 0) 32 s, ne_eqb (get_or text at 0) 59 r) (refl, refl)
 
--- nothing to pass over: the text's end, and a remark that is not ended
-module _ (text : List ℕ) (at : ℕ) where
-  pub stops_end : length text ≤ at → Stops text at
-  unfolding Stops
-  stops_end h = λ z. absurd (omega arith)
+-- nothing to pass over: the text's end
+pub stops_end : (text : List ℕ) (p : Place) → length text ≤ p.at → PassedOne text p None
+unfolding Stops PassedOne
+stops_end text p h = λ z. absurd (omega arith)
 
-  pub stops-unended : (end : ℕ) → end ≡ at + line_length (drop at text) → length text ≤ end → Stops text at
-  unfolding Stops
-  stops-unended end e h = λ z. absurd (omega arith)
+-- the places that steps lead to, one after another
+pub ruleset places = (alike_none, alike_then)
 
--- ---- steps of passing over, one after another: q is what `pass_one` answered at the place p
-
-module _ (text : List ℕ) (p : Place) (q : Pass) (s : PassedOne text p q) where
-  pub over-stops : q ≡ Here → Stops text p.at
-  over-stops e = subst (PassedOne text p) e s
-
-  module _ (next : Place) (e : q ≡ Over next) where
-    one-over : ReadAlike text p next × (p.at < next.at)
-    one-over = subst (PassedOne text p) e s
-
-    pub over-again : (p₀ : Place) → ReadAlike text p₀ p → ReadAlike text p₀ next
-    over-again p₀ r = alike_then text p₀ p next r one-over.0
-
-    pub over-within : next.at ≤ length text
-    over-within = one-over.0.within
-
-    pub over-counted : p.line ≤ p.at + 1 → next.line ≤ next.at + 1
-    over-counted h = omega (arith, one-over.0.counted)
-
-    pub over-less : length text - next.at < length text - p.at
-    over-less = omega (arith, one-over.0.within, one-over.1)
+-- the ways out of one step
+pub ruleset steps = (pass-space, pass_line, stops-last, stops_byte, stops_end)

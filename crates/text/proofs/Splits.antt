@@ -7,10 +7,9 @@ use mathlib.Core.Bool.{Bool, true, false}
 use mathlib.Core.List.{List, [], ◌∷◌, ◌++◌, Memᴰ}
 use mathlib.Core.Option.{none}
 use lib.ListN.{length, length-append}
+use Rattle.std.specs.Prelude.{Option, Some, None}
 use Rattle.laws.specs.Choice.{pick}
 use Rattle.text.specs.declared.Form.{Form}
-use Rattle.text.specs.declared.Kind.{Kind}
-use Rattle.text.specs.declared.Kind.TheVariants.{Known, Unknown}
 use Rattle.text.specs.Forms.{write, number_in}
 use Rattle.text.specs.Kinds.{kind_of}
 use Rattle.text.specs.Lines.{split, unindented, passed_over, cons_form, forms_in, forms_of, unknown_or, unreadable, unreadable_line, text_of, Spells, nothing, over, form, IsText}
@@ -22,16 +21,16 @@ use Rattle.text.proofs.Passing.{write-unindented, spelled_kept, known_kept, pass
 readable-spelled : (line : ℕ) (ls : List (List ℕ)) (t : List ℕ) → unreadable line ls t ≡ none → (t ≡ []) × Spells ls (forms_in ls)
 unfolding unreadable forms_in pick
 readable-spelled line [] [] e = (refl, nothing)
-readable-spelled line [] (b ∷ bs) e = let z : ◌≡◌ {A = ℕ} 0 1 = cc in absurd (omega arith)
+readable-spelled line [] (b ∷ bs) e = cc
 readable-spelled line (l ∷ ls) t e = go (passed_over l) refl (kind_of (unindented l)) refl e (readable-spelled (suc line) ls t)
   where
-    go : (b : Bool) → passed_over l ≡ b → (k : Kind) → kind_of (unindented l) ≡ k
+    go : (b : Bool) → passed_over l ≡ b → (k : Option Form) → kind_of (unindented l) ≡ k
         → pick b (unreadable (suc line) ls t) (unknown_or line k (unreadable (suc line) ls t)) ≡ none
         → (unreadable (suc line) ls t ≡ none → (t ≡ []) × Spells ls (forms_in ls)) → (t ≡ []) × Spells (l ∷ ls) (cons_form k (forms_in ls))
-    go true p Unknown q e ih = let r = ih e in (r.0, over l ls (forms_in ls) p r.1)
-    go true p (Known f) q e ih = let z : ◌≡◌ {A = ℕ} 0 1 = cc (p, known_kept l f q) in absurd (omega arith)
-    go false p Unknown q e ih = let z : ◌≡◌ {A = ℕ} 0 1 = cc in absurd (omega arith)
-    go false p (Known f) q e ih = let r = ih e in let w = (kind-written (unindented l) f).0 q in (r.0, form l f ls (forms_in ls) w r.1)
+    go true p None q e ih = let r = ih e in (r.0, over l ls (forms_in ls) p r.1)
+    go true p (Some f) q e ih = cc (p, known_kept l f q)
+    go false p None q e ih = cc
+    go false p (Some f) q e ih = let r = ih e in let w = (kind-written (unindented l) f).0 q in (r.0, form l f ls (forms_in ls) w r.1)
 
 -- and lines that spell forms are read as those
 spelled-readable : (line : ℕ) (ls : List (List ℕ)) (fs : List Form) → Spells ls fs → (unreadable line ls [] ≡ none) × (forms_in ls ≡ fs)
@@ -80,18 +79,12 @@ unfolding forms_of unreadable_line
 written-readable fs h = lines-readable 1 fs h
 
 -- the text of a readable text's forms is no longer than the text
-line-le : (a b x y : List ℕ) → length a ≤ length b → length x ≤ length y → length (a ++ 10 ∷ x) ≤ length (b ++ 10 ∷ y)
-line-le a b x y h k = omega (arith, length-append a (10 ∷ x), length-append b (10 ∷ y))
-
-line-more : (b x y : List ℕ) → length x ≤ length y → length x ≤ length (b ++ 10 ∷ y)
-line-more b x y k = omega (arith, length-append b (10 ∷ y))
-
 spelled-length : (ls : List (List ℕ)) (fs : List Form) (t : List ℕ) → Spells ls fs → length (text_of fs) ≤ length (joined ls t)
 unfolding joined text_of
 spelled-length _ _ t nothing = omega arith
-spelled-length _ _ t (over l ls fs p s) = line-more l (text_of fs) (joined ls t) (spelled-length ls fs t s)
+spelled-length _ _ t (over l ls fs p s) = omega (arith, length-append l (10 ∷ joined ls t), spelled-length ls fs t s)
 spelled-length _ _ t (form l f ls fs w s) =
-    line-le (write f) l (text_of fs) (joined ls t) (omega (arith, unindented-length l, ap length w.written)) (spelled-length ls fs t s)
+    omega (arith, length-append l (10 ∷ joined ls t), length-append (write f) (10 ∷ text_of fs), unindented-length l, ap length w.written, spelled-length ls fs t s)
 
 pub written-shorter : (text : List ℕ) → unreadable_line text ≡ none → length (text_of (forms_of text)) ≤ length text
 written-shorter text e =
@@ -103,9 +96,9 @@ unfolding forms_in joined
 few-joined [] t = omega arith
 few-joined (l ∷ ls) t = go (kind_of (unindented l)) refl (few-joined ls t)
   where
-    go : (k : Kind) → kind_of (unindented l) ≡ k → length (forms_in ls) * 2 ≤ length (joined ls t) → length (cons_form k (forms_in ls)) * 2 ≤ length (l ++ 10 ∷ joined ls t)
-    go Unknown p h = rw length-append (omega arith)
-    go (Known f) p h = let w = (kind-written (unindented l) f).0 p in rw length-append (omega (arith, write-some f, ap length w.written, unindented-length l))
+    go : (k : Option Form) → kind_of (unindented l) ≡ k → length (forms_in ls) * 2 ≤ length (joined ls t) → length (cons_form k (forms_in ls)) * 2 ≤ length (l ++ 10 ∷ joined ls t)
+    go None p h = rw length-append (omega arith)
+    go (Some f) p h = let w = (kind-written (unindented l) f).0 p in rw length-append (omega (arith, write-some f, ap length w.written, unindented-length l))
 
 pub few-forms : (text : List ℕ) → length (forms_of text) * 2 ≤ length text
 unfolding forms_of

@@ -1,75 +1,73 @@
 -- Worked lines, by what remains of them behind their spaces, worked texts, and the lines of their forms: a table of each, with one computed fact about it.
-use Rattle.std.specs.Prelude.{ℕ, List, [], ◌∷◌, ◌++◌, map, ◌≡◌, refl}
-use Rattle.std.proofs.Math.Option.{Option, none, some}
+use Rattle.std.specs.Prelude.{ℕ, List, [], ◌∷◌, ◌++◌, Option, Some, None, map, ◌≡◌, refl}
+use Rattle.std.proofs.Math.Option.{Option as Maybe, none, some}
 use Rattle.laws.specs.Choice.{pick}
-use Rattle.laws.specs.Bytes.{bytes, equal}
+use Rattle.laws.specs.Bytes.{bytes}
+use Rattle.text.specs.declared.Form.{Form}
 use Rattle.text.specs.declared.Form.TheVariants.{Plan, Proc, Thread, Close, Skip, Call, Hold, Loop, Either, One, Two, Share}
-use Rattle.text.specs.declared.Kind.{Kind}
-use Rattle.text.specs.declared.Kind.TheVariants.{Known, Unknown}
-use Rattle.text.specs.Kinds.{digit_of, leading_of, append_digit, number_of, after_keyword, between_keyword, keyword_kind}
-use Rattle.text.specs.Kinds.{numbered, hold_kind, share_kind, call_kind, thread_kind, plan_kind, two_kind, skip_kind, kind_of}
+use Rattle.text.specs.Kinds.{number_of, after_keyword, between_keyword, keyword_kind, kind_of}
 use Rattle.text.specs.Lines.{split, unindented, passed_over, unreadable, unreadable_line, line_for, line_of}
 
 record Example : Type 0 where
   rest : List ℕ
-  kind : Kind
+  kind : Option Form
 
 examples : List Example
 examples =
-    record { rest = bytes "(plan"; kind = Known Plan } ∷
-    record { rest = bytes "(proc"; kind = Known Proc } ∷
-    record { rest = bytes "(thread 999)"; kind = Known (Thread 999) } ∷
-    record { rest = bytes "(thread 999"; kind = Unknown } ∷
-    record { rest = bytes "(hold 12"; kind = Known (Hold 12) } ∷
-    record { rest = bytes "(hold 0"; kind = Known (Hold 0) } ∷
-    record { rest = bytes "(hold 012"; kind = Unknown } ∷
-    record { rest = bytes "(hold 00"; kind = Unknown } ∷
-    record { rest = bytes "(hold 1000"; kind = Unknown } ∷
-    record { rest = bytes "(hold "; kind = Unknown } ∷
-    record { rest = bytes "(hold 12)"; kind = Unknown } ∷
-    record { rest = bytes "(hold  1"; kind = Unknown } ∷
-    record { rest = bytes "(hold +1"; kind = Unknown } ∷
-    record { rest = bytes "(share 0"; kind = Known (Share 0) } ∷
-    record { rest = bytes "(share 12"; kind = Known (Share 12) } ∷
-    record { rest = bytes "(share 999"; kind = Known (Share 999) } ∷
-    record { rest = bytes "(share 1000"; kind = Unknown } ∷
-    record { rest = bytes "(share 012"; kind = Unknown } ∷
-    record { rest = bytes "(share 12)"; kind = Unknown } ∷
-    record { rest = bytes "(share  1"; kind = Unknown } ∷
-    record { rest = bytes "(share"; kind = Unknown } ∷
-    record { rest = bytes "(shared 1"; kind = Unknown } ∷
-    record { rest = bytes "(s"; kind = Unknown } ∷
-    record { rest = bytes "(call 7)"; kind = Known (Call 7) } ∷
-    record { rest = bytes "(call 7"; kind = Unknown } ∷
-    record { rest = bytes "(call )"; kind = Unknown } ∷
-    record { rest = bytes "(Call 7)"; kind = Unknown } ∷
-    record { rest = bytes "(skip)"; kind = Known Skip } ∷
-    record { rest = bytes "(skip) "; kind = Unknown } ∷
-    record { rest = bytes " (skip)"; kind = Unknown } ∷
-    record { rest = bytes "(skip"; kind = Unknown } ∷
-    record { rest = bytes "(skip)" ++ (13 ∷ []); kind = Unknown } ∷
-    record { rest = bytes "(skip)" ++ (0 ∷ []); kind = Unknown } ∷
-    record { rest = 9 ∷ bytes "(skip)"; kind = Unknown } ∷
-    record { rest = bytes "(loop"; kind = Known Loop } ∷
-    record { rest = bytes "(either"; kind = Known Either } ∷
-    record { rest = bytes "(one"; kind = Known One } ∷
-    record { rest = bytes "(two"; kind = Known Two } ∷
-    record { rest = bytes "(two)"; kind = Unknown } ∷
-    record { rest = bytes ")"; kind = Known Close } ∷
-    record { rest = bytes "))"; kind = Unknown } ∷
-    record { rest = 0 ∷ []; kind = Unknown } ∷
-    record { rest = 0 ∷ 0 ∷ []; kind = Unknown } ∷
-    record { rest = []; kind = Unknown } ∷
+    record { rest = bytes "(plan"; kind = Some Plan } ∷
+    record { rest = bytes "(proc"; kind = Some Proc } ∷
+    record { rest = bytes "(thread 999)"; kind = Some (Thread 999) } ∷
+    record { rest = bytes "(thread 999"; kind = None } ∷
+    record { rest = bytes "(hold 12"; kind = Some (Hold 12) } ∷
+    record { rest = bytes "(hold 0"; kind = Some (Hold 0) } ∷
+    record { rest = bytes "(hold 012"; kind = None } ∷
+    record { rest = bytes "(hold 00"; kind = None } ∷
+    record { rest = bytes "(hold 1000"; kind = None } ∷
+    record { rest = bytes "(hold "; kind = None } ∷
+    record { rest = bytes "(hold 12)"; kind = None } ∷
+    record { rest = bytes "(hold  1"; kind = None } ∷
+    record { rest = bytes "(hold +1"; kind = None } ∷
+    record { rest = bytes "(share 0"; kind = Some (Share 0) } ∷
+    record { rest = bytes "(share 12"; kind = Some (Share 12) } ∷
+    record { rest = bytes "(share 999"; kind = Some (Share 999) } ∷
+    record { rest = bytes "(share 1000"; kind = None } ∷
+    record { rest = bytes "(share 012"; kind = None } ∷
+    record { rest = bytes "(share 12)"; kind = None } ∷
+    record { rest = bytes "(share  1"; kind = None } ∷
+    record { rest = bytes "(share"; kind = None } ∷
+    record { rest = bytes "(shared 1"; kind = None } ∷
+    record { rest = bytes "(s"; kind = None } ∷
+    record { rest = bytes "(call 7)"; kind = Some (Call 7) } ∷
+    record { rest = bytes "(call 7"; kind = None } ∷
+    record { rest = bytes "(call )"; kind = None } ∷
+    record { rest = bytes "(Call 7)"; kind = None } ∷
+    record { rest = bytes "(skip)"; kind = Some Skip } ∷
+    record { rest = bytes "(skip) "; kind = None } ∷
+    record { rest = bytes " (skip)"; kind = None } ∷
+    record { rest = bytes "(skip"; kind = None } ∷
+    record { rest = bytes "(skip)" ++ (13 ∷ []); kind = None } ∷
+    record { rest = bytes "(skip)" ++ (0 ∷ []); kind = None } ∷
+    record { rest = 9 ∷ bytes "(skip)"; kind = None } ∷
+    record { rest = bytes "(loop"; kind = Some Loop } ∷
+    record { rest = bytes "(either"; kind = Some Either } ∷
+    record { rest = bytes "(one"; kind = Some One } ∷
+    record { rest = bytes "(two"; kind = Some Two } ∷
+    record { rest = bytes "(two)"; kind = None } ∷
+    record { rest = bytes ")"; kind = Some Close } ∷
+    record { rest = bytes "))"; kind = None } ∷
+    record { rest = 0 ∷ []; kind = None } ∷
+    record { rest = 0 ∷ 0 ∷ []; kind = None } ∷
+    record { rest = []; kind = None } ∷
     []
 
 examples-right : map (λ e. kind_of e.rest) examples ≡ map (λ e. e.kind) examples
-unfolding examples kind_of plan_kind two_kind skip_kind hold_kind share_kind call_kind thread_kind keyword_kind numbered between_keyword after_keyword number_of append_digit leading_of digit_of pick equal
+unfolding examples kind_of keyword_kind between_keyword after_keyword number_of
 examples-right = refl
 
 -- the first unreadable line of a text
 record Reading : Type 0 where
   text : List ℕ
-  unreadable : Option ℕ
+  unreadable : Maybe ℕ
 
 -- the byte that ends a line
 abbrev ended : List ℕ → List ℕ
@@ -94,7 +92,7 @@ readings =
     []
 
 readings-right : map (λ r. unreadable_line r.text) readings ≡ map (λ r. r.unreadable) readings
-unfolding readings unreadable_line unreadable split unindented passed_over kind_of plan_kind keyword_kind pick equal
+unfolding readings unreadable_line unreadable split unindented passed_over kind_of keyword_kind pick
 readings-right = refl
 
 -- form k of a text, and its line

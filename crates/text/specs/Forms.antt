@@ -28,18 +28,11 @@ write (Share n) = bytes "(share " ++ decimal n
 
 -- a form's number, or 0 where it has none
 unfoldable pub number_in : Form → ℕ
-number_in Plan = 0
-number_in Proc = 0
 number_in (Thread n) = n
-number_in Close = 0
-number_in Skip = 0
 number_in (Call n) = n
 number_in (Hold n) = n
-number_in Loop = 0
-number_in Either = 0
-number_in One = 0
-number_in Two = 0
 number_in (Share n) = n
+number_in f = 0
 
 -- ---- the kinds of forms
 

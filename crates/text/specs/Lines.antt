@@ -1,20 +1,17 @@
 -- The lines of a text, what is passed over of them, and what reading one gives. 01, "The plan text" and rule 3; 02, change 1.
-use Rattle.std.specs.Prelude.{Bool, true, cond, ℕ, suc, ◌+◌, ◌-◌, ◌≡◌, List, [], ◌∷◌, ◌++◌, eqb, ltb, length, take, drop, get_or}
-use Rattle.std.proofs.Math.Option.{Option, none, some}
+use Rattle.std.specs.Prelude.{Bool, true, cond, ℕ, suc, ◌+◌, ◌-◌, ◌≡◌, List, [], ◌∷◌, ◌++◌, Option, Some, None, Result, Ok, Err, ◌==◌, eqb, ltb, length, take, drop, get_or}
+use Rattle.std.specs.List.{position_or_len}
+use Rattle.std.proofs.Math.Option.{Option as Maybe, none, some}
 use Rattle.laws.specs.Choice.{pick}
 use Rattle.text.specs.declared.Form.{Form}
-use Rattle.text.specs.declared.Kind.{Kind}
-use Rattle.text.specs.declared.Kind.TheVariants.{Known, Unknown}
 use Rattle.text.specs.declared.Refusal.{Refusal}
 use Rattle.text.specs.declared.Line.{Line}
-use Rattle.text.specs.declared.Line.TheVariants.{Read, Refused}
 use Rattle.text.specs.Forms.{write, IsForm}
 use Rattle.text.specs.Kinds.{kind_of}
 
 -- "each line ended by byte 10": how many bytes stand before the first byte 10, or all
 unfoldable pub line_length : List ℕ → ℕ
-line_length [] = 0
-line_length (b ∷ bs) = cond (eqb b 10) 0 (suc (line_length bs))
+line_length l = position_or_len (λ b. b == 10) l
 
 -- the number of the rule broken, and the line
 abbrev pub refusal : ℕ → ℕ → Refusal
@@ -22,16 +19,16 @@ refusal r l = record { rule = r; line = l }
 
 -- "Reading a line gives either a form with its number or the refusal, never both." The cases of the answer, with 01's numbers: the form and the place of the next
 -- line; rule 3, "Some line is none of the forms above", and the line's number
-unfoldable pub line_answer : Kind → ℕ → ℕ → Line
-line_answer (Known f) next line = Read f next
-line_answer Unknown next line = Refused (refusal 3 line)
+unfoldable pub line_answer : Option Form → ℕ → ℕ → Result Line Refusal
+line_answer (Some f) next line = Ok (record { form = f; next = next })
+line_answer None next line = Err (refusal 3 line)
 
 -- What stands of a line from the place `at` on, where its spaces were passed over. A line that is not ended is refused. At or past the end of the text there is no
 -- line, and the answer is the refusal too: the caller asks only before the end.
-unfoldable pub line_at : List ℕ → ℕ → ℕ → Line
+unfoldable pub line_at : List ℕ → ℕ → ℕ → Result Line Refusal
 line_at text at line =
     let n = line_length (drop at text) in
-    cond (ltb (at + n) (length text)) (line_answer (kind_of (take n (drop at text))) (at + n + 1) line) (Refused (refusal 3 line))
+    cond (ltb (at + n) (length text)) (line_answer (kind_of (take n (drop at text))) (at + n + 1) line) (Err (refusal 3 line))
 
 -- A text cut at each byte 10: its ended lines, and what stands after the last of them.
 pub record Split : Type 0 where
@@ -68,9 +65,9 @@ abbrev pub ended_line : List ℕ → ℕ → List ℕ
 ended_line text n = get_or (split text).ended (n - 1) []
 
 -- the form of a line that is one, in front of others
-abbrev pub cons_form : Kind → List Form → List Form
-cons_form (Known f) fs = f ∷ fs
-cons_form Unknown fs = fs
+abbrev pub cons_form : Option Form → List Form → List Form
+cons_form (Some f) fs = f ∷ fs
+cons_form None fs = fs
 
 -- the forms of lines, those that are none left out; a line that is passed over is none (theorem `passed-unknown`)
 unfoldable pub forms_in : List (List ℕ) → List Form
@@ -82,23 +79,23 @@ unfoldable pub forms_of : List ℕ → List Form
 forms_of text = forms_in (split text).ended
 
 -- "the last is not ended": a line of at least one byte without its byte 10
-abbrev pub unended : ℕ → List ℕ → Option ℕ
+abbrev pub unended : ℕ → List ℕ → Maybe ℕ
 unended line [] = none
 unended line (b ∷ bs) = some line
 
 -- the line where this one is no form, else what the lines after it say
-abbrev pub unknown_or : ℕ → Kind → Option ℕ → Option ℕ
-unknown_or line (Known f) later = later
-unknown_or line Unknown later = some line
+abbrev pub unknown_or : ℕ → Option Form → Maybe ℕ → Maybe ℕ
+unknown_or line (Some f) later = later
+unknown_or line None later = some line
 
 -- rule 3, "Some line is none of the forms above, or the last is not ended (first such line)", for lines from a number on. 02, change 1: it "judges what remains of each
 -- line, and a last line not ended breaks it even if passed over"
-unfoldable pub unreadable : ℕ → List (List ℕ) → List ℕ → Option ℕ
+unfoldable pub unreadable : ℕ → List (List ℕ) → List ℕ → Maybe ℕ
 unreadable line [] tail = unended line tail
 unreadable line (l ∷ ls) tail = pick (passed_over l) (unreadable (suc line) ls tail) (unknown_or line (kind_of (unindented l)) (unreadable (suc line) ls tail))
 
 -- rule 3 of a whole text, "lines from 1"
-unfoldable pub unreadable_line : List ℕ → Option ℕ
+unfoldable pub unreadable_line : List ℕ → Maybe ℕ
 unreadable_line text = unreadable 1 (split text).ended (split text).tail
 
 -- the line that is not passed over and has so many such lines before it, in lines from a number on; where there is none, one more than the last line

@@ -1,9 +1,7 @@
 -- Passing over, at places of a text: what a step leaves, and where it stops. A place may stand within a line, behind spaces of it: what is left of the line there reads
 -- as the whole line does. 02, change 1.
-use Rattle.std.specs.Prelude.{ℕ, ◌+◌, ◌<◌, ◌≤◌, false, List, ◌≡◌, length, take, drop}
+use Rattle.std.specs.Prelude.{ℕ, ◌+◌, ◌<◌, ◌≤◌, false, List, Option, Some, None, ◌≡◌, length, take, drop}
 use Rattle.text.specs.declared.Place.{Place}
-use Rattle.text.specs.declared.Pass.{Pass}
-use Rattle.text.specs.declared.Pass.TheVariants.{Over, Here}
 use Rattle.text.specs.Lines.{line_length, split, unindented, passed_over, forms_in, unreadable, line_for}
 
 -- a place in the line `line`
@@ -29,7 +27,13 @@ rest_of_line text at = take (line_length (drop at text)) (drop at text)
 unfoldable pub Stops : List ℕ → ℕ → Type 0
 Stops text at = at + line_length (drop at text) < length text → (unindented (rest_of_line text at) ≡ rest_of_line text at) × (passed_over (rest_of_line text at) ≡ false)
 
+-- the place q is behind the line at the place p, which is ended
+pub record LineBehind (text : List ℕ) (p q : Place) : Type 0 where
+  pub place : q.at ≡ p.at + line_length (drop p.at text) + 1
+  pub within : q.at ≤ length text
+  pub line : q.line ≡ p.line + 1
+
 -- the cases of one step of passing over: to a later place that is read alike, or none
-abbrev pub PassedOne : List ℕ → Place → Pass → Type 0
-PassedOne text p (Over q) = ReadAlike text p q × (p.at < q.at)
-PassedOne text p Here = Stops text p.at
+unfoldable pub PassedOne : List ℕ → Place → Option Place → Type 0
+PassedOne text p (Some q) = ReadAlike text p q × (p.at < q.at)
+PassedOne text p None = Stops text p.at

@@ -6,7 +6,7 @@ use wiring_text::WIRING_ROOM;
 fn main() {
     let mut out = [0u8; WIRING_ROOM];
     let n = wiring_text::put_wiring(&mut out);
-    if !io::write_all(1, &out[0..n]) {
+    if !io::write_all(1, &out[..n]) {
         io::write_all(2, b"wiring: the table cannot be written\n");
     }
 }

@@ -1,7 +1,7 @@
 // The wiring table as text: a row for each lock, with its number, its bit in a mask and that bit in hexadecimal.
-#![tactic(auto)]
+#![tactic(auto, using(report_lines::proofs::Widths::widths))]
 
-ghost use Rattle.std.specs.Prelude.{◌++◌, ◌≡◌, ◌+◌, ◌≤◌, ◌<◌, ◌^◌, length};
+ghost use Rattle.std.specs.Prelude.{◌++◌, ◌≡◌, ◌+◌, ◌≤◌, ◌<◌, length};
 ghost use Rattle.limits.specs.Limits.{lock_count, mask_size};
 ghost use Rattle.laws.specs.Wrote.{Wrote};
 ghost use Rattle.wiring_text.specs.Wiring.{hex_digits, wiring_row, wiring_table, hex_count, row_room, wiring_room};
@@ -15,7 +15,8 @@ pub const WIRING_ROOM: usize = 43 + LOCK_COUNT * ROW_ROOM;
 
 // A keyword and the eight hexadecimal digits of a number.
 fn put_hex(out: &mut [u8], at: usize, keyword: &[u8], n: u64) -> usize
-    requires { (n < mask_size) × (at + length keyword.now + hex_count ≤ length out.old) }
+    requires small { n < mask_size }
+    requires room { at + length keyword.now + hex_count ≤ length out.old }
     ensures wrote { Wrote out.old out.new at result (keyword.now ++ hex_digits n) }
     ensures value { result ≡ at + length keyword.now + hex_count }
 {
@@ -25,12 +26,13 @@ fn put_hex(out: &mut [u8], at: usize, keyword: &[u8], n: u64) -> usize
     report_lines::put_text(out, i, &digits[..count])
 }
 
-// The row of a lock with this bit: its number, the bit and the bit in hexadecimal.
-fn put_row(out: &mut [u8], at: usize, lock: u64, bit: u64) -> usize
-    requires { (lock < lock_count) × (bit ≡ 2 ^ lock) × (at + row_room ≤ length out.old) }
+// The row of a lock: its number, its bit and the bit in hexadecimal.
+fn put_row(out: &mut [u8], at: usize, lock: u64) -> usize
+    requires { (lock < lock_count) × (at + row_room ≤ length out.old) }
     ensures wrote { Wrote out.old out.new at result (wiring_row lock) }
     ensures upper_bound { result ≤ at + row_room }
 {
+    let bit = locks::lock_bit(lock);
     let i = report_lines::put_numbered(out, at, b"| ", lock);
     let j = report_lines::put_numbered(out, i, b" | ", bit);
     let k = put_hex(out, j, b" | 0x", bit);
@@ -43,10 +45,8 @@ pub fn put_wiring(out: &mut [u8]) -> usize
     ensures { Wrote out.old out.new 0 result wiring_table }
 {
     let mut i = report_lines::put_text(out, 0, b"| lock | bit | hexadecimal |\n|---|---|---|\n");
-    let mut lock: usize = 0;
-    while lock < LOCK_COUNT {
-        i = put_row(out, i, lock as u64, locks::lock_bit(lock as u64));
-        lock += 1;
+    for lock in 0..LOCK_COUNT as u64 {
+        i = put_row(out, i, lock);
     }
     i
 }

@@ -3,8 +3,8 @@ use Rattle.copies.proofs.Copies.{printed_copy_lem, printed-refusal}
 use borrow.Author.Rules.{rules}
 use Rattle.copies.proofs.put_printed.Goals as goal
 
-pub returns-in-Count : goal.returns-in-Count
-returns-in-Count c = search (printed_copy_lem, rules)
+pub returns-in-Ok : goal.returns-in-Ok
+returns-in-Ok c = search (printed_copy_lem, rules)
 
-pub returns-in-Refused : goal.returns-in-Refused
-returns-in-Refused c = search (printed-refusal, rules)
+pub returns-in-Err : goal.returns-in-Err
+returns-in-Err c = search (printed-refusal, rules)

@@ -1,17 +1,11 @@
 -- After k turns the lines of the couples with the first k pairs of the list are written, each within its room; a turn writes the next behind them.
-use Prim.Native.Nat.{◌-◌, ◌*◌, ◌/◌, ◌≤◌}
-use mathlib.Core.Path.{◌≡◌}
-use lib.ListN.{length, take}
-use Rattle.limits.specs.Limits.{max_pair_words}
+use Prim.Native.Nat.{◌*◌, ◌≤◌}
+use lib.ListN.{take}
 use Rattle.laws.specs.Wrote.{Wrote}
 use Rattle.couples.specs.Records.{pairs_from, pair_in}
-use Rattle.couple_lines.specs.CoupleLines.{couples_part, couple_line_room, couples_part_room}
+use Rattle.couple_lines.specs.CoupleLines.{couples_part, couple_line_room}
 use Rattle.couple_lines.proofs.put_couples.Given as goal
 
 abbrev pub invariant-loop-k : goal.invariant-loop-k
 invariant-loop-k l =
-    (length l.others ≤ max_pair_words) × (l.k ≤ length l.others / 3) × (l.i ≤ l.k * couple_line_room) × (couples_part_room ≤ length l.out) × (length l.out ≡ length l.initial.out)
-    × Wrote l.initial.out l.out 0 l.i (couples_part (take l.k (pairs_from l.others)) (pair_in l.v))
-
-abbrev pub decreases-loop-k : goal.decreases-loop-k
-decreases-loop-k l = length l.others / 3 - l.k
+    (l.i ≤ l.k * couple_line_room) × Wrote l.initial.out l.out 0 l.i (couples_part (take l.k (pairs_from l.others)) (pair_in l.v))

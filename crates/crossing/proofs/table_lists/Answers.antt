@@ -6,11 +6,11 @@ use Rattle.crossing.proofs.table_lists.Goals as goal
 pub returns-then-are_no_two : goal.returns-then-are_no_two
 returns-then-are_no_two c = search (lists_refused, rules)
 
-pub thread_pairs-m-requires : goal.thread_pairs-m-requires
-thread_pairs-m-requires c = search (first-there, rules)
+pub thread_pairs-requires : goal.thread_pairs-requires
+thread_pairs-requires c = search (first-there, rules)
 
-pub thread_pairs-n-requires : goal.thread_pairs-n-requires
-thread_pairs-n-requires c = search (second-there, rules)
+pub thread_pairs-requires-2 : goal.thread_pairs-requires-2
+thread_pairs-requires-2 c = search (second-there, rules)
 
 pub returns : goal.returns
 returns c = search (lists_found, rules)

@@ -1,5 +1,5 @@
--- A turn prints the next part, which lies within the buffer; the buffer keeps its length. The loop ends behind the last part.
-use Prim.Native.Nat.{◌+◌, ◌*◌, ◌/◌, ◌-◌, ◌≤◌}
+-- A turn prints the next part, which lies within the buffer; the buffer keeps its length.
+use Prim.Native.Nat.{◌*◌, ◌≤◌}
 use mathlib.Core.Path.{◌≡◌}
 use lib.ListN.{length}
 use Rattle.couples.specs.Records.{pairs_from}
@@ -9,7 +9,4 @@ use Rattle.crossing_streams.proofs.print_couple_parts.Given as goal
 
 abbrev pub invariant-loop-k : goal.invariant-loop-k
 invariant-loop-k l =
-    (l.k ≤ length l.one / 3 + 2) × (length l.out ≡ length l.initial.out) × (l.bytes ≤ l.k * couples_part_room) × PrintedTo (couples_parts l.first l.second (pairs_from l.one) (pairs_from l.two)) l.k l.bytes
-
-abbrev pub decreases-loop-k : goal.decreases-loop-k
-decreases-loop-k l = length l.one / 3 + 2 - l.k
+    (length l.out ≡ length l.initial.out) × (l.bytes ≤ l.k * couples_part_room) × PrintedTo (couples_parts l.first l.second (pairs_from l.one) (pairs_from l.two)) l.k l.bytes

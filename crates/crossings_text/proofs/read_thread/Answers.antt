@@ -2,20 +2,21 @@
 use borrow.Author.Rules.{rules}
 use Rattle.laws.proofs.Folds.{fold_again}
 use Rattle.crossings_text.specs.Request.{asked_number}
-use Rattle.crossings_text.proofs.Numbers.{digit-passed, below-digits, above-digits, number-done}
+use Rattle.crossings_text.proofs.Numbers.{digit-passed, no-digit, number-done, no_number}
 use Rattle.crossings_text.proofs.read_thread.Goals as goal
-use Rattle.crossings_text.proofs.read_thread.Goals.{then-b-lt48-via-then-b-lt48, then-b-lt48-via-else-b-lt48+then-b-gt57}
 
-pub loop-i-init : goal.loop-i-init
+pub returns-then-is_empty : goal.returns-then-is_empty
+returns-then-is_empty c = search (no_number, rules)
+
+pub loop-b-init : goal.loop-b-init
 unfolding asked_number
-loop-i-init c = search rules
+loop-b-init c = search rules
 
-pub returns-then-b-lt48 : goal.returns-then-b-lt48
-returns-then-b-lt48 c =
-    elim c.then-b-lt48.branch [ then-b-lt48-via-then-b-lt48 w ↦ search (below-digits, rules) | then-b-lt48-via-else-b-lt48+then-b-gt57 w ↦ search (above-digits, rules) ]
+pub returns-then-not-is_ascii_digit : goal.returns-then-not-is_ascii_digit
+returns-then-not-is_ascii_digit c = search (no-digit, rules)
 
-pub loop-i-preserved : goal.loop-i-preserved
-loop-i-preserved c = search (digit-passed, fold_again, rules)
+pub loop-b-preserved : goal.loop-b-preserved
+loop-b-preserved c = search (digit-passed, fold_again, rules)
 
 pub returns : goal.returns
 returns c = search (number-done, rules)

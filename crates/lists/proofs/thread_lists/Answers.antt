@@ -6,8 +6,8 @@ use Rattle.lists.proofs.thread_lists.Goals as goal
 pub loop-t-init : goal.loop-t-init
 loop-t-init c = search (filling_none, rules)
 
-pub bounds-runs-t : goal.bounds-runs-t
-bounds-runs-t c = search (thread-there, rules)
+pub bounds-layout-t : goal.bounds-layout-t
+bounds-layout-t c = search (thread-there, rules)
 
 pub overflow_mul-t : goal.overflow_mul-t
 overflow_mul-t c = search (list-fits, rules)

@@ -5,4 +5,4 @@ use Rattle.locks.proofs.Powers.{power_at}
 use Rattle.locks.proofs.lock_bit.Goals as goal
 
 pub returns : goal.returns
-returns c = c.widen.ensures ∙ search (power_at, rules)
+returns c = c.from.ensures ∙ search (power_at, rules)

@@ -1,16 +1,9 @@
--- The form that the rule names among the forms that are left is the one that it names among all.
-use borrow.Author.Rules.{rules}
-use Rattle.plan.proofs.Passes.{rule-first, rule-again, rule-broken, rule-kept}
+-- The first form that breaks the rule is the one that it names.
+use Rattle.plan.proofs.Passes.{breaking_found, breaking_none}
 use Rattle.plan.proofs.check_numbers.Goals as goal
 
-pub loop-i-init : goal.loop-i-init
-loop-i-init c = search (rule-first, rules)
+pub returns-in-Some : goal.returns-in-Some
+returns-in-Some c = breaking_found _ _ _ _ c.requires.1 _ c.in-Some.ensures
 
-pub returns-then-breaks_rule : goal.returns-then-breaks_rule
-returns-then-breaks_rule c = search (rule-broken, rules)
-
-pub loop-i-preserved : goal.loop-i-preserved
-loop-i-preserved c = search (rule-again, rules)
-
-pub returns : goal.returns
-returns c = search (rule-kept, rules)
+pub returns-in-None : goal.returns-in-None
+returns-in-None c = breaking_none _ _ _ _ c.requires.1 c.in-None.ensures

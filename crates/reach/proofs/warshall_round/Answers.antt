@@ -1,10 +1,9 @@
--- The entries before p are joined as the definition joins them.
-use borrow.Author.Rules.{rules}
-use Rattle.reach.proofs.Rounds.{joins_made, all_joins}
+-- Each entry is joined as the definition joins it.
+use Rattle.std.proofs.Common.{rules, get_or}
+use Rattle.semantics.specs.CallMasks.{join_through, warshall_round}
+use Rattle.reach.proofs.Maps.{mapped}
 use Rattle.reach.proofs.warshall_round.Goals as goal
 
-pub loop-p-preserved : goal.loop-p-preserved
-loop-p-preserved c = (search rules, search rules, search rules, search rules, search rules, search rules, search (joins_made, rules))
-
 pub returns : goal.returns
-returns c = search (all_joins, rules)
+unfolding warshall_round
+returns c = mapped _ (join_through c.args.k (get_or c.args.masks.now c.args.k 0)) _ (λ x y q k. search rules) _ _ 0 _ (search rules) c.map.ensures.items

@@ -1,19 +1,15 @@
--- After k turns the lines of the first k entries are written, each within its room; a turn writes the next line behind them.
+-- The lines of the entries so far are written, each within its room.
 use borrow.Author.Rules.{rules}
-use Rattle.report_lines.proofs.Joined.{step-short, joined-none, joined-room, joined-more, joined-done, joined-within}
+use native.Mathlib.Omega.{arith}
+use lib.ListN.{drop_of_length-le}
+use Rattle.report_lines.proofs.Widths.{step-short}
+use Rattle.report_lines.proofs.Listings.{listing_step, listing_done}
 use Rattle.report_lines.proofs.put_steps.Goals as goal
 
-pub loop-k-init : goal.loop-k-init
-loop-k-init c = search (joined-none, rules)
+pub loop-entry-preserved : goal.loop-entry-preserved
+loop-entry-preserved c =
+    let short = step-short _ (c.type_inv.entries c.loop-entry.entry-index).fits in
+    search (listing_step, rules)
 
-pub put_step-i-requires : goal.put_step-i-requires
-put_step-i-requires c = search (joined-room, rules)
-
-pub loop-k-preserved : goal.loop-k-preserved
-loop-k-preserved c =
-    let b = c in
-    let short = step-short _ (b.shared_slice_known-in-loop-k-1.given b.loop-k.k) in
-    search (joined-more, short, rules)
-
-pub returns : goal.returns
-returns c = search (joined-done, joined-within, rules)
+pub returns-clause-wrote : goal.returns-clause-wrote
+returns-clause-wrote c = listing_done _ _ _ _ _ _ _ (drop_of_length-le c.args.entries.now (omega arith)) c.loop-entry.invariant.2

@@ -1,5 +1,5 @@
 -- After t turns the lines of the threads below t are written, each within its room; a turn writes the next line behind them.
-use Rattle.space.proofs.Lines.{lines_none, lines_more, lines-done}
+use Rattle.space.proofs.Lines.{lines_none, lines_more}
 use borrow.Author.Rules.{rules}
 use Rattle.space.proofs.put_sizes.Goals as goal
 
@@ -8,6 +8,3 @@ loop-t-init c = search (lines_none, rules)
 
 pub loop-t-preserved : goal.loop-t-preserved
 loop-t-preserved c = search (lines_more, rules)
-
-pub returns : goal.returns
-returns c = search (lines-done, rules)

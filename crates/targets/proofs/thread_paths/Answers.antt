@@ -1,16 +1,16 @@
--- The first i members of the cycle are done.
+-- The first members of the cycle are done.
 use borrow.Author.Rules.{rules}
-use Rattle.targets.proofs.Members.{asked-target, done_none, done_more, prepared}
+use Rattle.targets.proofs.Members.{asked-next, done_none, done-next, prepared}
 use Rattle.targets.proofs.thread_paths.Goals as goal
 
-pub loop-i-init : goal.loop-i-init
-loop-i-init c = search (done_none, rules)
+pub loop-c-init : goal.loop-c-init
+loop-c-init c = search (done_none, rules)
 
-pub put_member-targets-requires : goal.put_member-targets-requires
-put_member-targets-requires c = search (asked-target, rules)
+pub put_member-requires : goal.put_member-requires
+put_member-requires c = search (asked-next, rules)
 
-pub loop-i-preserved : goal.loop-i-preserved
-loop-i-preserved c = (search rules, search rules, search rules, search rules, search rules, search rules, search (done_more, rules))
+pub loop-c-preserved : goal.loop-c-preserved
+loop-c-preserved c = search (done-next, rules)
 
 pub returns : goal.returns
-returns c = search (prepared, rules)
+returns c = prepared _ _ c.args.layout _ _ c.requires.0 _ _ _ _ c.loop-c.auto.c-index-end c.loop-c-test.false (search rules) (search rules) c.loop-c.invariant

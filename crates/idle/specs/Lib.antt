@@ -1,2 +1,0 @@
--- What is asked of the masks of procedures.
-pub mod Runs
