@@ -13,10 +13,10 @@ use text::Form;
 
 // How far a writer has come: the place of the next form in the table, how many bytes it wrote, and whether the block around them is left behind them.
 #[derive(Clone, Copy)]
-struct Progress {
-    next: usize,
-    used: usize,
-    closed: bool,
+pub struct Progress {
+    pub next: usize,
+    pub used: usize,
+    pub closed: bool,
 }
 
 // A keyword, a number and the rest of the line.

@@ -82,16 +82,13 @@ fn read_file(rt: &impl Files, path: &[u8], buffer: &mut [u8]) -> usize
     }
 }
 
-// A line of the index: the file's name, a blank, and what the plan is.
+// A line of the index: the file's name, a blank, and what the plan is. The last byte of a line is no part of the name.
 fn show_case(rt: &impl Files, line: &[u8], buffer: &mut [u8], list: &mut [u64], out: &mut [u16]) {
-    if line.len() == 0 {
+    let Some((_, front)) = line.split_last() else {
         return;
-    }
+    };
     io::write_all(1, line);
-    let name = line
-        .split(|b| *b == b' ' || *b == b'\n')
-        .next()
-        .unwrap_or(line);
+    let name = front.split(|b| *b == b' ').next().unwrap_or(front);
     let n = read_file(rt, name, buffer);
     show_plan(&buffer[..n], list, out);
 }

@@ -25,19 +25,19 @@ struct Task<'a> {
 
 // Where a walk goes on: the place of the table, and how many steps are written.
 #[derive(Clone, Copy)]
-struct Spot {
-    next: usize,
-    count: usize,
+pub struct Spot {
+    pub next: usize,
+    pub count: usize,
 }
 
 // Where a walk stopped: it broke off at the hold that was looked for, with so many steps written, or it goes on.
-type Stop = ControlFlow<usize, Spot>;
+pub type Stop = ControlFlow<usize, Spot>;
 
 // How a walk goes: how deep calls may go, and what is had.
 #[derive(Clone, Copy)]
-struct Way {
-    depth: usize,
-    mask: u64,
+pub struct Way {
+    pub depth: usize,
+    pub mask: u64,
 }
 
 // What a path leads to: the procedure, and the mask and the code of one of its pairs.

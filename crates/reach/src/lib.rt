@@ -1,7 +1,7 @@
 // What each procedure of a plan reaches through calls, as a mask of procedures for each, and rule 12: a procedure that reaches itself.
 #![tactic(auto)]
 
-ghost use Rattle.std.specs.Prelude.{◌≡◌, map, ◌<◌};
+ghost use Rattle.std.specs.Prelude.{◌≡◌, map, ◌≤◌, ◌<◌, length, take};
 ghost use Rattle.limits.specs.Limits.{max_procs};
 ghost use Rattle.laws.specs.Mask.{in_mask};
 ghost use Rattle.semantics.specs.CallMasks.{join_through, warshall_round};
@@ -54,11 +54,16 @@ fn calls_from(table: &[u64], place: usize) -> u64
         .fold(0, |mask, &code| mask | called_by(plan::form_at(code)))
 }
 
-// For each procedure those that it calls.
-fn call_masks(table: &[u64], starts: [u64; MAX_PROCS]) -> [u64; MAX_PROCS]
-    ensures { result ≡ map (calls_from table.now) starts }
+// For each procedure those that it calls, by where the procedures begin.
+fn call_masks(table: &[u64], starts: &[u64]) -> [u64; MAX_PROCS]
+    requires { length starts.now ≤ max_procs }
+    ensures { take (length starts.now) result ≡ map (calls_from table.now) starts.now }
 {
-    starts.map(|start| calls_from(table, start as usize))
+    let mut masks = [0; MAX_PROCS];
+    for (p, &start) in starts.iter().enumerate() {
+        masks[p] = calls_from(table, start as usize);
+    }
+    masks
 }
 
 // A mask with `reached`, the mask of procedure k, joined to it if it has k.
@@ -75,12 +80,14 @@ fn join_through(k: usize, reached: u64, mask: u64) -> u64
 }
 
 // A round of Warshall's algorithm: what procedure k reaches is joined to what each procedure that reaches k reaches.
-fn warshall_round(masks: &[u64; MAX_PROCS], k: usize) -> [u64; MAX_PROCS]
-    requires { k < max_procs }
-    ensures { result ≡ warshall_round k masks.now }
+fn warshall_round(masks: &mut [u64], k: usize)
+    requires { (k < max_procs) × (k < length masks.old) }
+    ensures { masks.new ≡ warshall_round k masks.old }
 {
     let reached = masks[k];
-    masks.map(|mask| join_through(k, reached, mask))
+    for mask in masks.iter_mut() {
+        *mask = join_through(k, reached, *mask);
+    }
 }
 
 // For each procedure those that it reaches: one procedure after another is let between.
@@ -89,9 +96,9 @@ pub fn reach_masks(table: &[u64], layout: Layout) -> [u64; MAX_PROCS]
     requires { PlanTable table.now × Laid table.now layout }
     ensures { ReachTable table.now result }
 {
-    let mut masks = call_masks(table, layout.starts);
+    let mut masks = call_masks(table, &layout.starts[..layout.procs]);
     for k in 0..layout.procs {
-        masks = warshall_round(&masks, k);
+        warshall_round(&mut masks[..layout.procs], k);
     }
     masks
 }

@@ -2,7 +2,7 @@
 #![tactic(auto)]
 
 pub mod gateway;
-mod lines;
+pub mod lines;
 pub mod printed;
 pub mod sizes;
 mod steps;

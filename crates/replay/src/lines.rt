@@ -1,5 +1,5 @@
 // The lines of an accepted plan text. A place is the byte at which a line starts, before its spaces; the text's length is the place behind the last line.
-ghost use Rattle.std.specs.Prelude.{◌-◌, ◌<◌, ◌≤◌, length};
+ghost use Rattle.std.specs.Prelude.{◌+◌, ◌-◌, ◌<◌, ◌≤◌, length};
 ghost use Rattle.std.specs.Iterator.{at_most};
 
 // How a lock is taken.
@@ -60,15 +60,23 @@ pub fn line_at(text: &[u8], at: usize) -> Line {
     }
 }
 
-// The place behind a line.
-fn next_line(text: &[u8], at: usize) -> usize
+// The place behind the next such byte, or the text's end.
+pub fn after(text: &[u8], at: usize, byte: u8) -> usize
     requires { at < length text.now }
     ensures { (at < result) × (result ≤ length text.now) }
 {
-    match text[at..].iter().position(|b| *b == b'\n') {
+    match text[at..].iter().position(|b| *b == byte) {
         Some(n) => at + n + 1,
         None => text.len(),
     }
+}
+
+// The place behind a line.
+pub fn next_line(text: &[u8], at: usize) -> usize
+    requires { at < length text.now }
+    ensures { (at < result) × (result ≤ length text.now) }
+{
+    after(text, at, b'\n')
 }
 
 // The places of the lines from a place on.
@@ -119,10 +127,13 @@ fn append(n: usize, b: u8) -> usize {
 
 // The number in a line.
 pub fn number(text: &[u8], at: usize) -> usize {
-    text.iter()
-        .skip(at)
-        .take_while(|b| **b != b'\n')
-        .fold(0, |n, b| append(n, *b))
+    match text.get(at..) {
+        None => 0,
+        Some(rest) => rest
+            .iter()
+            .take_while(|b| **b != b'\n')
+            .fold(0, |n, b| append(n, *b)),
+    }
 }
 
 // The place of such a line before which k others are.
@@ -138,7 +149,9 @@ pub fn body(text: &[u8], proc: usize) -> usize {
 }
 
 // How many brackets are open behind a line.
-fn nested(depth: usize, line: Line) -> usize {
+fn nested(depth: usize, line: Line) -> usize
+    ensures { result ≤ depth + 1 }
+{
     match line {
         Line::Close => depth.saturating_sub(1),
         Line::PassedOver | Line::Skip | Line::Call | Line::Thread => depth,

@@ -6,11 +6,13 @@ use mathlib.Core.Path.{◌≡◌, refl, sym, ap, ◌∙◌}
 use mathlib.Core.List.Memᴰ
 use mathlib.Core.List.{List, [], ◌∷◌, ◌++◌, Memᴰ, foldl}
 use mathlib.Core.Logic.{⊎_elim}
-use lib.ListN.{length, get_or, length-append, get_or-append}
+use lib.ListN.{length, get_or, set, length-append, get_or-append}
 use borrow.Author.Tests.{lt-ltb, le-ltb}
 use Rattle.std.specs.Fmt.{decimal}
 use Rattle.std.proofs.lemmas.Fmt.{decimal_digit, decimal_step}
+use Rattle.laws.specs.Wrote.{Wrote}
 use Rattle.laws.proofs.Tests.{lt_or_le}
+use Rattle.laws.proofs.Wrote.{wrote_none, wrote_one, wrote-more, wrote-length}
 use Rattle.report_lines.specs.Lines.{digits_in, digits}
 
 turns : (j k n : ℕ) → n < j → n < k → digits_in j n ≡ digits_in k n
@@ -78,6 +80,26 @@ number_short n h = digits-short 19 n (omega arith)
 
 pub byte_short : (n : ℕ) → n < 2 ^ 8 → length (digits n) ≤ 3
 byte_short n h = digits-short 2 n (omega arith)
+
+-- ---- a buffer where one digit is written, or two
+
+pub first-room : (l : List ℕ) (at n : ℕ) → at + length (digits n) ≤ length l → at < length l
+first-room l at n h = let s = digits-some n in omega arith
+
+pub put_one : (l : List ℕ) (at n : ℕ) → at < length l → n < 10 → Wrote l (set l at (48 + n)) at (at + 1) (digits n)
+put_one l at n room h = rw (digits-one n h) (wrote_one l l at at [] (48 + n) room (wrote_none l at (omega arith)))
+
+module _ (l l₁ : List ℕ) (at i n : ℕ) (h : 10 ≤ n) (v : Wrote l l₁ at i (digits (n / 10))) where
+  both : digits n ≡ digits (n / 10) ++ digits (n % 10)
+  both = digits_more n h ∙ ap (λ l. digits (n / 10) ++ l) (sym (digits-one (n % 10) (omega arith)))
+
+  pub second-room : at + length (digits n) ≤ length l → i < length l₁
+  second-room room =
+      let s = digits-some (n % 10) in
+      omega (arith, ap length both, length-append (digits (n / 10)) (digits (n % 10)), v.place, wrote-length l l₁ at i _ v)
+
+  pub put_two : (l₂ : List ℕ) (r : ℕ) → Wrote l₁ l₂ i r (digits (n % 10)) → Wrote l l₂ at r (digits n)
+  put_two l₂ r w = rw both (wrote-more l l₁ l₂ at i r (digits (n / 10)) (digits (n % 10)) v w)
 
 -- ---- they are those that std prints of a machine number
 

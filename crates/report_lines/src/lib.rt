@@ -20,22 +20,50 @@ use limits::LOCK_COUNT;
 pub const PAIR_FORM_ROOM: usize = 6 + 2 + 1 + LOCK_COUNT * 7 + 1;
 
 // A text as it is.
+// Kept: byte by byte. `copy_from_slice` calls `memmove`, and the library for C is to need no more than `memcpy` and `memset` from outside.
 pub fn put_text(out: &mut [u8], at: usize, text: &[u8]) -> usize
     requires { at + length text.now ≤ length out.old }
     ensures { Wrote out.old out.new at result text.now }
 {
-    let end = at + text.len();
-    out[at..end].copy_from_slice(text);
-    end
+    for (i, &byte) in text.iter().enumerate() {
+        out[at + i] = byte;
+    }
+    at + text.len()
 }
 
-// The digits of a number.
-fn put_digits(out: &mut [u8], at: usize, n: u64) -> usize
+// One digit.
+fn put_digit(out: &mut [u8], at: usize, digit: u64) -> usize
+    requires { (digit < 10) × (at < length out.old) }
+    ensures { Wrote out.old out.new at result (digits digit) }
+{
+    out[at] = b'0' + digit as u8;
+    at + 1
+}
+
+// The digits of a number, by way of a buffer.
+// It is not put into its callers, so that a short number is written without one.
+#[inline(never)]
+fn put_long(out: &mut [u8], at: usize, n: u64) -> usize
     requires { at + length (digits n) ≤ length out.old }
     ensures { Wrote out.old out.new at result (digits n) }
 {
     let mut buffer = Buffer::new();
     put_text(out, at, buffer.format(n).as_bytes())
+}
+
+// The digits of a number: one or two, as most numbers have, are written where they stand.
+fn put_digits(out: &mut [u8], at: usize, n: u64) -> usize
+    requires { at + length (digits n) ≤ length out.old }
+    ensures { Wrote out.old out.new at result (digits n) }
+{
+    if n < 10 {
+        return put_digit(out, at, n);
+    }
+    if n < 100 {
+        let i = put_digit(out, at, n / 10);
+        return put_digit(out, i, n % 10);
+    }
+    put_long(out, at, n)
 }
 
 // A keyword and a number.

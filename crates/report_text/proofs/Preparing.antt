@@ -24,7 +24,7 @@ use Rattle.answers.proofs.Schedules.{as-long, start-taken}
 use Rattle.report_text.specs.Tables.{verdict_in, Prepared, ProcTables}
 
 -- "The program lends enough, so it never meets rule 1."
-pub entries-enough : (ws entries : List ℕ) → RulesKept ws → max_entries ≡ length entries → thread_sizes (table_plan ws) ≤ length entries
+pub entries-enough : (ws entries : List ℕ) → RulesKept ws → max_entries ≤ length entries → thread_sizes (table_plan ws) ≤ length entries
 entries-enough ws entries w h = omega (arith, sum-within (table_forms ws) w.plan.settled w.sizes)
 
 found-judged : (ws before after : List ℕ) (v : Verdict) → TableJudged ws before v after → Judgement none (table_plan ws) (Ok v) (schedule_in (Ok v) after)

@@ -1,6 +1,6 @@
 -- The verdict from the plan's rules, rule 1 and the finding over the plan's table, for entries and for bytes. A buffer of bytes has its whole entries, of which no schedule needs
 -- more than MAX_ENTRIES (`same-lent`).
-use Prim.Native.Nat.{ℕ, ◌-◌, ◌*◌, ◌/◌, ◌^◌, ◌<◌, ◌≤◌, min}
+use Prim.Native.Nat.{ℕ, ◌*◌, ◌/◌, ◌^◌, ◌<◌, ◌≤◌, min}
 use native.Mathlib.Omega.{arith}
 use mathlib.Core.Path.{◌≡◌, refl, sym, ap, ◌∙◌}
 use mathlib.Core.List.{List, []}
@@ -66,6 +66,13 @@ small text lent (Ok Free) es j h = omega arith
 small text lent (Ok (Deadlock n S)) es j h = omega (arith, j.1)
 small text lent (Err x) es j h = (verdict_bounded text lent x j.0).line
 
+-- only a deadlock has a schedule
+no_schedule : (refused : Option Refusal) (plan : LockPlan) (v : Result Verdict Refusal) (es : List ℕ) → Judgement refused plan v es → ((n S : ℕ) → v ≡ Ok (Deadlock n S) → ⊥) → es ≡ []
+unfolding Judgement
+no_schedule refused plan (Ok Free) es j h = j.1
+no_schedule refused plan (Ok (Deadlock n S)) es j h = absurd (h n S refl)
+no_schedule refused plan (Err x) es j h = j.1
+
 -- more than MAX_ENTRIES are never needed
 lent_by : (plan : LockPlan) (lent : ℕ) → thread_sizes plan ≤ max_entries → too_few_entries plan (min lent max_entries) ≡ too_few_entries plan lent
 unfolding too_few_entries
@@ -94,6 +101,16 @@ module _ (text before entries entries' : List ℕ) (r : Result Verdict Refusal) 
   -- what the rules say by the entries, they say by the bytes
   judged-lent : Judgement (verdict_refusal text (length before / 2)) (plan_of text) r d.schedule
   judged-lent = rw (ap (verdict_refusal text) l ∙ same-lent text (length before / 2)) at d.judged
+
+  pub bytes-kept : (v : ℕ) → ((n S : ℕ) → r ≡ Ok (Deadlock n S) → ⊥) → v ≡ verdict_number r → JudgedBytes text before v before
+  unfolding list_bytes
+  bytes-kept v o k = record {
+    verdict = r;
+    schedule = d.schedule;
+    number = k;
+    judged = judged-lent;
+    buffer = rw (no_schedule _ _ r d.schedule d.judged o);
+  }
 
   -- the schedule's part of the entries
   module _ (n : ℕ) (g : n ≡ schedule_length r) where

@@ -1,8 +1,11 @@
--- Each entry is what the procedure there calls.
-use Rattle.std.proofs.Common.{rules}
-use Rattle.reach.specs.Passes.{calls_from}
-use Rattle.reach.proofs.Maps.{mapped}
+-- The entries before p are what the first p procedures call.
+use borrow.Author.Rules.{rules}
+use Rattle.laws.proofs.Writes.{map_made}
+use Rattle.reach.proofs.Rounds.{calls-all}
 use Rattle.reach.proofs.call_masks.Goals as goal
 
+pub loop-p-preserved : goal.loop-p-preserved
+loop-p-preserved c = search (map_made, rules)
+
 pub returns : goal.returns
-returns c = mapped _ (calls_from c.args.table.now) _ (λ x y q k. search rules) _ _ 0 _ (search rules) c.map.ensures.items
+returns c = search (calls-all, rules)

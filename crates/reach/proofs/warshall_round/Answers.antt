@@ -1,9 +1,13 @@
--- Each entry is joined as the definition joins it.
-use Rattle.std.proofs.Common.{rules, get_or}
-use Rattle.semantics.specs.CallMasks.{join_through, warshall_round}
-use Rattle.reach.proofs.Maps.{mapped}
+-- The masks before the index are joined as the definition joins them, and the others are as they were.
+use borrow.Author.Rules.{rules}
+use Rattle.std.proofs.lemmas.List.{take_all, drop_all}
+use Rattle.semantics.specs.CallMasks.{warshall_round}
+use Rattle.reach.proofs.Rounds.{joins-more}
 use Rattle.reach.proofs.warshall_round.Goals as goal
+
+pub loop-mask-preserved : goal.loop-mask-preserved
+loop-mask-preserved c = search (joins-more, rules)
 
 pub returns : goal.returns
 unfolding warshall_round
-returns c = mapped _ (join_through c.args.k (get_or c.args.masks.now c.args.k 0)) _ (λ x y q k. search rules) _ _ 0 _ (search rules) c.map.ensures.items
+returns c = search (take_all, drop_all, rules)
