@@ -26,6 +26,8 @@ pub struct CheckedText {
 }
 
 // Rules 4 to 8 over a table of forms, with a stack of its own for the blocks that are open.
+// It is not put into its caller, so that the stack is gone where the other rules are asked.
+#[inline(never)]
 fn check_grammar(table: &[u64]) -> Result<usize, Refusal>
     requires { length table.now ≤ max_forms }
     ensures { result ≡ reading_of (grammar_refusal (table_forms table.now)) (length table.now) }
@@ -35,6 +37,8 @@ fn check_grammar(table: &[u64]) -> Result<usize, Refusal>
 }
 
 // Rules 12, 13 and 9 over the table of a plan, and the space that a schedule needs.
+// It is not put into its caller, so that its masks are gone where the rules before are asked.
+#[inline(never)]
 #[tactic(auto, using(procs::proofs::Answered::in_order, crate::proofs::Checked::kept_ranks))]
 fn check_procs(table: &[u64], layout: Layout) -> Result<Space, Refusal>
     requires { PlanTable table.now × Laid table.now layout }
